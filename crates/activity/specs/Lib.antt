@@ -1,0 +1,2 @@
+-- What an activity must satisfy.
+pub mod Rules

@@ -1,0 +1,18 @@
+// The two kinds of time, in whole microseconds. Adding the start time Ψ is the only way from one to the other.
+ghost use mathlib.Core.Path.{_≡_};
+ghost use Prim.Native.Nat.{_≤_, _<_};
+ghost use Rattle.time.specs.Time.{toClock, horizon};
+
+// Specified time: counts from zero.
+pub struct Specified(pub u64);
+
+// Clock time: what the host's counter shows.
+pub struct Clock(pub u64);
+
+// The clock time of a specified time, for a run that starts at Ψ.
+pub fn to_clock(psi: Clock, at: Specified) -> Clock
+    requires { ⌜ (psi .0 ≤ horizon) × (at .0 ≤ horizon) ⌝ }
+    ensures { λ r. ⌜ r ≡ toClock psi at ⌝ }
+{
+    Clock(psi.0 + at.0)
+}
