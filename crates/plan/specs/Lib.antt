@@ -1,4 +1,12 @@
--- The plan: its parts as lists, its limits, and the number of each refusal.
+-- The plan: its parts as lists, its limits, reading it from bytes, and the number of each refusal.
 pub mod Plan
 pub mod Limits
 pub mod Fault
+pub mod Fields
+pub mod Nodes
+pub mod Sections
+pub mod Moves
+pub mod Reading
+pub mod Encoding
+pub mod Spare
+pub mod Example

@@ -1,5 +1,6 @@
 // The plan of a behaviour, as document 01's section "The plan file" describes it: types alone.
 // Slots past a count are spare room: zeros where the engine makes them, and never read.
+pub mod fields;
 
 // Which of the four kinds a node is, with the numbers that it names.
 pub enum Kind {
@@ -109,4 +110,10 @@ pub enum Fault {
 pub enum Verdict {
     Accepted,
     Refused(Fault, usize),
+}
+
+// A plan as its bytes give it: accepted, or refused with the first faulty field; a refused plan is all zeros.
+pub struct PlanRead {
+    pub verdict: Verdict,
+    pub plan: Plan,
 }

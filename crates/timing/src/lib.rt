@@ -39,3 +39,11 @@ pub struct Schedule {
     pub order: [u8; 64],
     pub count: u8,
 }
+
+// One transition: the times of its nodes and where the behaviour stands after it.
+pub struct Advanced {
+    // a completion or an availability above 10^15, or a position above 1,000,000,000 (number 44)
+    pub beyond: bool,
+    pub schedule: Schedule,
+    pub progress: Progress,
+}

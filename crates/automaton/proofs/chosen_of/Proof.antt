@@ -1,0 +1,92 @@
+-- `chosen_of` goes by the first transition that carries the event and the outcome: the transition taken is what the transitions from i on say.
+use mathlib.Core.Path.{_≡_, refl, sym, ap, _∙_}
+use mathlib.Core.List.{List}
+use Prim.Native.Nat.{ℕ, _+_, _-_, _≤_}
+use native.Mathlib.Omega.{arith}
+use Rattle.plan.specs.declared.Transition.{Transition}
+use Rattle.plan.specs.Plan.{pastMove}
+use Rattle.lists.specs.Parts.{part}
+use Rattle.automaton.specs.Next.{chosenFrom, chosenOf}
+use Rattle.automaton.proofs.Scan.{rest, rest-all, chosen-here, chosen-other, chosen-past, chosen-none}
+use borrow.Author.Needs.{needs}
+use Rattle.automaton.proofs.chosen_of.Statement.{statement}
+use Rattle.automaton.proofs.chosen_of.Tie as tie
+
+abbrev Inv-loop : tie.InvT-loop
+Inv-loop s e o a count i₀ i = (i ≤ count) × (count ≤ 256) × (chosenOf a s e o ≡ chosenFrom (rest (a .moves) i count) s e o i)
+
+abbrev μ-loop : tie.MeasureT-loop
+μ-loop s e o a count i₀ i = count - i
+
+long-requires : tie.Need-long-requires Inv-loop μ-loop
+long-requires c κs = search needs
+
+loop-holds : tie.Need-loop-holds Inv-loop μ-loop
+loop-holds c =
+    let x = c .before .args in
+    (omega arith, omega (arith, c .long .ensures), ap (λ (ts : List Transition). chosenFrom ts (x .s) (x .e) (x .o) 0) (ap (part pastMove (x .t1 .moves) 0) (sym (c .long .ensures)) ∙ rest-all (x .t1 .moves) (c .long .result)))
+
+mul-t : tie.Need-mul-t Inv-loop μ-loop
+mul-t c = search needs
+
+element-copy-out-t : tie.Need-element-copy-out-t Inv-loop μ-loop
+element-copy-out-t c = search needs
+
+add-i : tie.Need-add-i Inv-loop μ-loop
+add-i c = search needs
+
+loop-less : tie.Need-loop-less Inv-loop μ-loop
+loop-less c = search needs
+
+loop-again : tie.Need-loop-again Inv-loop μ-loop
+loop-again c =
+    let b = c .before .before .before .before in
+    let x = b .before .before .args in
+    (omega arith, omega arith, b .loop .inv .2 ∙ chosen-other (x .t1 .moves) (x .s) (b .loop .i) (b .before .long .result) (x .e) (x .o) (omega arith) (c .if1 .taken))
+
+carries-requires : tie.Need-carries-requires Inv-loop μ-loop
+carries-requires c κs = search needs
+
+cast-t18 : tie.Need-cast-t18 Inv-loop μ-loop
+cast-t18 c = search needs
+
+returns : tie.Need-returns Inv-loop μ-loop
+returns c =
+    let b = c .before .before .before .before .before .before in
+    let x = b .before .before .args in
+    sym (b .loop .inv .2 ∙ chosen-here (x .t1 .moves) (x .s) (b .loop .i) (b .before .long .result) (x .e) (x .o) (omega arith) (c .before .before .if1 .left) (sym (c .before .carries .ensures) ∙ c .if2 .taken))
+
+loop-less-2 : tie.Need-loop-less-2 Inv-loop μ-loop
+loop-less-2 c = search needs
+
+loop-again-2 : tie.Need-loop-again-2 Inv-loop μ-loop
+loop-again-2 c =
+    let b = c .before .before .before .before .before .before in
+    let x = b .before .before .args in
+    (omega arith, omega arith, b .loop .inv .2 ∙ chosen-past (x .t1 .moves) (x .s) (b .loop .i) (b .before .long .result) (x .e) (x .o) (omega arith) (c .before .before .if1 .left) (sym (c .before .carries .ensures) ∙ c .if2 .left))
+
+returns-2 : tie.Need-returns-2 Inv-loop μ-loop
+returns-2 c =
+    let b = c .before in
+    let x = b .before .before .args in
+    sym (b .loop .inv .2 ∙ chosen-none (x .t1 .moves) (x .s) (b .loop .i) (b .before .long .result) (x .e) (x .o) (λ l. omega arith))
+
+pub chosen-of-spec : {M : Type 1} → statement M
+chosen-of-spec =
+    tie.close
+    (tie.spec
+    Inv-loop
+    μ-loop
+    long-requires
+    loop-holds
+    mul-t
+    element-copy-out-t
+    add-i
+    loop-less
+    loop-again
+    carries-requires
+    cast-t18
+    returns
+    loop-less-2
+    loop-again-2
+    returns-2)

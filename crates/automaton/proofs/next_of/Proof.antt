@@ -1,0 +1,79 @@
+-- `next_of` goes by the first transition that leaves the state: what the state does next is what the transitions from i on say.
+use mathlib.Core.Path.{_≡_, refl, sym, ap, _∙_}
+use mathlib.Core.List.{List}
+use Prim.Native.Nat.{ℕ, _+_, _-_, _≤_}
+use native.Mathlib.Omega.{arith}
+use Rattle.plan.specs.declared.Transition.{Transition}
+use Rattle.plan.specs.Plan.{pastMove}
+use Rattle.lists.specs.Parts.{part}
+use Rattle.automaton.specs.Next.{nextFrom, nextOf}
+use Rattle.automaton.proofs.Scan.{rest, rest-all, next-here, next-past, next-none}
+use borrow.Author.Needs.{needs}
+use Rattle.automaton.proofs.next_of.Statement.{statement}
+use Rattle.automaton.proofs.next_of.Tie as tie
+
+abbrev Inv-loop : tie.InvT-loop
+Inv-loop s a count i₀ i = (i ≤ count) × (count ≤ 256) × (nextOf a s ≡ nextFrom (rest (a .moves) i count) s i)
+
+abbrev μ-loop : tie.MeasureT-loop
+μ-loop s a count i₀ i = count - i
+
+long-requires : tie.Need-long-requires Inv-loop μ-loop
+long-requires c κs = search needs
+
+loop-holds : tie.Need-loop-holds Inv-loop μ-loop
+loop-holds c =
+    let l = c .before .args .t1 .moves in
+    let s = c .before .args .s in
+    (omega arith, omega (arith, c .long .ensures), ap (λ (ts : List Transition). nextFrom ts s 0) (ap (part pastMove l 0) (sym (c .long .ensures)) ∙ rest-all l (c .long .result)))
+
+mul-t : tie.Need-mul-t Inv-loop μ-loop
+mul-t c = search needs
+
+element-copy-out-t : tie.Need-element-copy-out-t Inv-loop μ-loop
+element-copy-out-t c = search needs
+
+cast-on-input : tie.Need-cast-on-input Inv-loop μ-loop
+cast-on-input c = search needs
+
+on-input-requires : tie.Need-on-input-requires Inv-loop μ-loop
+on-input-requires c κs = search needs
+
+returns : tie.Need-returns Inv-loop μ-loop
+returns c =
+    let b = c .before .before .before .before .before in
+    c .on-input .ensures ∙ sym (b .loop .inv .2 ∙ next-here (b .before .before .args .t1 .moves) (b .before .before .args .s) (b .loop .i) (b .before .long .result) (omega arith) (c .before .if1 .taken))
+
+add-i : tie.Need-add-i Inv-loop μ-loop
+add-i c = search needs
+
+loop-less : tie.Need-loop-less Inv-loop μ-loop
+loop-less c = search needs
+
+loop-again : tie.Need-loop-again Inv-loop μ-loop
+loop-again c =
+    let b = c .before .before .before .before in
+    (omega arith, omega arith, b .loop .inv .2 ∙ next-past (b .before .before .args .t1 .moves) (b .before .before .args .s) (b .loop .i) (b .before .long .result) (omega arith) (c .if1 .left))
+
+returns-2 : tie.Need-returns-2 Inv-loop μ-loop
+returns-2 c =
+    let b = c .before in
+    sym (b .loop .inv .2 ∙ next-none (b .before .before .args .t1 .moves) (b .before .before .args .s) (b .loop .i) (b .before .long .result) (λ l. omega arith))
+
+pub next-of-spec : {M : Type 1} → statement M
+next-of-spec =
+    tie.close
+    (tie.spec
+    Inv-loop
+    μ-loop
+    long-requires
+    loop-holds
+    mul-t
+    element-copy-out-t
+    cast-on-input
+    on-input-requires
+    returns
+    add-i
+    loop-less
+    loop-again
+    returns-2)

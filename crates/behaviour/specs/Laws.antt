@@ -1,0 +1,14 @@
+-- The proofs of what Theorems.antt says.
+pub mod Lists
+pub mod Shape
+pub mod Chains
+pub mod Joining
+pub mod OneActivity
+pub mod Ranks
+pub mod Instances
+pub mod TimesEqual
+pub mod Unique
+pub mod Computed
+pub mod Exists
+pub mod Counts
+pub mod Plans

@@ -1,0 +1,115 @@
+-- What a reader gets. For every word of good activities that processes an event only while more of it have been emitted
+-- than processed, and so for every word of an accepted plan:
+-- the engine's times, one transition at a time, are the times of the combined activity of the whole word (Def. 7, 8, 11),
+-- and there are no others.
+use mathlib.Core.Path.{_≡_, refl, ap, _∙_, subst}
+use mathlib.Core.List.{List}
+use mathlib.Core.Logic.{_↔_}
+use Prim.Native.Nat.{ℕ, _≤_, _<_}
+use native.Mathlib.Omega.{arith}
+use borrow.Author.Tests.{eq-eqb, ne-eqb}
+use Rattle.plan.specs.declared.Kind.{Kind}
+use Rattle.plan.specs.declared.Plan.{Plan}
+use Rattle.plan.specs.Plan.{resourceOf}
+use Rattle.behaviour.specs.Word.{Step, Word, _▷_, Begins, size, times}
+use Rattle.behaviour.specs.Accepted.{GoodWord, Counted}
+use Rattle.behaviour.specs.Combined.{Ident, identity, NotRelease, Is, Before, combined}
+use Rattle.behaviour.specs.Times.{Timing}
+use Rattle.behaviour.specs.Engine.{State, Trace, Run}
+use Rattle.behaviour.specs.Exec.{stateOf, startsOf, endsOf, traceOf, startIn, endIn}
+use Rattle.behaviour.specs.Paths.{wordOf, Follows, Lawful}
+use Rattle.behaviour.specs.Laws.Exists.{Ready, runs, state-after}
+use Rattle.behaviour.specs.Laws.TimesEqual.{Equal, Emitted, after}
+use Rattle.behaviour.specs.Laws.TimesEqual as TimesEqual
+use Rattle.behaviour.specs.Laws.Unique as Unique
+use Rattle.behaviour.specs.Laws.Counts as Counts
+use Rattle.behaviour.specs.Laws.Plans.{good-path, counted-path}
+
+-- ---- any computation that goes the engine's way
+
+-- its times satisfy Def. 11, and its availabilities are the completions of the releases
+pub run-equal : (R : ℕ) (belongs available : ℕ → ℕ) (t : Trace) (w : Word) → GoodWord R belongs w → Run R available t w → Equal R available t w
+run-equal = TimesEqual.times-equal
+
+-- ---- Def. 11
+
+-- it has at most one solution
+pub one-solution : (R : ℕ) (belongs available : ℕ → ℕ) (w : Word) → GoodWord R belongs w → (S C T D : Ident → ℕ) → Timing (combined R w) available S C → Timing (combined R w) available T D → (x : Ident) (k : Kind) (d : ℕ) → combined R w .Holds x k d → (S x ≡ T x) × (C x ≡ D x)
+one-solution = Unique.unique
+
+-- the nodes of a beginning of a word, but for its releases, are nodes of the word, with the same times
+pub stable-beginning : (R : ℕ) (belongs available : ℕ → ℕ) (v w : Word) → GoodWord R belongs w → Begins v w → (S C T D : Ident → ℕ) → Timing (combined R v) available S C → Timing (combined R w) available T D → (x : Ident) (k : Kind) (d : ℕ) → combined R v .Holds x k d → NotRelease k → combined R w .Holds x k d × (S x ≡ T x) × (C x ≡ D x)
+stable-beginning = Unique.stable-beginning
+
+-- the instance that is processed exists, at each processing, exactly if more were emitted than processed
+pub ready-iff : (R : ℕ) (belongs : ℕ → ℕ) (w : Word) → GoodWord R belongs w → Ready R w ↔ Counted w
+ready-iff = Counts.ready-iff
+
+-- ---- the engine's times by identity, over a word
+
+module _ (available : ℕ → ℕ) where
+  -- at the last position they are those of the last transition
+  pub last-start : (w : Word) (x : Step) (n : ℕ) → startIn available (w ▷ x) (identity (size w) n) ≡ startsOf x (stateOf available w) n
+  unfolding traceOf
+  last-start w x n = rw (eq-eqb (size w) (size w) refl)
+
+  pub last-end : (w : Word) (x : Step) (n : ℕ) → endIn available (w ▷ x) (identity (size w) n) ≡ endsOf x (stateOf available w) n
+  unfolding traceOf
+  last-end w x n = rw (eq-eqb (size w) (size w) refl)
+
+  -- at earlier positions they are as before
+  pub kept-start : (w : Word) (x : Step) (p n : ℕ) → p < size w → startIn available (w ▷ x) (identity p n) ≡ startIn available w (identity p n)
+  unfolding traceOf
+  kept-start w x p n l = rw (ne-eqb p (size w) (λ e. omega arith))
+
+  pub kept-end : (w : Word) (x : Step) (p n : ℕ) → p < size w → endIn available (w ▷ x) (identity p n) ≡ endIn available w (identity p n)
+  unfolding traceOf
+  kept-end w x p n l = rw (ne-eqb p (size w) (λ e. omega arith))
+
+module _ (R : ℕ) (belongs available : ℕ → ℕ) (w : Word) (good : GoodWord R belongs w) (counted : Counted w) where
+  run : Run R available (traceOf available w) w
+  run = runs R belongs available w good (ready-iff R belongs w good .1 counted)
+
+  whole : Equal R available (traceOf available w) w
+  whole = run-equal R belongs available (traceOf available w) w good run
+
+  -- they satisfy Def. 11 on the combined activity
+  pub times-equal : Timing (combined R w) available (startIn available w) (endIn available w)
+  times-equal = whole .timing
+
+  -- and no others do
+  pub times-only : (S C : Ident → ℕ) → Timing (combined R w) available S C → (x : Ident) (k : Kind) (d : ℕ) → combined R w .Holds x k d → (S x ≡ startIn available w x) × (C x ≡ endIn available w x)
+  times-only S C t = one-solution R belongs available w good S C (startIn available w) (endIn available w) t times-equal
+
+  -- a resource is available when its release completes
+  pub free-equal : (r : ℕ) → r < R → (x : Ident) → Is (combined R w) x (Kind.Release r) → endIn available w x ≡ stateOf available w .free r
+  free-equal r l x is =
+      let f = whole .free r l in
+      ap (endIn available w) (whole .one-release x (f .0) r is (f .1)) ∙ f .2 ∙ ap (λ (s : State). s .free r) (state-after available w)
+
+  -- the queue of e holds the completions of its instances from number |w|^e + 1 on, in order
+  pub queue-equal : (e : ℕ) → Emitted (combined R w) e (times e w) (endIn available w) (stateOf available w .queue e)
+  queue-equal e =
+      subst (λ (s : State). Emitted (combined R w) e (times e w) (endIn available w) (s .queue e)) (state-after available w)
+      (after R belongs available (traceOf available w) w good run .queues e)
+
+  -- what is before a node has completed when it starts
+  pub before-ends : (m n : Ident) → Before (combined R w) m n → endIn available w m ≤ startIn available w n
+  before-ends = Unique.before-ends (combined R w) (size w) available (startIn available w) (endIn available w) (Unique.shape-of R belongs w good) times-equal
+
+-- ---- the words of an accepted plan
+
+-- the transitions `is`, the latest first, lead from the initial state to q
+module _ (p : Plan) (lawful : Lawful p) (available : ℕ → ℕ) (is : List ℕ) (q : ℕ) (path : Follows p (p .automaton .initial) is q) where
+  good : GoodWord (p .resources) (resourceOf p) (wordOf p is)
+  good = good-path p lawful (p .automaton .initial) is q path
+
+  pub plan-times-equal : Timing (combined (p .resources) (wordOf p is)) available (startIn available (wordOf p is)) (endIn available (wordOf p is))
+  plan-times-equal = times-equal (p .resources) (resourceOf p) available (wordOf p is) good (counted-path p lawful is q path)
+
+  pub plan-times-only : (S C : Ident → ℕ) → Timing (combined (p .resources) (wordOf p is)) available S C → (x : Ident) (k : Kind) (d : ℕ) → combined (p .resources) (wordOf p is) .Holds x k d → (S x ≡ startIn available (wordOf p is) x) × (C x ≡ endIn available (wordOf p is) x)
+  plan-times-only = times-only (p .resources) (resourceOf p) available (wordOf p is) good (counted-path p lawful is q path)
+
+  -- whoever goes the engine's way over such a word has these times
+  pub plan-run-equal : (t : Trace) → Run (p .resources) available t (wordOf p is) → Equal (p .resources) available t (wordOf p is)
+  plan-run-equal t = run-equal (p .resources) (resourceOf p) available t (wordOf p is) good

@@ -1,0 +1,55 @@
+-- Words of an automaton (Def. 6): the transitions taken, what they process and what they emit.
+use mathlib.Core.Bool.{Bool, false, cond}
+use mathlib.Core.List.{List, [], _∷_}
+use Prim.Native.Nat.{ℕ, suc, _+_}
+use lib.Dec.{eqb}
+use Rattle.plan.specs.declared.Kind.{Kind}
+use Rattle.plan.specs.declared.Node.{Node}
+use Rattle.plan.specs.declared.Input.{Input}
+
+-- Def. 6, a pair (i, o): what a transition processes, with its outcome, and the nodes of the activity that it emits.
+-- "Without bit 0 nothing is processed; without bit 1 the activity is the empty one", which has no nodes.
+pub record Step : Type 0 where
+  pub input : Input
+  pub output : List Node
+
+-- "The word is the transitions taken from the initial state": none (Def. 8, τ), or one more after a word.
+infixl 20 _▷_
+pub data Word : Type 0 where
+  τ : Word
+  _▷_ : Word → Step → Word
+
+-- v is a beginning of a word
+pub data Begins (v : Word) : Word → Type 0 where
+  here : Begins v v
+  longer : {w : Word} {x : Step} → Begins v w → Begins v (w ▷ x)
+
+-- "position (0 for the first transition of the run, also for empty activities)": that of the next transition
+abbrev pub size : Word → ℕ
+size τ = 0
+size (w ▷ x) = suc (size w)
+
+-- Def. 8, |w|^e: "the number of times e is processed in w"
+abbrev pub once : ℕ → Input → ℕ
+once e Input.Nothing = 0
+once e (Input.Outcome f u) = cond (eqb e f) 1 0
+
+abbrev pub times : ℕ → Word → ℕ
+times e τ = 0
+times e (w ▷ x) = times e w + once e (x .input)
+
+-- how many nodes of an activity are of event e
+abbrev pub isEvent : Kind → ℕ → Bool
+isEvent (Kind.Action a p) e = false
+isEvent (Kind.Claim r) e = false
+isEvent (Kind.Release r) e = false
+isEvent (Kind.Event f) e = eqb f e
+
+abbrev pub emittedIn : ℕ → List Node → ℕ
+emittedIn e [] = 0
+emittedIn e (n ∷ ns) = cond (isEvent (n .kind) e) 1 0 + emittedIn e ns
+
+-- how often e is emitted in a word
+abbrev pub emissions : ℕ → Word → ℕ
+emissions e τ = 0
+emissions e (w ▷ x) = emissions e w + emittedIn e (x .output)

@@ -1,0 +1,43 @@
+-- Demand 2, acceptance: "A plan is accepted if and only if it meets the definitions; nothing is repaired."
+use mathlib.Core.Path.{_≡_}
+use mathlib.Core.List.{List}
+use mathlib.Core.Logic.{_↔_}
+use Prim.Native.Nat.{ℕ, _≤_, _<_}
+use lib.ListN.{length, getD}
+use Rattle.plan.specs.Plan.{activityOf, resourceOf}
+use Rattle.plan.specs.Limits.{FileRules}
+use Rattle.plan.specs.Encoding.{encode}
+use Rattle.plan.specs.Spare.{zeroed}
+use Rattle.plan.specs.declared.Plan.{Plan}
+use Rattle.plan.specs.declared.Verdict.{Verdict}
+use Rattle.plan.specs.declared.PlanRead.{PlanRead}
+use Rattle.activity.specs.Rules.{Meets}
+use Rattle.automaton.specs.Rules.{MeetsAutomaton}
+use Rattle.judge.specs.Judge.{judgeOf}
+
+-- a list of bytes
+abbrev pub Bytes : List ℕ → Type 0
+Bytes b = (k : ℕ) → getD b k 0 < 256
+
+abbrev pub accepted : Plan → PlanRead
+accepted p = record { verdict = Verdict.Accepted; plan = p }
+
+-- what a plan and its bytes must meet
+pub record Accepts (bytes : List ℕ) (p : Plan) : Type 0 where
+  -- "The plan file": counts, numbers, durations and predecessors
+  pub file : FileRules p
+  -- the slots past its counts are zeros
+  pub spare : zeroed p ≡ p
+  -- the bytes are its encoding
+  pub encoded : encode p ≡ bytes
+  -- "What an activity must satisfy"
+  pub activities : (a : ℕ) → a < p .activities → Meets (resourceOf p) (activityOf p a)
+  -- "What the automaton must satisfy"
+  pub automaton : MeetsAutomaton p
+
+abbrev pub StatementAcceptedIff : Type 0
+StatementAcceptedIff = (bytes : List ℕ) (p : Plan) → Bytes bytes → (judgeOf bytes ≡ accepted p) ↔ Accepts bytes p
+
+-- "No accepted plan exceeds 34,433 bytes."
+abbrev pub StatementLongest : Type 0
+StatementLongest = (bytes : List ℕ) (p : Plan) → Bytes bytes → judgeOf bytes ≡ accepted p → length bytes ≤ 34_433

@@ -1,0 +1,32 @@
+-- `cases`: K1 to K12 hold of the definitions, by computation.
+use mathlib.Core.Path.{refl}
+use Rattle.wire.specs.Number.{fieldAt, number, optional, optionalBytes}
+use Rattle.plan.specs.Fields.{byteAt, optionalCount, numbersThen}
+use Rattle.plan.specs.Nodes.{asksOf, kindBy, durationAt, predsLoop, predsAt, nodeWith, nodeAt}
+use Rattle.plan.specs.Sections.{belongsAt, peripheralsAt, outcomesAt, eventsAt, nodesThen, activitiesLoop, activitiesAt}
+use Rattle.plan.specs.Moves.{inputAt, outputAt, moveWith, moveFrom, moveAt, finalsAt, moveCountAt, movesLoop, movesAt, automatonAt}
+use Rattle.plan.specs.Reading.{sectionsAt, endedAt, withAutomaton, withActivities, withEvents, withPeripherals, planAt, readPlan}
+use Rattle.limits.specs.Limits.{within, nodeInLimits, slotInLimits, nodesInLimits, moveInLimits, movesInLimits, automatonInLimits, partsInLimits, inLimits, isRising, slotWritten, nodesWritten, fileRules, timesInLimits, instanceInLimits, placeInLimits, pendingInLimits, progressFits, progressInLimits}
+use Rattle.limits.specs.Window.{entryInLimits, windowInLimits}
+use Rattle.activity.specs.Tests.{every, some, wordOf, passes, beforeWords}
+use Rattle.activity.specs.Number.{noCycle, ruleI, ruleII, ruleIII, ruleIV, ruleV, ruleVI, ruleVII, ruleVIII, ruleIX, ruleX, ruleXI, faultBy, faultOf, verdictFrom, activitiesVerdict}
+use Rattle.automaton.specs.Tests.{both, all}
+use Rattle.automaton.specs.Next.{nextFrom, chosenFrom}
+use Rattle.automaton.specs.Number.{lowest, noWayOut, apartFrom, branchesIn, serves, again, falses, finalsOf, passBack, advanced, passOn, judgeCounts, pathVerdict, stateVerdict, automatonVerdict}
+use Rattle.timing.specs.Times.{readyOf, largestOf, startOf, placedOf, visitOf, roundOf, roundsOf}
+use Rattle.timing.specs.Queues.{shiftedOf, processedOf, floorOf, queuedOf}
+use Rattle.timing.specs.Engine.{raisedOf, heldOf, leftBy, leftOf, aboveOf, beyondOf, closedOf, emitsOf, timedOf}
+use Rattle.window.specs.Window.{isOverdue, isLate, isDue, isNode, before, first, isEmpty, placed, vacancies}
+use Rattle.judge.specs.Judge.{judgeOf}
+use Rattle.run.specs.Limits.{runInLimits}
+use Rattle.run.specs.Loading.{entriesFrom, pathFrom, load, wayOn, further}
+use Rattle.run.specs.Opening.{anyAbove, anyShort, shortFrom, openPlan, openOf}
+use Rattle.run.specs.Calls.{asked, completed, toldFrom, learns, timely, askOf, completionOf, outcomeOf, callOf}
+use Rattle.table.specs.Text.{digits, line}
+use Rattle.table.specs.Timetable.{rows, free, tableFrom, timetableOf}
+use Rattle.demands.specs.Cases.{theCases, AllHold}
+
+pub cases : AllHold theCases
+unfolding fieldAt number optional optionalBytes byteAt optionalCount numbersThen asksOf kindBy durationAt predsLoop predsAt nodeWith nodeAt belongsAt peripheralsAt outcomesAt eventsAt nodesThen activitiesLoop activitiesAt inputAt outputAt moveWith moveFrom moveAt finalsAt moveCountAt movesLoop movesAt automatonAt sectionsAt endedAt withAutomaton withActivities withEvents withPeripherals planAt readPlan within nodeInLimits slotInLimits nodesInLimits moveInLimits movesInLimits automatonInLimits partsInLimits inLimits isRising slotWritten nodesWritten fileRules timesInLimits instanceInLimits placeInLimits pendingInLimits progressFits progressInLimits entryInLimits windowInLimits every some wordOf passes beforeWords noCycle ruleI ruleII ruleIII ruleIV ruleV ruleVI ruleVII ruleVIII ruleIX ruleX ruleXI faultBy faultOf verdictFrom activitiesVerdict both all nextFrom chosenFrom lowest noWayOut apartFrom branchesIn serves again falses finalsOf passBack advanced passOn judgeCounts pathVerdict stateVerdict automatonVerdict readyOf largestOf startOf placedOf visitOf roundOf roundsOf shiftedOf processedOf floorOf queuedOf raisedOf heldOf leftBy leftOf aboveOf beyondOf closedOf emitsOf timedOf isOverdue isLate isDue isNode before first isEmpty placed vacancies judgeOf runInLimits entriesFrom pathFrom load wayOn further anyAbove anyShort shortFrom openPlan openOf asked completed toldFrom learns timely askOf completionOf outcomeOf callOf digits line rows free tableFrom timetableOf
+cases =
+    (refl, (refl, (refl, (refl, (refl, (refl, (refl, (refl, (refl, (refl, (refl, (refl, (refl, (refl, (refl, (refl, (refl, tt)))))))))))))))))

@@ -1,0 +1,38 @@
+-- Promise 1, and the further promises of "Strength of the contracts", as statements.
+use mathlib.Core.Path.{_≡_}
+use mathlib.Core.Bool.{true, false}
+use mathlib.Core.List.{List}
+use Prim.Native.Nat.{ℕ}
+use Rattle.time.specs.declared.Clock.{Clock}
+use Rattle.run.specs.declared.Run.{Run}
+use Rattle.run.specs.declared.Halt.{Halt}
+use Rattle.run.specs.declared.Stop.{Stop}
+use Rattle.run.specs.declared.Call.{Call}
+use Rattle.run.specs.declared.Reply.{Reply}
+use Rattle.run.specs.declared.Refusal.{Refusal}
+use Rattle.run.specs.declared.Unopened.{Unopened}
+use Rattle.run.specs.declared.Opening.{Opening}
+use Rattle.run.specs.Limits.{runInLimits}
+use Rattle.run.specs.Calls.{callOf, answer, refuse}
+use Rattle.run.specs.Opening.{openOf, zeroRun}
+
+-- "A refused call hands back the run exactly as it came in."
+abbrev pub StatementRefusedUnchanged : Type 0
+StatementRefusedUnchanged = (run : Run) (c : Call) (f : Refusal) → callOf run c .reply ≡ Reply.Refused f → callOf run c .run ≡ run
+
+-- "A call to a stopped run does too, and answers the stop."
+abbrev pub StatementStopKept : Type 0
+StatementStopKept =
+    (run : Run) (s : Stop) (c : Call) → runInLimits run ≡ true → run .halt ≡ Halt.Stopped s → callOf run c ≡ answer (Reply.Stopped s) run
+
+-- every stop is kept: the run that an answered stop hands back is stopped by it
+abbrev pub StatementStopsStay : Type 0
+StatementStopsStay = (run : Run) (s : Stop) (c : Call) → callOf run c .reply ≡ Reply.Stopped s → callOf run c .run .halt ≡ Halt.Stopped s
+
+-- "A refused opening hands back a run of zeros, which gets 50."
+abbrev pub StatementRefusedOpening : Type 0
+StatementRefusedOpening =
+    (bytes : List ℕ) (psi : Clock) (slack : ℕ) (ts : List ℕ) (u : Unopened) → openOf bytes psi slack ts .opening ≡ Opening.Refused u → openOf bytes psi slack ts .run ≡ zeroRun
+
+abbrev pub StatementZerosGet50 : Type 0
+StatementZerosGet50 = (c : Call) → callOf zeroRun c ≡ refuse zeroRun Refusal.OutOfLimits

@@ -1,0 +1,61 @@
+-- Demand 2, the times: "Each node's times equal those of the whole behaviour's combined activity."
+use mathlib.Core.Path.{_≡_}
+use mathlib.Core.Bool.{cond}
+use mathlib.Core.List.{List, [], _∷_}
+use Prim.Native.Nat.{ℕ, _+_, _<_}
+use lib.Dec.{eqb}
+use lib.ListN.{length, getD}
+use Rattle.plan.specs.declared.Kind.{Kind}
+use Rattle.plan.specs.declared.Plan.{Plan}
+use Rattle.judge.specs.Judge.{judgeOf}
+use Rattle.timing.specs.Times.{at, unscheduled}
+use Rattle.timing.specs.declared.Progress.{Progress}
+use Rattle.timing.specs.declared.Schedule.{Schedule}
+use Rattle.behaviour.specs.Combined.{Ident}
+use Rattle.behaviour.specs.Combined as C
+use Rattle.behaviour.specs.Times.{Timing}
+use Rattle.behaviour.specs.Paths.{Follows}
+use Rattle.run.specs.Loading.{takenBy}
+use Rattle.run.specs.Opening.{atFirst, availabilities}
+use Rattle.log.specs.Log.{Id}
+use Rattle.demands.specs.Accepted.{accepted}
+use Rattle.demands.specs.TheWord.{stateAfter, wholeOf}
+use Rattle.demands.specs.Demand3.{whose, Work, lengthOf}
+
+-- ---- the engine's way, one transition at a time; transitions stand latest first
+
+-- where the behaviour stands after them
+abbrev pub progressAfter : Plan → Progress → List ℕ → Progress
+progressAfter p g [] = g
+progressAfter p g (i ∷ is) = takenBy p i (progressAfter p g is) .progress
+
+-- the times of the nodes at position q
+abbrev pub scheduleAt : Plan → Progress → List ℕ → ℕ → Schedule
+scheduleAt p g [] q = unscheduled
+scheduleAt p g (i ∷ is) q = cond (eqb q (lengthOf is)) (takenBy p i (progressAfter p g is) .schedule) (scheduleAt p g is q)
+
+abbrev pub opened : Plan → List ℕ → Progress
+opened p ts = atFirst (availabilities ts) (p .automaton .initial)
+
+abbrev pub engineStart : Plan → List ℕ → List ℕ → Id → ℕ
+engineStart p ts is x = at (scheduleAt p (opened p ts) is (x .position) .start) (x .node)
+
+abbrev pub engineEnd : Plan → List ℕ → List ℕ → Id → ℕ
+engineEnd p ts is x = at (scheduleAt p (opened p ts) is (x .position) .end) (x .node)
+
+-- ---- the claim
+
+-- the engine's times are those of Def. 11 on the combined activity of the whole word, and Def. 11 has no others there
+pub record TimesEqual (p : Plan) (ts is : List ℕ) : Type 0 where
+  pub solved : (S : Ident → ℕ) × (E : Ident → ℕ) × Timing (wholeOf p is) (λ r. getD ts r 0) S E
+  pub starts : (S E : Ident → ℕ) → Timing (wholeOf p is) (λ r. getD ts r 0) S E → (x : Id) → Work (wholeOf p is) x → S (whose x) ≡ engineStart p ts is x
+  pub ends : (S E : Ident → ℕ) → Timing (wholeOf p is) (λ r. getD ts r 0) S E → (x : Id) → Work (wholeOf p is) x → E (whose x) ≡ engineEnd p ts is x
+  -- the engine's availabilities are the completions of the releases
+  pub free : (S E : Ident → ℕ) → Timing (wholeOf p is) (λ r. getD ts r 0) S E → (x : Ident) (r : ℕ) → r < p .resources → C.Is (wholeOf p is) x (Kind.Release r)
+      → E x ≡ at (progressAfter p (opened p ts) is .available) r
+
+-- for every accepted plan, availabilities and word of its automaton
+abbrev pub StatementTimesEqual : Type 0
+StatementTimesEqual =
+    (bytes : List ℕ) (p : Plan) (ts is : List ℕ) → judgeOf bytes ≡ accepted p → length ts ≡ p .resources
+    → Follows p (p .automaton .initial) is (stateAfter p is) → TimesEqual p ts is

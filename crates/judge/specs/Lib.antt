@@ -1,0 +1,2 @@
+-- The whole verdict on bytes.
+pub mod Judge

@@ -1,0 +1,22 @@
+-- The limits of the window of a run (number 50), as tests.
+use mathlib.Core.Bool.{Bool, true, _&&_, _||_}
+use mathlib.Core.List.{List, [], _∷_}
+use Prim.Native.Nat.{ℕ}
+use lib.ListN.{getD}
+use lib.Dec.{ltb, leb}
+use Rattle.time.specs.Time.{horizon}
+use Rattle.timing.specs.Engine.{lastPosition}
+use Rattle.window.specs.Window.{isFree}
+use Rattle.window.specs.declared.Entry.{Entry}
+
+-- a place that is held names a node of the plan, whose activities have these sizes, and its times are at most 10^15
+unfoldable pub entryInLimits : ℕ → List ℕ → Entry → Bool
+entryInLimits activities sizes e =
+    isFree (e .phase)
+    || (leb (e .position) lastPosition
+    && (ltb (e .activity) activities
+    && (ltb (e .node) (getD sizes (e .activity) 0) && (leb (e .start .0) horizon && leb (e .end .0) horizon))))
+
+unfoldable pub windowInLimits : ℕ → List ℕ → List Entry → Bool
+windowInLimits activities sizes [] = true
+windowInLimits activities sizes (e ∷ es) = entryInLimits activities sizes e && windowInLimits activities sizes es

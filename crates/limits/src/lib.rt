@@ -1,0 +1,1 @@
+// The limits of what a plan and a run store.

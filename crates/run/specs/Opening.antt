@@ -1,0 +1,118 @@
+-- "An opening gives a plan, Ψ, a slack of 1 to 1,000,000, and one availability, in specified time, for each resource. The
+-- plan comes as bytes and is judged first; the run keeps it."
+use mathlib.Core.Bool.{Bool, true, false, cond, _&&_, _||_}
+use mathlib.Core.List.{List, [], _∷_, _++_, map}
+use Prim.Native.Nat.{ℕ, zero, suc, _+_, _-_}
+use lib.Dec.{ltb, leb, eqb}
+use lib.ListN.{length, replicate}
+use Rattle.time.specs.Time.{horizon}
+use Rattle.time.specs.declared.Specified.{Specified}
+use Rattle.time.specs.declared.Clock.{Clock}
+use Rattle.plan.specs.Plan.{activityOf}
+use Rattle.plan.specs.declared.Kind.{Kind}
+use Rattle.plan.specs.declared.Node.{Node}
+use Rattle.plan.specs.declared.Plan.{Plan}
+use Rattle.plan.specs.declared.Verdict.{Verdict}
+use Rattle.plan.specs.declared.PlanRead.{PlanRead}
+use Rattle.plan.specs.Reading.{zeroPlan}
+use Rattle.judge.specs.Judge.{judgeOf}
+use Rattle.automaton.specs.Next.{nextOf}
+use Rattle.timing.specs.declared.Progress.{Progress}
+use Rattle.run.specs.declared.Halt.{Halt}
+use Rattle.run.specs.declared.Run.{Run}
+use Rattle.run.specs.declared.Unopened.{Unopened}
+use Rattle.run.specs.declared.Opening.{Opening}
+use Rattle.run.specs.declared.Opened.{Opened}
+use Rattle.run.specs.declared.Failure.{Failure}
+use Rattle.run.specs.declared.Loading.{Loading}
+use Rattle.window.specs.Window.{vacant}
+use Rattle.timing.specs.Times.{specified}
+use Rattle.timing.specs.Queues.{noInstance}
+use Rattle.run.specs.Limits.{slackInLimits}
+use Rattle.run.specs.Loading.{isWork, load}
+
+-- ---- the run at its opening
+
+-- a behaviour that stands at a state before its first transition
+abbrev pub atFirst : List Specified → ℕ → Progress
+atFirst available s = record {
+  available = available;
+  latest = replicate 16 (specified 0);
+  lengths = replicate 16 0;
+  pending = replicate 128 noInstance;
+  position = 0;
+  state = s;
+}
+
+-- availabilities in an array of 16, zeros past them
+abbrev pub availabilities : List ℕ → List Specified
+availabilities ts = map specified ts ++ replicate (16 - length ts) (specified 0)
+
+-- "0 at opening" is the last reading
+abbrev pub fresh : Plan → Clock → ℕ → Progress → Run
+fresh p psi slack g =
+    record { plan = p; psi = psi; slack = slack; progress = g; window = replicate 512 vacant; last = record { 0 = 0 }; halt = Halt.Going }
+
+-- "A refused opening hands back a run of zeros"
+abbrev pub zeroRun : Run
+zeroRun = fresh zeroPlan (record { 0 = 0 }) 0 (atFirst (replicate 16 (specified 0)) 0)
+
+abbrev pub unopened : Unopened → Opened
+unopened u = record { opening = Opening.Refused u; run = zeroRun }
+
+-- ---- the checks, 30 to 33
+
+-- some availability is above 10^15
+unfoldable pub anyAbove : List ℕ → Bool
+anyAbove [] = false
+anyAbove (t ∷ ts) = ltb horizon t || anyAbove ts
+
+-- "an action or event with duration not above the slack"
+unfoldable pub anyShort : ℕ → List Node → Bool
+anyShort slack [] = false
+anyShort slack (n ∷ ns) = (isWork (n .kind) && leb (n .duration) slack) || anyShort slack ns
+
+-- "the lowest such activity": among k activities from a on
+pub data Shortest : Type 0 where
+  Nothing : Shortest
+  Activity : ℕ → Shortest
+
+unfoldable pub shortFrom : Plan → ℕ → ℕ → ℕ → Shortest
+shortFrom p slack a zero = Nothing
+shortFrom p slack a (suc k) = cond (anyShort slack (activityOf p a)) (Activity a) (shortFrom p slack (a + 1) k)
+
+abbrev pub onShortest : {A : Type 0} → Shortest → (ℕ → A) → A → A
+onShortest Nothing f z = z
+onShortest (Activity a) f z = f a
+
+-- ---- the opening
+
+abbrev pub afterFirst : Failure → Run → Opened
+afterFirst Failure.None run = record { opening = Opening.Opened; run = run }
+afterFirst Failure.Full run = unopened Unopened.Full
+afterFirst Failure.Beyond run = unopened Unopened.Beyond
+
+abbrev pub firstLoaded : Loading → Opened
+firstLoaded l = afterFirst (l .failure) (l .run)
+
+-- the first path, from the initial state
+abbrev pub begin : Run → Opened
+begin run = firstLoaded (load run (nextOf (run .plan .automaton) (run .plan .automaton .initial)))
+
+-- "Opening checks run 30 to 33, then 44, 43 as refusals."
+unfoldable pub openPlan : Plan → Clock → ℕ → List ℕ → Opened
+openPlan p psi slack ts =
+    cond (eqb (length ts) (p .resources))
+    (cond (ltb horizon (psi .0) || anyAbove ts) (unopened Unopened.Time)
+    (cond (slackInLimits slack)
+    (onShortest (shortFrom p slack 0 (p .activities)) (λ a. unopened (Unopened.Short a))
+    (begin (fresh p psi slack (atFirst (availabilities ts) (p .automaton .initial)))))
+    (unopened Unopened.Slack)))
+    (unopened Unopened.Availabilities)
+
+abbrev pub openJudged : Verdict → Plan → Clock → ℕ → List ℕ → Opened
+openJudged Verdict.Accepted p psi slack ts = openPlan p psi slack ts
+openJudged (Verdict.Refused f place) p psi slack ts = unopened (Unopened.Plan f place)
+
+unfoldable pub openOf : List ℕ → Clock → ℕ → List ℕ → Opened
+openOf bytes psi slack ts = openJudged (judgeOf bytes .verdict) (judgeOf bytes .plan) psi slack ts

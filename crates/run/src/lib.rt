@@ -1,0 +1,125 @@
+// A run of a plan against the host's clock: types. Document 01, sections "A run" and "Who can cause which number".
+use plan::Fault;
+use plan::Plan;
+use time::Clock;
+use timing::Progress;
+use window::Entry;
+
+// Why a run has stopped. Document 01's number for each case is `stopNumber` in specs/Numbers.antt.
+pub enum Stop {
+    // position and node of the unstarted node with the earliest start
+    Late(u32, u8),
+    // position and node of the started node with the earliest completion
+    Overdue(u32, u8),
+    // the window would pass 512
+    Full,
+    // a completion or availability of the next path above 10^15, or a position above 1,000,000,000
+    Beyond,
+}
+
+pub enum Halt {
+    Going,
+    Stopped(Stop),
+}
+
+pub struct Run {
+    pub plan: Plan,
+    pub psi: Clock,
+    pub slack: u64,
+    pub progress: Progress,
+    pub window: [Entry; 512],
+    // the last reading, 0 at opening
+    pub last: Clock,
+    pub halt: Halt,
+}
+
+impl Run {
+    // the most nodes that the window holds
+    pub const WINDOW: usize = 512;
+    // the largest time that an opening or a path may have
+    pub const HORIZON: u64 = 1_000_000_000_000_000;
+    // the least and the largest slack
+    pub const SLACK_LEAST: u64 = 1;
+
+    pub const SLACK_MOST: u64 = 1_000_000;
+    // the largest position
+    pub const LAST_POSITION: u32 = 1_000_000_000;
+}
+
+// Why a call is refused.
+pub enum Refusal {
+    // a run in which a stored count, number or time lies outside the limits
+    OutOfLimits,
+    // reading below the last one
+    ReadingBelow,
+    // no such node in the window
+    NoSuchNode,
+    // node not started
+    NotStarted,
+    // completion of an event or outcome of an action
+    OtherKind,
+    // outcome the event lacks
+    OutcomeLacking,
+}
+
+pub enum Reply {
+    // position, activity, node
+    Start(u32, u8, u8),
+    Wait,
+    Done,
+    Taken,
+    Refused(Refusal),
+    Stopped(Stop),
+}
+
+// The answer to a call: the reply, and the run after it.
+pub struct Answer {
+    pub reply: Reply,
+    pub run: Run,
+}
+
+// A call: reading; position and node; outcome.
+pub enum Call {
+    Ask(Clock),
+    Completion(Clock, u32, u8),
+    Outcome(Clock, u32, u8, u8),
+}
+
+// Why an opening is refused.
+pub enum Unopened {
+    // what is wrong with the plan, and its place
+    Plan(Fault, usize),
+    // wrong number of availabilities
+    Availabilities,
+    // Ψ or an availability above 10^15
+    Time,
+    Slack,
+    // the lowest activity with an action or event whose duration is not above the slack
+    Short(usize),
+    Beyond,
+    Full,
+}
+
+pub enum Opening {
+    Opened,
+    Refused(Unopened),
+}
+
+// The answer to an opening; a refused one hands back a run of zeros.
+pub struct Opened {
+    pub opening: Opening,
+    pub run: Run,
+}
+
+// Whether loading failed.
+pub enum Failure {
+    None,
+    Full,
+    Beyond,
+}
+
+// The run after loading; after a failure, as it was before the failing path.
+pub struct Loading {
+    pub failure: Failure,
+    pub run: Run,
+}

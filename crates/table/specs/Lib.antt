@@ -1,0 +1,3 @@
+-- The lines of the program timetable, as text for an input.
+pub mod Text
+pub mod Timetable

@@ -1,0 +1,115 @@
+-- "The program timetable reads the plan's length (two bytes), the plan and outcome bytes; availabilities are 0."
+use mathlib.Core.Bool.{Bool, true, false, cond}
+use mathlib.Core.List.{List, [], _∷_, _++_, map}
+use Prim.Native.Nat.{ℕ, zero, suc, _+_, _-_, _*_}
+use lib.Dec.{ltb, leb}
+use lib.ListN.{length, take, drop, getD, replicate}
+use Rattle.lists.specs.Parts.{part}
+use Rattle.time.specs.declared.Specified.{Specified}
+use Rattle.plan.specs.Plan.{outcomesOf}
+use Rattle.plan.specs.Fault.{numberOf}
+use Rattle.plan.specs.declared.Fault.{Fault}
+use Rattle.plan.specs.declared.Verdict.{Verdict}
+use Rattle.plan.specs.declared.Plan.{Plan}
+use Rattle.judge.specs.Judge.{judgeOf}
+use Rattle.automaton.specs.Next.{nextOf, chosenOf}
+use Rattle.automaton.specs.declared.Next.{Next}
+use Rattle.automaton.specs.declared.Chosen.{Chosen}
+use Rattle.timing.specs.declared.Progress.{Progress}
+use Rattle.window.specs.declared.Entry.{Entry}
+use Rattle.run.specs.Loading.{takenBy, entriesBy, onChosen}
+use Rattle.timing.specs.Times.{specified}
+use Rattle.run.specs.Opening.{atFirst}
+use Rattle.table.specs.Text.{decimal, line, wordPosition, wordActivity, wordNode, wordStart, wordEnd, wordFree, wordWaits, wordRefused}
+
+-- ---- the lines
+
+-- "position activity node start end"
+abbrev pub header : List ℕ
+header = line (wordPosition ∷ wordActivity ∷ wordNode ∷ wordStart ∷ wordEnd ∷ [])
+
+-- "Action and event nodes by position and node"
+abbrev pub row : Entry → List ℕ
+row e =
+    line (decimal (e .position) ∷ decimal (e .activity) ∷ decimal (e .node) ∷ decimal (e .start .0) ∷ decimal (e .end .0) ∷ [])
+
+unfoldable pub rows : List Entry → List ℕ
+rows [] = []
+rows (e ∷ es) = row e ++ rows es
+
+-- "availability by resource"
+unfoldable pub free : Plan → Progress → List ℕ
+free p g = line (wordFree ∷ map (λ (t : Specified). decimal (t .0)) (part (specified 0) (g .available) 0 (p .resources)))
+
+-- "the final state"
+abbrev pub ended : Plan → Progress → List ℕ
+ended p g = free p g ++ line (wordEnd ∷ decimal (g .state) ∷ [])
+
+-- "If outcomes run out, free is printed and the last line is waits, state, event, in place of end."
+abbrev pub waiting : Plan → Progress → ℕ → List ℕ
+waiting p g e = free p g ++ line (wordWaits ∷ decimal (g .state) ∷ decimal e ∷ [])
+
+-- "refused, number, place"
+abbrev pub refused : ℕ → ℕ → List ℕ
+refused number place = line (wordRefused ∷ decimal number ∷ decimal place ∷ [])
+
+-- ---- the table
+
+-- what a state does with the outcomes that are left, of which `read` were read before
+pub data Move : Type 0 where
+  -- transition t, with the outcomes left after it
+  Takes : ℕ → ℕ → List ℕ → Move
+  -- the text that closes the table
+  Closes : List ℕ → Move
+
+abbrev pub hear : Plan → Progress → ℕ → ℕ → List ℕ → Move
+hear p g e read [] = Closes (waiting p g e)
+hear p g e read (o ∷ os) =
+    cond (ltb o (outcomesOf p e))
+    (onChosen (chosenOf (p .automaton) (g .state) e o) (λ t. Takes t (read + 1) os) (Closes (waiting p g e)))
+    (Closes (refused 55 read))
+
+abbrev pub moveBy : Plan → Progress → ℕ → List ℕ → Next → Move
+moveBy p g read os Next.Ended = Closes (ended p g)
+moveBy p g read os (Next.Goes t) = Takes t read os
+moveBy p g read os (Next.Waits e) = hear p g e read os
+
+abbrev pub onMove : {A : Type 0} → Move → (ℕ → ℕ → List ℕ → A) → (List ℕ → A) → A
+onMove (Takes t read os) f z = f t read os
+onMove (Closes text) f z = z text
+
+-- k positions more; past the last position, and where a time passes 10^15, "44, place = the position, whose rows are left out"
+unfoldable pub tableFrom : Plan → ℕ → ℕ → List ℕ → Progress → List ℕ
+tableFrom p zero read os g =
+    onMove (moveBy p g read os (nextOf (p .automaton) (g .state))) (λ t r rest. refused 44 (g .position)) (λ text. text)
+tableFrom p (suc k) read os g =
+    onMove (moveBy p g read os (nextOf (p .automaton) (g .state)))
+    (λ t r rest. cond (takenBy p t g .beyond) (refused 44 (g .position)) (rows (entriesBy p t g) ++ tableFrom p k r rest (takenBy p t g .progress)))
+    (λ text. text)
+
+-- positions 0 to 1,000,000,000
+abbrev pub positions : ℕ
+positions = 1_000_000_001
+
+-- availabilities are 0
+abbrev pub tableOf : Plan → List ℕ → List ℕ
+tableOf p outcomes = header ++ tableFrom p positions 0 outcomes (atFirst (replicate 16 (specified 0)) (p .automaton .initial))
+
+-- ---- the whole input
+
+-- "A refused plan prints only refused, number, place"
+abbrev pub judgedText : Verdict → Plan → List ℕ → List ℕ
+judgedText Verdict.Accepted p outcomes = tableOf p outcomes
+judgedText (Verdict.Refused f place) p outcomes = refused (numberOf f) place
+
+abbrev pub textOfPlan : List ℕ → List ℕ → List ℕ
+textOfPlan bytes outcomes = judgedText (judgeOf bytes .verdict) (judgeOf bytes .plan) outcomes
+
+-- "input that ends inside the length or the plan gives 1, place = the plan bytes present"
+abbrev pub afterLength : ℕ → List ℕ → List ℕ
+afterLength n rest = cond (leb n (length rest)) (textOfPlan (take n rest) (drop n rest)) (refused (numberOf Fault.Ends) (length rest))
+
+unfoldable pub timetableOf : List ℕ → List ℕ
+timetableOf [] = refused (numberOf Fault.Ends) 0
+timetableOf (a ∷ []) = refused (numberOf Fault.Ends) 0
+timetableOf (a ∷ b ∷ rest) = afterLength (a + 256 * b) rest

@@ -1,0 +1,3 @@
+-- Numbers in bytes, maps of optional fields, and the laws of both.
+pub mod Number
+pub mod Map
