@@ -85,6 +85,7 @@ pub record Clash (a : Automaton) (gives : Output → ℕ → ℕ) (R : List Bool
 -- a reached final state with something left
 pub record Left (a : Automaton) (R : List Bool) (C : List ℕ) : Type 0 where
   pub state : ℕ
+  pub low : state < 64
   pub event : ℕ
   pub named : event < 16
   pub reached : flag R state ≡ true
@@ -94,6 +95,7 @@ pub record Left (a : Automaton) (R : List Bool) (C : List ℕ) : Type 0 where
 -- a reached state with more than 8 of an event
 pub record Crowd (R : List Bool) (C : List ℕ) : Type 0 where
   pub state : ℕ
+  pub low : state < 64
   pub event : ℕ
   pub named : event < 16
   pub reached : flag R state ≡ true
@@ -228,12 +230,12 @@ module _ (a : Automaton) (gives : Output → ℕ → ℕ) (R : List Bool) (C : L
     not-25 bound none-left (leftover w e f z) =
         let n : e < 16 = named-event a gives bound w e (omega arith) in
         let g = agrees w in
-        none-left record { state = _; event = e; named = n; reached = g .0; final = f; some = omega (arith, g .1 e n) }
+        none-left record { state = _; low = omega (arith, k .known _ (g .0) .0, ok .states); event = e; named = n; reached = g .0; final = f; some = omega (arith, g .1 e n) }
 
     pub crowd-of : Bounded a gives → Breaks26 a gives → Crowd R C
     crowd-of bound b =
         let n : b .event < 16 = named-event a gives bound (b .path) (b .event) (omega (arith, b .many)) in
-        record { state = b .state; event = b .event; named = n; reached = agrees (b .path) .0; many = omega (arith, agrees (b .path) .1 (b .event) n, b .many) }
+        record { state = b .state; low = omega (arith, k .known _ (agrees (b .path) .0) .0, ok .states); event = b .event; named = n; reached = agrees (b .path) .0; many = omega (arith, agrees (b .path) .1 (b .event) n, b .many) }
 
   pub crowd-26 : Crowd R C → Breaks26 a gives
   crowd-26 c =

@@ -12,16 +12,17 @@ use Rattle.plan.specs.declared.Automaton.{Automaton}
 use Rattle.plan.specs.declared.Plan.{Plan}
 use Rattle.plan.specs.declared.Fault.{Fault}
 use Rattle.plan.specs.declared.Verdict.{Verdict}
-use Rattle.plan.specs.Plan.{outcomesOf}
+use Rattle.plan.specs.Plan.{outcomesOf, move}
 use Rattle.plan.specs.Limits.{InLimits}
 use Rattle.automaton.specs.Tests.{flag, pick, Tells}
 use Rattle.automaton.specs.Rules.{NoWayOut, Branches, Serves, ToFinal, EveryState, EmittedFirst, NoneLeft, AtMostEight, processed, emitted, emits, MeetsAutomaton, LowestAtFault, Breaks25, unemitted, leftover, Breaks26, Judges, number21, number22, number23, number24, number25, number26, accepted}
-use Rattle.automaton.specs.Number.{lowest, noWayOut, branches, serves, toFinal, pathVerdict, orElse, stateVerdict, automatonVerdict}
-use Rattle.automaton.specs.Counts.{InRange}
+use Rattle.automaton.specs.Number.{lowest, noWayOut, branches, serves, toFinal, pathVerdict, orElse, wayVerdict, stateVerdict, automatonVerdict}
+use Rattle.automaton.specs.Counts.{InRange, Bounded}
 use Rattle.automaton.specs.Bounds.{in-range, emits-bounded, emits-small}
-use Rattle.automaton.specs.Works.{back-done}
-use Rattle.automaton.specs.States.{tells-21, tells-22, tells-23, fault-found, none-found, fault-there, none-there}
-use Rattle.automaton.specs.OnPaths.{OnPaths, broken25, broken26, neither, same-on-paths, path-verdict}
+use Rattle.automaton.specs.Works.{Small, back-done}
+use Rattle.automaton.specs.States.{tells-21, tells-22, tells-23}
+use Rattle.automaton.specs.Lowest.{fault-found, none-found, fault-there, none-there}
+use Rattle.automaton.specs.OnPaths.{OnPaths, broken25, broken26, neither, same-on-paths, path-verdict, paths-same}
 
 -- ---- one number over all states
 
@@ -54,6 +55,27 @@ module _ (a : Automaton) (P : ℕ → Type 0) (test : ℕ → Bool) (t : (q : �
       go true e = absurd (none-there a P test t h (ltb-true (lowest test 0 (a .states)) (a .states) e))
       go false e = refl
 
+-- ---- 24 to 26
+
+pub tells-24 : (a : Automaton) → InRange a → (q : ℕ) → q < a .states → Tells (flag (toFinal a) q) (ToFinal a q)
+tells-24 a ok q l = back-done a ok .tells q (omega (arith, ok .states))
+
+-- the verdict does not depend on how it is said what the transitions emit
+pub way-same : (a : Automaton) (f g : Output → ℕ → ℕ) → InRange a → Small a f → Bounded a f → Small a g → Bounded a g
+    → ((i e : ℕ) → i < a .count → f (move a i .output) e ≡ g (move a i .output) e) → wayVerdict a f ≡ wayVerdict a g
+unfolding wayVerdict
+way-same a f g ok sf bf sg bg same = go (ltb low (a .states)) refl
+  where
+    low : ℕ
+    low = lowest (flag (toFinal a)) 0 (a .states)
+
+    go : (b : Bool) → ltb low (a .states) ≡ b
+        → pick b (Verdict.Refused Fault.NoWayToFinal low) (pathVerdict a f) ≡ pick b (Verdict.Refused Fault.NoWayToFinal low) (pathVerdict a g)
+    go true e = refl
+    go false e =
+        let ways = none-found a (ToFinal a) (flag (toFinal a)) (tells-24 a ok) (λ l. omega (arith, ltb-false low (a .states) e)) in
+        same-on-paths (paths-same a f g same (path-verdict a f ok sf bf ways)) (path-verdict a g ok sg bg ways)
+
 -- ---- the whole verdict
 
 -- no path breaks 25: an event is processed only while more have been emitted, and none is left at a final state
@@ -78,7 +100,7 @@ module _ (p : Plan) (limits : InLimits p) where
   t23 b q l = tells-23 a (outcomesOf p) q (b q l)
 
   t24 : (q : ℕ) → q < a .states → Tells (flag (toFinal a) q) (ToFinal a q)
-  t24 q l = back-done a (in-range p limits) .tells q (omega (arith, limits .states .1))
+  t24 = tells-24 a (in-range p limits)
 
   paths : EveryState a (ToFinal a) → OnPaths a (emits p) (pathVerdict a (emits p))
   paths w = path-verdict a (emits p) (in-range p limits) (emits-small p limits) (emits-bounded p limits) w
@@ -99,7 +121,7 @@ module _ (p : Plan) (limits : InLimits p) where
 
   -- the computed verdict is one that the rules give
   pub judged : Judges p (automatonVerdict p)
-  unfolding automatonVerdict stateVerdict
+  unfolding automatonVerdict stateVerdict wayVerdict
   judged =
       stage a (NoWayOut a) (noWayOut a) (λ q l. tells-21 a q) Fault.WayOutOfFinal _ (Judges p) (λ s x. number21 x) (λ e.
       stage a (Branches a) (branches a) (λ q l. tells-22 a q) Fault.ForbiddenBranch _ (Judges p) (λ s x. number22 e x) (λ b.
@@ -117,7 +139,7 @@ module _ (p : Plan) (limits : InLimits p) where
   from22 = orElse a Fault.ForbiddenBranch (lowest (branches a) 0 (a .states)) from23
 
   past21 : EveryState a (NoWayOut a) → automatonVerdict p ≡ from22
-  unfolding automatonVerdict stateVerdict
+  unfolding automatonVerdict stateVerdict wayVerdict
   past21 e = passes a (NoWayOut a) (noWayOut a) (λ q l. tells-21 a q) Fault.WayOutOfFinal from22 e
 
   past22 : EveryState a (NoWayOut a) → EveryState a (Branches a) → automatonVerdict p ≡ from23
@@ -132,7 +154,7 @@ module _ (p : Plan) (limits : InLimits p) where
 
   -- and they give no other
   pub determined : (v : Verdict) → Judges p v → automatonVerdict p ≡ v
-  unfolding automatonVerdict stateVerdict
+  unfolding automatonVerdict stateVerdict wayVerdict
   determined v (number21 {s} x) = at-fault a (NoWayOut a) (noWayOut a) (λ q l. tells-21 a q) Fault.WayOutOfFinal from22 s x
   determined v (number22 {s} e x) = past21 e ∙ at-fault a (Branches a) (branches a) (λ q l. tells-22 a q) Fault.ForbiddenBranch from23 s x
   determined v (number23 {s} e b x) = past22 e b ∙ at-fault a (Serves a (outcomesOf p)) (serves a (outcomesOf p)) (t23 b) Fault.OutcomeMissing from24 s x

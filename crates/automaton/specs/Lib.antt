@@ -8,6 +8,7 @@ pub mod Counts
 pub mod Passes
 pub mod Works
 pub mod States
+pub mod Lowest
 pub mod Bounds
 pub mod OnPaths
 pub mod Decides

@@ -159,13 +159,16 @@ pathVerdict a gives = judgeCounts a gives (explored a gives)
 abbrev pub orElse : Automaton → Fault → ℕ → Verdict → Verdict
 orElse a f s after = pick (ltb s (a .states)) (Verdict.Refused f s) after
 
--- numbers 21 to 24, and what comes after them
+-- numbers 24 to 26
+unfoldable pub wayVerdict : Automaton → (Output → ℕ → ℕ) → Verdict
+wayVerdict a gives = orElse a Fault.NoWayToFinal (lowest (flag (toFinal a)) 0 (a .states)) (pathVerdict a gives)
+
+-- numbers 21 to 23, and what comes after them
 unfoldable pub stateVerdict : Automaton → (ℕ → ℕ) → Verdict → Verdict
 stateVerdict a outcomes after =
     orElse a Fault.WayOutOfFinal (lowest (noWayOut a) 0 (a .states))
     (orElse a Fault.ForbiddenBranch (lowest (branches a) 0 (a .states))
-    (orElse a Fault.OutcomeMissing (lowest (serves a outcomes) 0 (a .states))
-    (orElse a Fault.NoWayToFinal (lowest (flag (toFinal a)) 0 (a .states)) after)))
+    (orElse a Fault.OutcomeMissing (lowest (serves a outcomes) 0 (a .states)) after))
 
 unfoldable pub automatonVerdict : Plan → Verdict
-automatonVerdict p = stateVerdict (p .automaton) (outcomesOf p) (pathVerdict (p .automaton) (emits p))
+automatonVerdict p = stateVerdict (p .automaton) (outcomesOf p) (wayVerdict (p .automaton) (emits p))

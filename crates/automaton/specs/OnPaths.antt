@@ -13,7 +13,7 @@ use Rattle.plan.specs.declared.Verdict.{Verdict}
 use Rattle.plan.specs.Plan.{move, isFinal}
 use Rattle.automaton.specs.declared.Explored.{Explored}
 use Rattle.automaton.specs.Tests.{at, flag, pick, both, all, Tells, told-true, told-false, tells, tells-eqb, tells-leb, both-tells, both-left, both-right, all-true, all-false, true-false}
-use Rattle.automaton.specs.Rules.{ToFinal, EveryState, takes, Breaks25, Breaks26}
+use Rattle.automaton.specs.Rules.{Path, none, more, ToFinal, EveryState, takes, emitted, Breaks25, unemitted, leftover, Breaks26}
 use Rattle.automaton.specs.Number.{explored, fits, keepsMove, keeps, clear, few, judgeCounts, pathVerdict}
 use Rattle.automaton.specs.Counts.{InRange, Bounded, Known, Keeps, Kept, Clash, Left, Crowd, not-25, crowd-of, crowd-26, left-25, clash-25}
 use Rattle.automaton.specs.Works.{Small, explored-known}
@@ -98,7 +98,7 @@ module _ (a : Automaton) (gives : Output → ℕ → ℕ) (ok : InRange a) where
         let c = only-fails (both (flag (x .reached) (s .0)) (isFinal a (s .0))) _ (s .2) in
         let e = all-false 16 (λ e. eqb (at (x .counts) (16 * s .0 + e)) 0) (c .1) in
         let z = told-false (tells-eqb (at (x .counts) (16 * s .0 + e .0)) 0) (e .2) in
-        record { state = s .0; event = e .0; named = e .1; reached = both-left _ _ (c .0); final = both-right _ _ (c .0); some = omega (arith, z) }
+        record { state = s .0; low = omega (arith, s .1, ok .states); event = e .0; named = e .1; reached = both-left _ _ (c .0); final = both-right _ _ (c .0); some = omega (arith, z) }
 
     fewAt : ℕ → Bool
     fewAt s = pick (flag (x .reached) s) (all 16 (λ e. leb (at (x .counts) (16 * s + e)) 8)) true
@@ -117,7 +117,7 @@ module _ (a : Automaton) (gives : Output → ℕ → ℕ) (ok : InRange a) where
         let c = only-fails (flag (x .reached) (s .0)) _ (s .2) in
         let e = all-false 16 (λ e. leb (at (x .counts) (16 * s .0 + e)) 8) (c .1) in
         let z = told-false (tells-leb (at (x .counts) (16 * s .0 + e .0)) 8) (e .2) in
-        record { state = s .0; event = e .0; named = e .1; reached = c .0; many = omega (arith, z) }
+        record { state = s .0; low = omega (arith, s .1, ok .states); event = e .0; named = e .1; reached = c .0; many = omega (arith, z) }
 
     -- the counts decide 25 and 26 for all paths
     judge-counts : Bounded a gives → EveryState a (ToFinal a) → OnPaths a gives (judgeCounts a gives x)
@@ -137,3 +137,23 @@ module _ (a : Automaton) (gives : Output → ℕ → ℕ) (ok : InRange a) where
   pub path-verdict : Small a gives → Bounded a gives → EveryState a (ToFinal a) → OnPaths a gives (pathVerdict a gives)
   unfolding pathVerdict
   path-verdict small bound ways = judge-counts (explored a gives) (explored-known a gives ok small) bound ways
+
+-- ---- two ways to say what the transitions emit
+
+module _ (a : Automaton) (f g : Output → ℕ → ℕ) (same : (i e : ℕ) → i < a .count → f (move a i .output) e ≡ g (move a i .output) e) where
+  emitted-same : (e : ℕ) {s q : ℕ} (w : Path a s q) → emitted a f e w ≡ emitted a g e w
+  emitted-same e none = refl
+  emitted-same e (more w i l t) = omega (arith, emitted-same e w, same i e (l .low))
+
+  same-25 : Breaks25 a f → Breaks25 a g
+  same-25 (unemitted w e o x z) = unemitted w e o x (omega (arith, emitted-same e w))
+  same-25 (leftover w e x z) = leftover w e x (omega (arith, emitted-same e w))
+
+  same-26 : Breaks26 a f → Breaks26 a g
+  same-26 b = record { state = b .state; path = b .path; event = b .event; many = omega (arith, b .many, emitted-same (b .event) (b .path)) }
+
+pub paths-same : (a : Automaton) (f g : Output → ℕ → ℕ) → ((i e : ℕ) → i < a .count → f (move a i .output) e ≡ g (move a i .output) e)
+    → {v : Verdict} → OnPaths a f v → OnPaths a g v
+paths-same a f g same (broken25 b) = broken25 (same-25 a f g same b)
+paths-same a f g same (broken26 n b) = broken26 (λ c. n (same-25 a g f (λ i e l. sym (same i e l)) c)) (same-26 a f g same b)
+paths-same a f g same (neither n m) = neither (λ c. n (same-25 a g f (λ i e l. sym (same i e l)) c)) (λ c. m (same-26 a g f (λ i e l. sym (same i e l)) c))

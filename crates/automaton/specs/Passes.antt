@@ -7,12 +7,12 @@ use native.Mathlib.Omega.{arith}
 use native.Mathlib.Decide.{ℕ-discrete}
 use borrow.Author.Count.{below-more}
 use lib.ListN.{length, set, replicate, length-set}
-use lib.Seq.{getD-set-same, getD-set-other}
+use lib.Seq.{getD-set-same, getD-set-other, ext-getD}
 use Rattle.plan.specs.declared.Input.{Input}
 use Rattle.plan.specs.declared.Output.{Output}
 use Rattle.plan.specs.declared.Automaton.{Automaton}
 use Rattle.plan.specs.Plan.{move, isFinal}
-use Rattle.automaton.specs.Tests.{at, flag, Tells, true-false, told-true, tells-true}
+use Rattle.automaton.specs.Tests.{at, flag, Tells, true-false, tells-same}
 use Rattle.automaton.specs.Rules.{Leaves, Path, none, more, ToFinal, takes, processed, emitted}
 use Rattle.automaton.specs.Number.{falses}
 use Rattle.automaton.specs.Counts.{InRange, Witness, Ready, Known}
@@ -61,6 +61,9 @@ pub record Backing (a : Automaton) (D : List Bool) (i : ℕ) (E : List Bool) (ch
 pub record BackTo (a : Automaton) (E : List Bool) : Type 0 where
   pub long : length E ≡ 64
   pub tells : (s : ℕ) → s < 64 → Tells (flag E s) (ToFinal a s)
+
+pub same-back : (a : Automaton) (D E : List Bool) → BackTo a D → BackTo a E → D ≡ E
+same-back a D E b c = ext-getD false D E (b .long ∙ sym (c .long)) (λ s l. tells-same (ToFinal a s) (b .tells s (omega (arith, b .long))) (c .tells s (omega (arith, b .long))))
 
 pub back-starts : (a : Automaton) (F : List Bool) → length F ≡ 64 → ((s : ℕ) → s < 64 → flag F s ≡ isFinal a s) → Backing a F 0 F false
 back-starts a F l h = record {

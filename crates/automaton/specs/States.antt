@@ -15,9 +15,9 @@ use Rattle.plan.specs.Plan.{pastMove, move, movesOf, isFinal}
 use Rattle.automaton.specs.declared.Next.{Next}
 use Rattle.automaton.specs.declared.Chosen.{Chosen}
 use Rattle.automaton.specs.Tests.{pick, both, all, Tells, told-true, told-false, tells, tells-eqb, both-tells, both-left, both-right, all-tells, true-false}
-use Rattle.automaton.specs.Rules.{Leaves, Processes, NoWayOut, Branch, Branches, Serves, EveryState, LowestAtFault}
+use Rattle.automaton.specs.Rules.{Leaves, Processes, NoWayOut, Branch, Branches, Serves}
 use Rattle.automaton.specs.Next.{onInput, nextFrom, nextOf, carries, chosenFrom, chosenOf}
-use Rattle.automaton.specs.Number.{lowest, isEnded, noWayOut, apart, apartFrom, branchesIn, branches, isMove, servesNext, serves}
+use Rattle.automaton.specs.Number.{isEnded, noWayOut, apart, apartFrom, branchesIn, branches, isMove, servesNext, serves}
 
 -- ---- inputs
 
@@ -232,49 +232,3 @@ tells-23 a outcomes s branches = go (nextOf a s) (next-is a s)
         tells (all (outcomes e) (λ q. isMove (chosenOf a s e q)))
         (λ h f u y q l. let z = one-event e o f u x y in subst (λ (g : ℕ). Processes a s g q) z (told-true test h q (subst (λ (g : ℕ). q < outcomes g) (sym z) l)))
         (λ h y. told-false test h (λ q l. y e o x q l))
-
--- ---- the lowest state that fails
-
-pub record LowestIs (test : ℕ → Bool) (s n r : ℕ) : Type 0 where
-  pub low : s ≤ r
-  pub high : r ≤ s + n
-  pub below : (q : ℕ) → s ≤ q → q < r → test q ≡ true
-  pub here : r < s + n → test r ≡ false
-
-pub lowest-is : (test : ℕ → Bool) (s n : ℕ) → LowestIs test s n (lowest test s n)
-unfolding lowest
-lowest-is test s zero = record { low = omega arith; high = omega arith; below = λ q l m. absurd (omega arith); here = λ l. absurd (omega arith) }
-lowest-is test s (suc n) = go (test s) refl (lowest-is test (s + 1) n)
-  where
-    go : (b : Bool) → test s ≡ b → LowestIs test (s + 1) n (lowest test (s + 1) n) → LowestIs test s (suc n) (pick b (lowest test (s + 1) n) s)
-    go true e x = record {
-      low = omega (arith, x .low);
-      high = omega (arith, x .high);
-      below = λ q l m. elim (ℕ-discrete q s) [ yes z ↦ ap test z ∙ e | no z ↦ x .below q (omega (arith, z)) m ];
-      here = λ l. x .here (omega arith);
-    }
-    go false e x = record { low = omega arith; high = omega arith; below = λ q l m. absurd (omega arith); here = λ l. e }
-
-module _ (a : Automaton) (P : ℕ → Type 0) (test : ℕ → Bool) (t : (q : ℕ) → q < a .states → Tells (test q) (P q)) where
-  abbrev low : ℕ
-  low = lowest test 0 (a .states)
-
-  pub fault-found : low < a .states → LowestAtFault a P low
-  fault-found l =
-      let x = lowest-is test 0 (a .states) in
-      record { low = l; fault = told-false (t low l) (x .here (omega arith)); below = λ q m. told-true (t q (omega arith)) (x .below q (omega arith) m) }
-
-  pub none-found : (low < a .states → ⊥) → EveryState a P
-  none-found h q l = let x = lowest-is test 0 (a .states) in told-true (t q l) (x .below q (omega arith) (omega (arith, h)))
-
-  pub fault-there : (s : ℕ) → LowestAtFault a P s → low ≡ s
-  fault-there s f = elim (decLt low s) [
-    | yes l ↦ absurd (told-false (t low (omega (arith, f .low))) (x .here (omega (arith, f .low))) (f .below low l))
-    | no l ↦ elim (decLt s low) [ yes m ↦ absurd (f .fault (told-true (t s (f .low)) (x .below s (omega arith) m))) | no m ↦ omega arith ]
-  ]
-    where
-      x : LowestIs test 0 (a .states) low
-      x = lowest-is test 0 (a .states)
-
-  pub none-there : EveryState a P → low < a .states → ⊥
-  none-there h l = let x = lowest-is test 0 (a .states) in told-false (t low l) (x .here (omega arith)) (h low l)

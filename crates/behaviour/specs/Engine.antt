@@ -72,7 +72,7 @@ behind (x ∷ xs) = xs
 -- the queue of f, less the instance that is processed
 abbrev pub taken : Input → State → ℕ → List ℕ
 taken Input.Nothing s f = s .queue f
-taken (Input.Outcome e u) s f = cond (eqb f e) (behind (s .queue f)) (s .queue f)
+taken (Input.Outcome e u) s f = cond (eqb e f) (behind (s .queue f)) (s .queue f)
 
 -- From the state s to the state s′, with the times S and C of the activity's nodes and, for each event, the order in
 -- which it emits the nodes of the event. "A transition processes first, then emits."

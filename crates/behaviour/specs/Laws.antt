@@ -11,4 +11,5 @@ pub mod Unique
 pub mod Computed
 pub mod Exists
 pub mod Counts
+pub mod Later
 pub mod Plans

@@ -2,27 +2,30 @@
 -- than processed, and so for every word of an accepted plan:
 -- the engine's times, one transition at a time, are the times of the combined activity of the whole word (Def. 7, 8, 11),
 -- and there are no others.
-use mathlib.Core.Path.{_≡_, refl, ap, _∙_, subst}
+use mathlib.Core.Path.{_≡_, ap, _∙_, subst}
 use mathlib.Core.List.{List}
 use mathlib.Core.Logic.{_↔_}
-use Prim.Native.Nat.{ℕ, _≤_, _<_}
+use Prim.Native.Nat.{ℕ, _+_, _≤_, _<_}
 use native.Mathlib.Omega.{arith}
-use borrow.Author.Tests.{eq-eqb, ne-eqb}
 use Rattle.plan.specs.declared.Kind.{Kind}
+use Rattle.plan.specs.declared.Input.{Input}
 use Rattle.plan.specs.declared.Plan.{Plan}
 use Rattle.plan.specs.Plan.{resourceOf}
 use Rattle.behaviour.specs.Word.{Step, Word, _▷_, Begins, size, times}
 use Rattle.behaviour.specs.Accepted.{GoodWord, Counted}
-use Rattle.behaviour.specs.Combined.{Ident, identity, NotRelease, Is, Before, combined}
+use Rattle.behaviour.specs.Combined.{Ident, identity, NotRelease, Is, Before, Instance, combined}
 use Rattle.behaviour.specs.Times.{Timing}
 use Rattle.behaviour.specs.Engine.{State, Trace, Run}
-use Rattle.behaviour.specs.Exec.{stateOf, startsOf, endsOf, traceOf, startIn, endIn}
+use Rattle.behaviour.specs.Exec.{oldestOf, floorOf, stateOf, startsOf, endsOf, traceOf, startIn, endIn}
 use Rattle.behaviour.specs.Paths.{wordOf, Follows, Lawful}
 use Rattle.behaviour.specs.Laws.Exists.{Ready, runs, state-after}
+use Rattle.behaviour.specs.Laws.Exists as Exists
 use Rattle.behaviour.specs.Laws.TimesEqual.{Equal, Emitted, after}
 use Rattle.behaviour.specs.Laws.TimesEqual as TimesEqual
 use Rattle.behaviour.specs.Laws.Unique as Unique
 use Rattle.behaviour.specs.Laws.Counts as Counts
+use Rattle.behaviour.specs.Laws.Later.{oldest-is, start-from}
+use Rattle.behaviour.specs.Laws.Unique.{good-beginning}
 use Rattle.behaviour.specs.Laws.Plans.{good-path, counted-path}
 
 -- ---- any computation that goes the engine's way
@@ -47,24 +50,19 @@ ready-iff = Counts.ready-iff
 
 -- ---- the engine's times by identity, over a word
 
-module _ (available : ℕ → ℕ) where
-  -- at the last position they are those of the last transition
-  pub last-start : (w : Word) (x : Step) (n : ℕ) → startIn available (w ▷ x) (identity (size w) n) ≡ startsOf x (stateOf available w) n
-  unfolding traceOf
-  last-start w x n = rw (eq-eqb (size w) (size w) refl)
+-- at the last position they are those of the last transition
+pub last-start : (available : ℕ → ℕ) (w : Word) (x : Step) (n : ℕ) → startIn available (w ▷ x) (identity (size w) n) ≡ startsOf x (stateOf available w) n
+last-start = Exists.last-start
 
-  pub last-end : (w : Word) (x : Step) (n : ℕ) → endIn available (w ▷ x) (identity (size w) n) ≡ endsOf x (stateOf available w) n
-  unfolding traceOf
-  last-end w x n = rw (eq-eqb (size w) (size w) refl)
+pub last-end : (available : ℕ → ℕ) (w : Word) (x : Step) (n : ℕ) → endIn available (w ▷ x) (identity (size w) n) ≡ endsOf x (stateOf available w) n
+last-end = Exists.last-end
 
-  -- at earlier positions they are as before
-  pub kept-start : (w : Word) (x : Step) (p n : ℕ) → p < size w → startIn available (w ▷ x) (identity p n) ≡ startIn available w (identity p n)
-  unfolding traceOf
-  kept-start w x p n l = rw (ne-eqb p (size w) (λ e. omega arith))
+-- at earlier positions they are as before
+pub kept-start : (available : ℕ → ℕ) (w : Word) (x : Step) (p n : ℕ) → p < size w → startIn available (w ▷ x) (identity p n) ≡ startIn available w (identity p n)
+kept-start = Exists.kept-start
 
-  pub kept-end : (w : Word) (x : Step) (p n : ℕ) → p < size w → endIn available (w ▷ x) (identity p n) ≡ endIn available w (identity p n)
-  unfolding traceOf
-  kept-end w x p n l = rw (ne-eqb p (size w) (λ e. omega arith))
+pub kept-end : (available : ℕ → ℕ) (w : Word) (x : Step) (p n : ℕ) → p < size w → endIn available (w ▷ x) (identity p n) ≡ endIn available w (identity p n)
+kept-end = Exists.kept-end
 
 module _ (R : ℕ) (belongs available : ℕ → ℕ) (w : Word) (good : GoodWord R belongs w) (counted : Counted w) where
   run : Run R available (traceOf available w) w
@@ -96,6 +94,15 @@ module _ (R : ℕ) (belongs available : ℕ → ℕ) (w : Word) (good : GoodWord
   -- what is before a node has completed when it starts
   pub before-ends : (m n : Ident) → Before (combined R w) m n → endIn available w m ≤ startIn available w n
   before-ends = Unique.before-ends (combined R w) (size w) available (startIn available w) (endIn available w) (Unique.shape-of R belongs w good) times-equal
+
+-- nothing that a transition emits, or a later one, starts before the instance that the transition processes has completed
+pub held-back : (R : ℕ) (belongs available : ℕ → ℕ) (w v : Word) (x : Step) (e u : ℕ) → GoodWord R belongs v → Counted w → x .input ≡ Input.Outcome e u → Begins (w ▷ x) v → (y : Ident) → Instance (combined R w) e (times e w + 1) y → (q n : ℕ) (k : Kind) (d : ℕ) → size w ≤ q → combined R v .Holds (identity q n) k d → endIn available w y ≤ startIn available v (identity q n)
+held-back R belongs available w v x e u ok counted is b y i q n k d l h =
+    start-from R belongs available (endIn available w y) w x v b ok
+    (let o = oldest-is (combined R w) e (times e w) (endIn available w) (stateOf available w .queue e) (queue-equal R belongs available w (good-beginning R belongs available (w ▷ x) v ok b .0) counted e) y i in
+    let f : floorOf (x .input) (stateOf available w) ≡ oldestOf (stateOf available w .queue e) = ap (λ (z : Input). floorOf z (stateOf available w)) is in
+    omega arith)
+    q n k d l h
 
 -- ---- the words of an accepted plan
 

@@ -32,7 +32,7 @@ size (w ▷ x) = suc (size w)
 -- Def. 8, |w|^e: "the number of times e is processed in w"
 abbrev pub once : ℕ → Input → ℕ
 once e Input.Nothing = 0
-once e (Input.Outcome f u) = cond (eqb e f) 1 0
+once e (Input.Outcome f u) = cond (eqb f e) 1 0
 
 abbrev pub times : ℕ → Word → ℕ
 times e τ = 0

@@ -15,7 +15,7 @@ use Rattle.behaviour.specs.Combined.{Ident}
 use Rattle.behaviour.specs.Combined as C
 use Rattle.behaviour.specs.Times.{Timing}
 use Rattle.behaviour.specs.Paths.{Follows}
-use Rattle.run.specs.Loading.{takenBy}
+use Rattle.path.specs.Path.{takenBy}
 use Rattle.run.specs.Opening.{atFirst, availabilities}
 use Rattle.log.specs.Log.{Id}
 use Rattle.demands.specs.Accepted.{accepted}

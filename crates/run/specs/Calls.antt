@@ -87,11 +87,15 @@ completed run t position node = reported run position node (λ i e. completedBy 
 abbrev pub tell : Instance → ℕ → Instance
 tell x o = record { position = x .position; node = x .node; end = x .end; told = Told.Outcome o }
 
+-- the instance of the node (position, node)
+unfoldable pub isInstance : ℕ → ℕ → Instance → Bool
+isInstance position node x = eqb (x .position) position && eqb (x .node) node
+
 -- the outcome o of the instance (position, node), among the k pending ones from place i on
 unfoldable pub toldFrom : ℕ → ℕ → ℕ → ℕ → ℕ → List Instance → List Instance
 toldFrom position node o i zero xs = xs
 toldFrom position node o i (suc k) xs =
-    cond (eqb (getD xs i noInstance .position) position && eqb (getD xs i noInstance .node) node)
+    cond (isInstance position node (getD xs i noInstance))
     (set xs i (tell (getD xs i noInstance) o))
     (toldFrom position node o (i + 1) k xs)
 

@@ -29,7 +29,8 @@ use Rattle.window.specs.Window.{vacant}
 use Rattle.timing.specs.Times.{specified}
 use Rattle.timing.specs.Queues.{noInstance}
 use Rattle.run.specs.Limits.{slackInLimits}
-use Rattle.run.specs.Loading.{isWork, load}
+use Rattle.path.specs.Path.{isWork}
+use Rattle.run.specs.Loading.{load}
 
 -- ---- the run at its opening
 

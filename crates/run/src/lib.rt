@@ -1,4 +1,6 @@
 // A run of a plan against the host's clock: types. Document 01, sections "A run" and "Who can cause which number".
+mod told;
+
 use plan::Fault;
 use plan::Plan;
 use time::Clock;

@@ -17,7 +17,8 @@ use Rattle.automaton.specs.declared.Next.{Next}
 use Rattle.automaton.specs.declared.Chosen.{Chosen}
 use Rattle.timing.specs.declared.Progress.{Progress}
 use Rattle.window.specs.declared.Entry.{Entry}
-use Rattle.run.specs.Loading.{takenBy, entriesBy, onChosen}
+use Rattle.path.specs.Path.{takenBy, entriesBy}
+use Rattle.run.specs.Loading.{onChosen}
 use Rattle.timing.specs.Times.{specified}
 use Rattle.run.specs.Opening.{atFirst}
 use Rattle.table.specs.Text.{decimal, line, wordPosition, wordActivity, wordNode, wordStart, wordEnd, wordFree, wordWaits, wordRefused}

@@ -4,4 +4,5 @@ pub mod Times
 pub mod Queues
 pub mod Engine
 pub mod Limits
+pub mod Inner
 pub mod Example

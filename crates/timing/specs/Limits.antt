@@ -61,3 +61,14 @@ pub record ActivityFits (resources events : ℕ) (a : Activity) : Type 0 where
 abbrev pub InputFits : ℕ → Input → Type 0
 InputFits events Input.Nothing = Unit {0}
 InputFits events (Input.Outcome e o) = e < events
+
+-- a transition of a plan within its limits, at a place within them
+pub record StepFits (resources : ℕ) (a : Activity) (i : Input) (g : Progress) : Type 0 where
+  pub events : ℕ
+  pub states : ℕ
+  pub outcomes : List ℕ
+  pub few-resources : resources ≤ 16
+  pub few-events : events ≤ 16
+  pub activity : ActivityFits resources events a
+  pub input : InputFits events i
+  pub progress : ProgressInLimits resources events states outcomes g

@@ -1,6 +1,10 @@
 // Specified times: one transition at a time, as document 01's section "Specified times" describes it.
 use time::Specified;
 
+pub mod engine; // one transition
+pub mod queues; // the pending instances
+pub mod times; // the nodes of one activity
+
 // What was reported of an emitted instance of an event.
 pub enum Told {
     Nothing,

@@ -1,56 +1,42 @@
 -- Placing entries in one scan: the places passed are as they will be, and the rest of the entries goes into the rest of the places.
 use mathlib.Core.Path.{_≡_, refl, sym, _∙_, ap}
-use mathlib.Core.Bool.{Bool, true, false, cond}
+use mathlib.Core.Bool.{Bool, true, false}
 use mathlib.Core.List.{List, [], _∷_, _++_, append-assoc}
 use Prim.Native.Nat.{ℕ, zero, suc, _+_, _≤_, _<_}
 use native.Mathlib.Omega.{arith}
 use native.Mathlib.Numerals.{add-one}
-use lib.ListN.{length, getD, take, drop, set, take-append-drop, drop-of-length-le, length-take, length-set}
-use lib.Seq.{take-nil, drop-nil, take-suc, drop-cons, take-suc-set, drop-set-lt, getD-take}
+use lib.ListN.{length, getD, take, drop, set, take-append-drop, drop-of-length-le}
+use lib.Seq.{take-nil, drop-nil, take-suc, drop-cons, take-suc-set, drop-set-lt}
 use Rattle.window.specs.declared.Entry.{Entry}
 use Rattle.window.specs.Window.{isFree, placed}
+use Rattle.window.specs.Placed.{placed-nothing, placed-none, placed-first, placed-past}
 
 -- the places before `at` as they are, and the entries in the free ones from there on
 abbrev pub placedFrom : ℕ → List Entry → List Entry → List Entry
 placedFrom at w es = take at w ++ placed (drop at w) es
 
-pub placed-none : (w : List Entry) → placed w [] ≡ w
-unfolding placed
-placed-none [] = refl
-placed-none (x ∷ w) = refl
-
 pub from-spent : (at : ℕ) (w : List Entry) → placedFrom at w [] ≡ w
 from-spent at w = rw (placed-none (drop at w)) (take-append-drop at w)
 
 pub from-end : (at : ℕ) (w es : List Entry) → length w ≤ at → placedFrom at w es ≡ w
-unfolding placed
-from-end at w es h = rw (drop-of-length-le w h) (rw (sym (drop-of-length-le w h)) (take-append-drop at w))
+from-end at w es h = rw (drop-of-length-le w h, placed-nothing es) (rw (sym (drop-of-length-le w h)) (take-append-drop at w))
 
 pub from-start : (w es : List Entry) → placed w es ≡ placedFrom 0 w es
 from-start w es = refl
 
 -- ---- one place further
 
-placed-held : (x : Entry) (w es : List Entry) → isFree (x .phase) ≡ false → placed (x ∷ w) es ≡ x ∷ placed w es
-unfolding placed
-placed-held x w [] f = ap (λ (l : List Entry). x ∷ l) (sym (placed-none w))
-placed-held x w (e ∷ es) f = rw f
-
-placed-free : (x : Entry) (w : List Entry) (e : Entry) (es : List Entry) → isFree (x .phase) ≡ true → placed (x ∷ w) (e ∷ es) ≡ e ∷ placed w es
-unfolding placed
-placed-free x w e es f = rw f
-
 module _ (w : List Entry) (d : Entry) (at : ℕ) (h : at < length w) where
   pub from-held : (es : List Entry) {b : Bool} → b ≡ isFree (getD w at d .phase) → b ≡ false → placedFrom at w es ≡ placedFrom (at + 1) w es
   from-held es e f =
       rw (add-one, take-suc w at d, append-assoc, drop-cons w at d)
-      (ap (λ (l : List Entry). take at w ++ l) (placed-held (getD w at d) (drop (suc at) w) es (sym e ∙ f)))
+      (ap (λ (l : List Entry). take at w ++ l) (placed-past (getD w at d) (drop (suc at) w) es (sym e ∙ f)))
 
   pub from-free : (x : Entry) (es : List Entry) {b : Bool} → b ≡ isFree (getD w at d .phase) → b ≡ true
       → placedFrom at w (x ∷ es) ≡ placedFrom (at + 1) (set w at x) es
   from-free x es e f =
       rw (add-one, take-suc-set w at x, append-assoc, drop-set-lt (suc at) w at x (omega arith), drop-cons w at d)
-      (ap (λ (l : List Entry). take at w ++ l) (placed-free (getD w at d) (drop (suc at) w) x es (sym e ∙ f)))
+      (ap (λ (l : List Entry). take at w ++ l) (placed-first (getD w at d) (drop (suc at) w) x es (sym e ∙ f)))
 
 -- ---- one entry further
 

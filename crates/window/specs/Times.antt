@@ -2,8 +2,8 @@
 use mathlib.Core.Path.{_≡_}
 use mathlib.Core.Bool.{true}
 use mathlib.Core.List.{List}
-use Prim.Native.Nat.{ℕ, _≤_, _<_}
-use lib.ListN.{length, getD}
+use Prim.Native.Nat.{ℕ, _≤_}
+use lib.ListN.{getD}
 use Rattle.time.specs.Time.{horizon}
 use Rattle.window.specs.declared.Entry.{Entry}
 use Rattle.window.specs.Window.{vacant, isHeld}
@@ -14,4 +14,4 @@ InTime e = isHeld (e .phase) ≡ true → (e .start .0 ≤ horizon) × (e .end .
 
 -- of every place
 abbrev pub AllInTime : List Entry → Type 0
-AllInTime ws = (i : ℕ) → i < length ws → InTime (getD ws i vacant)
+AllInTime w = (i : ℕ) → InTime (getD w i vacant)

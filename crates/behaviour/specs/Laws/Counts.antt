@@ -1,5 +1,5 @@
 -- An instance can be processed exactly while more of its event have been emitted than processed.
-use mathlib.Core.Path.{_≡_, refl, ap, subst}
+use mathlib.Core.Path.{_∙_, sym, _≡_, refl, ap, subst}
 use mathlib.Core.Bool.{Bool, true, false, cond}
 use mathlib.Core.Logic.{_↔_}
 use mathlib.Core.List.{List, [], _∷_, _++_, map}
@@ -15,6 +15,7 @@ use Rattle.behaviour.specs.Word.{isEvent, emittedIn, emissions, Word, τ
 use Rattle.behaviour.specs.Accepted.{GoodWord, Enough, Counted}
 use Rattle.behaviour.specs.Combined.{Ident, named, Instance, processing, combined}
 use Rattle.behaviour.specs.Exec.{insert, emitsBelow, emitsOf, rankOf}
+use Rattle.behaviour.specs.Laws.Lists.{cut-same}
 use Rattle.behaviour.specs.Laws.Instances.{Listing, instance-cut, next-instance, listing-grows}
 use Rattle.behaviour.specs.Laws.TimesEqual.{empty-listing}
 use Rattle.behaviour.specs.Laws.Unique.{shape-of}
@@ -75,6 +76,14 @@ module _ (R : ℕ) (belongs : ℕ → ℕ) where
             let l4 = o .2 in
             omega arith),
       )
+
+  -- there is at most one instance k
+  pub one-instance : (w : Word) → GoodWord R belongs w → (e k : ℕ) (y z : Ident) → Instance (combined R w) e (k + 1) y → Instance (combined R w) e (k + 1) z → y ≡ z
+  one-instance w ok e k y z g h =
+      let o = listed e w ok in
+      let c = instance-cut (combined R w) e (o .0) (o .1) k y g in
+      let d = instance-cut (combined R w) e (o .0) (o .1) k z h in
+      cut-same (c .0) (d .0) y z (c .1) (d .1) (c .3 ∙ sym (d .3)) (sym (c .2) ∙ d .2)
 
   -- the next instance to process exists exactly if more have been emitted
   pub enough-iff : (w : Word) → GoodWord R belongs w → (i : Input) → Emitted-before R w i ↔ Enough w i

@@ -1,7 +1,7 @@
 -- Every good word in which the processed instances exist has a run of the engine, and so its combined activity has times.
 use mathlib.Core.Path.{_≡_, refl, ap, _∙_}
 use mathlib.Core.List.{List, [], _∷_, _++_, map}
-use Prim.Native.Nat.{ℕ, suc, _+_, _≤_}
+use Prim.Native.Nat.{_<_, ℕ, suc, _+_, _≤_}
 use native.Mathlib.Omega.{arith}
 use lib.ListN.{length, length-append}
 use borrow.Author.Tests.{eq-eqb, ne-eqb, le-leb, lt-leb}
@@ -9,9 +9,9 @@ use Rattle.plan.specs.declared.Input.{Input}
 use Rattle.plan.specs.declared.Input.the-variants.{Nothing, Outcome}
 use Rattle.behaviour.specs.Word.{Step, Word, τ, _▷_, size, times}
 use Rattle.behaviour.specs.Accepted.{Good, GoodWord}
-use Rattle.behaviour.specs.Combined.{Ident, Instance, combined}
+use Rattle.behaviour.specs.Combined.{identity, Ident, Instance, combined}
 use Rattle.behaviour.specs.Engine.{State, Trace, Steps, Floor, Run, opens, goes, endAt}
-use Rattle.behaviour.specs.Exec.{emitsOf, oldestOf, floorOf, raisedOf, startsOf, endsOf, nextOf, stateOf, put, traceOf}
+use Rattle.behaviour.specs.Exec.{emitsOf, oldestOf, floorOf, raisedOf, startsOf, endsOf, nextOf, stateOf, put, traceOf, startIn, endIn}
 use Rattle.behaviour.specs.Laws.Computed.{timed, released, emits}
 use Rattle.behaviour.specs.Laws.Instances.{instance-cut}
 use Rattle.behaviour.specs.Laws.TimesEqual.{Emitted, After, after}
@@ -92,3 +92,24 @@ module _ (R : ℕ) (belongs available : ℕ → ℕ) where
       let fl = oldest (traceOf available w) w (after R belongs available (traceOf available w) w (ok .0) run) (x .input) (ready .1) in
       extended R available (traceOf available w) w x _ _ _ _ _ run
       (rw (state-after available w) (steps R belongs x (ok .1) (stateOf available w) (rw (state-after available w) at fl)))
+
+-- ---- the times by identity
+
+module _ (available : ℕ → ℕ) where
+  -- at the last position they are those of the last transition
+  pub last-start : (w : Word) (x : Step) (n : ℕ) → startIn available (w ▷ x) (identity (size w) n) ≡ startsOf x (stateOf available w) n
+  unfolding traceOf
+  last-start w x n = rw (eq-eqb (size w) (size w) refl)
+
+  pub last-end : (w : Word) (x : Step) (n : ℕ) → endIn available (w ▷ x) (identity (size w) n) ≡ endsOf x (stateOf available w) n
+  unfolding traceOf
+  last-end w x n = rw (eq-eqb (size w) (size w) refl)
+
+  -- at earlier positions they are as before
+  pub kept-start : (w : Word) (x : Step) (p n : ℕ) → p < size w → startIn available (w ▷ x) (identity p n) ≡ startIn available w (identity p n)
+  unfolding traceOf
+  kept-start w x p n l = rw (ne-eqb p (size w) (λ e. omega arith))
+
+  pub kept-end : (w : Word) (x : Step) (p n : ℕ) → p < size w → endIn available (w ▷ x) (identity p n) ≡ endIn available w (identity p n)
+  unfolding traceOf
+  kept-end w x p n l = rw (ne-eqb p (size w) (λ e. omega arith))

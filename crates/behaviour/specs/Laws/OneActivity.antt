@@ -43,6 +43,13 @@ last-arrow : (a : List Node) (m n : ℕ) → Rules.Before a m n → (k : ℕ) ×
 last-arrow a m n (one h) = (m, h)
 last-arrow a m n (more {k} c h) = (k, h)
 
+-- a node that is no claim has a predecessor
+pub some-arrow : (R : ℕ) (belongs : ℕ → ℕ) (a : List Node) → Good R belongs a → (n : ℕ) (k : Kind) → n < length a → node a n .kind ≡ k → NotClaim k → (m : ℕ) × Arrow a m n
+some-arrow R belongs a ok n (Action y z) l e nc = let b = ok .meets .rule-IV n y z (record { within = l; kind = e }) in last-arrow a (b .0) n (b .2)
+some-arrow R belongs a ok n (Claim r) l e nc = absurd nc
+some-arrow R belongs a ok n (Release r) l e nc = let b = ok .meets .rule-VI n r (record { within = l; kind = e }) in last-arrow a (b .0) n (b .2)
+some-arrow R belongs a ok n (Event f) l e nc = ok .meets .rule-X n f (record { within = l; kind = e })
+
 -- v is 0, or the last completion of the event that k is
 abbrev Waits : (ℕ → ℕ) → Kind → ℕ → Type 0
 Waits last k v = (v ≡ 0) ⊎ ((e : ℕ) × (k ≡ Event e) × (v ≡ last e))
@@ -85,14 +92,8 @@ module _ (R : ℕ) (belongs : ℕ → ℕ) (x : Step) (t : Trace) (p : ℕ) (ok 
   bound m n (Arrows.own {m = i} {n = j} h) = let u = others i j h in let v = latest-bound (t .end p) i (predecessors (node (x .output) j)) (h .from) in omega arith
   bound m n (Arrows.added l u) = omega arith
 
-  some-own : (n : ℕ) (k : Kind) → n < length (x .output) → node (x .output) n .kind ≡ k → NotClaim k → (m : ℕ) × Arrow (x .output) m n
-  some-own n (Action y z) l e nc = let b = ok .meets .rule-IV n y z (record { within = l; kind = e }) in last-arrow (x .output) (b .0) n (b .2)
-  some-own n (Claim r) l e nc = absurd nc
-  some-own n (Release r) l e nc = let b = ok .meets .rule-VI n r (record { within = l; kind = e }) in last-arrow (x .output) (b .0) n (b .2)
-  some-own n (Event f) l e nc = ok .meets .rule-X n f (record { within = l; kind = e })
-
   some : (y : Ident) (k : Kind) (d : ℕ) → Nodes R (suc p) (x .output) y k d → NotClaim k → (m : Ident) × Arrows R (suc p) (x .output) m y
-  some y k d (Nodes.own {n} l e f) nc = let s = some-own n k l e nc in (named (suc p) (s .0), Arrows.own (s .1))
+  some y k d (Nodes.own {n} l e f) nc = let s = some-arrow R belongs (x .output) ok n k l e nc in (named (suc p) (s .0), Arrows.own (s .1))
   some y k d (Nodes.claim l u) nc = absurd nc
   some y k d (Nodes.release {r} l u) nc = (claimed (suc p) r, Arrows.added l u)
 
@@ -115,7 +116,7 @@ module _ (R : ℕ) (belongs : ℕ → ℕ) (x : Step) (t : Trace) (p : ℕ) (ok 
       h = held (t .state p .last) (node (x .output) n .kind)
 
       s : (j : ℕ) × Arrow (x .output) j n
-      s = some-own n k l f nc
+      s = some-arrow R belongs (x .output) ok n k l f nc
 
       is : t .start p n ≡ max m h
       is = others (s .0) n (s .1)

@@ -174,10 +174,10 @@ module _ (R : ℕ) (belongs available : ℕ → ℕ) (t : Trace) (w : Word) (x :
 
   after-taking : (i : Input) → Floor i (t .state (size w)) (t .floor (size w)) → (f : ℕ) → Emitted (combined R w) f (times f w + once f i) (endAt t) (taken i (t .state (size w)) f)
   after-taking Nothing fl f = rw add-zero (af .queues f)
-  after-taking (Outcome e u) fl f = go (eqb f e) refl
+  after-taking (Outcome e u) fl f = go (eqb e f) refl
     where
-      go : (b : Bool) → eqb f e ≡ b → Emitted (combined R w) f (times f w + cond b 1 0) (endAt t) (cond b (behind (t .state (size w) .queue f)) (t .state (size w) .queue f))
-      go true g = popped (combined R w) f (times f w) (t .floor (size w)) (endAt t) (t .state (size w) .queue f) (fl .0) (ap (t .state (size w) .queue) (eqb-true f e g) ∙ fl .1) (af .queues f)
+      go : (b : Bool) → eqb e f ≡ b → Emitted (combined R w) f (times f w + cond b 1 0) (endAt t) (cond b (behind (t .state (size w) .queue f)) (t .state (size w) .queue f))
+      go true g = popped (combined R w) f (times f w) (t .floor (size w)) (endAt t) (t .state (size w) .queue f) (fl .0) (ap (t .state (size w) .queue) (sym (eqb-true e f g)) ∙ fl .1) (af .queues f)
       go false g = rw add-zero (af .queues f)
 
   floored : (i : Input) → Floor i (t .state (size w)) (t .floor (size w)) → Floored (combined R w) (processing w i) (endAt t) (t .floor (size w))

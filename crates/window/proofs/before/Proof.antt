@@ -1,7 +1,6 @@
 -- `before` is the order of ties.
 use borrow.Author.Tests.{eq-eqb, ne-eqb}
 use Rattle.window.specs.Window.{before}
-use borrow.Author.Needs.{needs}
 use Rattle.window.proofs.before.Statement.{statement}
 use Rattle.window.proofs.before.Tie as tie
 

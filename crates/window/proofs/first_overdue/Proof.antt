@@ -31,7 +31,7 @@ array-copy-out-e : tie.Need-array-copy-out-e Inv-loop μ-loop
 array-copy-out-e c = search needs
 
 is-overdue-requires : tie.Need-is-overdue-requires Inv-loop μ-loop
-is-overdue-requires c κs = (c .before .before .before .pre .0, c .before .before .before .pre .1 _ (omega (arith, long (c .before .before .before))))
+is-overdue-requires c κs = (c .before .before .before .pre .0, c .before .before .before .pre .1 _)
 
 better-requires : tie.Need-better-requires Inv-loop μ-loop
 better-requires c κs = search needs

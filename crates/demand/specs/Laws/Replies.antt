@@ -1,0 +1,116 @@
+-- What each kind of reply tells, and what it does not: facts by cases for the laws of `Keeping`.
+use mathlib.Core.Path.{_≡_, refl, sym, subst}
+use mathlib.Core.Bool.{false}
+use mathlib.Core.List.{_∷_}
+use mathlib.Core.Logic.{inl, inr}
+use Rattle.run.specs.declared.Call.{Call}
+use Rattle.run.specs.declared.Reply.{Reply}
+use Rattle.run.specs.declared.Refusal.{Refusal}
+use Rattle.run.specs.declared.Stop.{Stop}
+use Rattle.run.specs.declared.Halt.{Halt}
+use Rattle.run.specs.declared.Failure.{Failure}
+use Rattle.log.specs.Log.{Id, Log, said, Starts, Stops, StoppedIn, Fails, FailedIn, Accepts, Finishes}
+use Rattle.log.specs.Host.{isRefused, Mild}
+use Rattle.demand.specs.Machine.{Waiting}
+use Rattle.demand.specs.Way.{Idle, haltOf, replyOf}
+use Rattle.demand.specs.Laws.Invariant.{MildHalt}
+
+abbrev Goes : Halt → Type 0
+Goes Halt.Going = Unit {0}
+Goes (Halt.Stopped s) = ⊥
+
+pub not-going : (s : Stop) → Halt.Stopped s ≡ Halt.Going → ⊥
+not-going s e = subst Goes (sym e) tt
+
+pub failed-stopped : (log : Log) → FailedIn log → StoppedIn log
+failed-stopped (y ∷ log) (inl p) = inl (go (y .reply) p)
+  where
+    go : (r : Reply) → Fails r → Stops r
+    go (Reply.Start q a n) p = p
+    go Reply.Wait p = p
+    go Reply.Done p = p
+    go Reply.Taken p = p
+    go (Reply.Refused f) p = p
+    go (Reply.Stopped s) p = tt
+failed-stopped (y ∷ log) (inr p) = inr (failed-stopped log p)
+
+-- ---- 50
+
+-- no refusal, or one by another number than 50
+abbrev pub Other : Reply → Type 0
+Other (Reply.Start q a n) = Unit {0}
+Other Reply.Wait = Unit {0}
+Other Reply.Done = Unit {0}
+Other Reply.Taken = Unit {0}
+Other (Reply.Refused f) = f ≡ Refusal.OutOfLimits → ⊥
+Other (Reply.Stopped s) = Unit {0}
+
+pub not-50 : (r : Reply) → Other r → r ≡ Reply.Refused Refusal.OutOfLimits → ⊥
+not-50 r h e = subst Other e h refl
+
+-- ---- wait and done
+
+pub record Quiet (r : Reply) (log : Log) : Type 0 where
+  pub starts : (x : Id) → Starts r x → ⊥
+  pub accepts : Accepts r log → ⊥
+  pub stops : Stops r → ⊥
+  pub counts : isRefused r ≡ false
+  pub mild : Mild r
+  pub other : Other r
+
+pub quiet : (r : Reply) (log : Log) → Idle r → Quiet r log
+quiet Reply.Wait log h = record { starts = λ x p. p; accepts = λ p. p; stops = λ p. p; counts = refl; mild = tt; other = tt }
+quiet Reply.Done log h = record { starts = λ x p. p; accepts = λ p. p; stops = λ p. p; counts = refl; mild = tt; other = tt }
+
+-- ---- stops
+
+-- a kept stop reports nothing
+pub stop-accepts : (s : Stop) (log : Log) → StoppedIn log → Accepts (Reply.Stopped s) log → ⊥
+stop-accepts s log h p = p .1 h
+
+-- ---- what an outcome is answered
+
+pub failure-starts : (f : Failure) (x : Id) → Starts (replyOf f) x → ⊥
+failure-starts Failure.None x p = p
+failure-starts Failure.Full x p = p
+failure-starts Failure.Beyond x p = p
+
+pub failure-accepts : (f : Failure) (log : Log) → (StoppedIn log → ⊥) → Accepts (replyOf f) log
+failure-accepts Failure.None log h = tt
+failure-accepts Failure.Full log h = (tt, h)
+failure-accepts Failure.Beyond log h = (tt, h)
+
+pub failure-unfinished : (f : Failure) → Finishes (replyOf f) → ⊥
+failure-unfinished Failure.None p = p
+failure-unfinished Failure.Full p = p
+failure-unfinished Failure.Beyond p = p
+
+pub failure-unwaiting : (f : Failure) → Waiting (replyOf f) → ⊥
+failure-unwaiting Failure.None p = p
+failure-unwaiting Failure.Full p = p
+failure-unwaiting Failure.Beyond p = p
+
+pub failure-mild : (f : Failure) → Mild (replyOf f)
+failure-mild Failure.None = tt
+failure-mild Failure.Full = tt
+failure-mild Failure.Beyond = tt
+
+pub failure-halt : (f : Failure) → MildHalt (haltOf f)
+failure-halt Failure.None = tt
+failure-halt Failure.Full = tt
+failure-halt Failure.Beyond = tt
+
+pub failure-other : (f : Failure) → Other (replyOf f)
+failure-other Failure.None = tt
+failure-other Failure.Full = tt
+failure-other Failure.Beyond = tt
+
+pub failure-halted : (f : Failure) (c : Call) (log : Log) (s : Stop) → haltOf f ≡ Halt.Stopped s → StoppedIn (said c (replyOf f) ∷ log)
+failure-halted Failure.None c log s e = absurd (not-going s (sym e))
+failure-halted Failure.Full c log s e = inl tt
+failure-halted Failure.Beyond c log s e = inl tt
+
+pub failure-none : (f : Failure) (c : Call) (log : Log) → (FailedIn (said c (replyOf f) ∷ log) → ⊥) → f ≡ Failure.None
+failure-none Failure.None c log h = refl
+failure-none Failure.Full c log h = absurd (h (inl tt))
+failure-none Failure.Beyond c log h = absurd (h (inl tt))

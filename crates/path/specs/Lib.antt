@@ -1,0 +1,2 @@
+-- One path: the nodes that it brings to the window, and where it ends.
+pub mod Path

@@ -1,0 +1,15 @@
+use mathlib.Core.Path.{refl}
+use borrow.Author.Needs.{needs}
+use Rattle.pending.proofs.is_final.Statement.{statement}
+use Rattle.pending.proofs.is_final.Tie as tie
+use Rattle.pending.proofs.is_final.Reads as reads
+use Rattle.pending.proofs.is_final.Lts as lts
+
+shr-result : tie.Need-shr-result
+shr-result c = search needs
+
+returns : tie.Need-returns
+returns c = refl
+
+pub is-final-spec : {M : Type 1} → statement M
+is-final-spec = tie.close (tie.spec shr-result returns)
