@@ -1,10 +1,10 @@
--- The proof of demand 3 from the eight ways of a call.
+-- The proofs: the invariant and how each way keeps it; the words of a plan as a world; the word of a log.
+pub mod Replies
 pub mod Accounts
 pub mod Clock
 pub mod Invariant
-pub mod Replies
 pub mod Keeping
-pub mod World
-pub mod Next
 pub mod Growth
+pub mod Next
+pub mod World
 pub mod TheWord

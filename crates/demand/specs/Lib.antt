@@ -1,11 +1,11 @@
--- Demand 3 over any run whose calls go one of eight ways.
+-- Demand 3: the claim, the eight ways of a call that it rests on, and the words of a plan that it speaks of.
 pub mod Machine
 pub mod Demand
 pub mod Way
+pub mod Works
+pub mod Theorem
 pub mod Nodes
 pub mod TheWord
 pub mod OfPlan
-pub mod Laws
-pub mod Works
-pub mod Theorem
 pub mod OfTheLog
+pub mod Laws

@@ -6,12 +6,9 @@ use mathlib.Core.Logic.{_⊎_, _↔_}
 use Prim.Native.Nat.{ℕ, _+_, _≤_, _<_}
 use lib.ListN.{getD}
 use Rattle.time.specs.declared.Clock.{Clock}
-use Rattle.plan.specs.Plan.{isFinal, move}
-use Rattle.plan.specs.declared.Kind.{Kind}
-use Rattle.plan.specs.declared.Output.{Output}
+use Rattle.plan.specs.Plan.{isFinal}
 use Rattle.plan.specs.declared.Plan.{Plan}
-use Rattle.behaviour.specs.Combined.{Ident, Graph, Before, identity}
-use Rattle.behaviour.specs.Combined as C
+use Rattle.behaviour.specs.Combined.{Ident, Before}
 use Rattle.behaviour.specs.Times.{Timing}
 use Rattle.window.specs.declared.Entry.{Entry}
 use Rattle.run.specs.declared.Run.{Run}
@@ -24,31 +21,8 @@ use Rattle.run.specs.Opening.{openOf}
 use Rattle.log.specs.Log.{Id, id, Said, Log, Always, reading, IsAsk, Starts, Started, Reports, Reported, FailedIn, Finishes}
 use Rattle.log.specs.Host.{Host, Mild}
 use Rattle.log.specs.Drive.{Driven, drive}
-use Rattle.demands.specs.TheWord.{stateAfter, wholeOf, TheWord}
-
--- ---- nodes
-
-abbrev pub whose : Id → Ident
-whose x = identity (x .position) (x .node)
-
--- an action or an event of an activity over identities
-abbrev pub Working : Kind → Type 0
-Working (Kind.Action a p) = Unit {0}
-Working (Kind.Claim r) = ⊥
-Working (Kind.Release r) = ⊥
-Working (Kind.Event e) = Unit {0}
-
-abbrev pub Work : Graph → Id → Type 0
-Work G x = (k : Kind) × C.Is G (whose x) k × Working k
-
--- the activity that the word has at a position; transitions are counted from the end of the list
-abbrev pub lengthOf : List ℕ → ℕ
-lengthOf [] = 0
-lengthOf (i ∷ is) = lengthOf is + 1
-
-pub data EmitsAt (p : Plan) : List ℕ → ℕ → ℕ → Type 0 where
-  here : {is : List ℕ} {i a q : ℕ} → q ≡ lengthOf is → move (p .automaton) i .output ≡ Output.Activity a → EmitsAt p (i ∷ is) q a
-  earlier : {is : List ℕ} {i a q : ℕ} → EmitsAt p is q a → EmitsAt p (i ∷ is) q a
+use Rattle.demand.specs.TheWord.{stateAfter, wholeOf, TheWord}
+use Rattle.demand.specs.Nodes.{whose, Work, EmitsAt}
 
 -- an answered start names the activity of the word at its position
 abbrev pub RightActivity : Plan → List ℕ → Reply → Type 0

@@ -1,6 +1,5 @@
 -- The promises, as statements about the definitions that the contracts cite, and the theorems that carry them.
 pub mod Accepted
-pub mod TheWord
 pub mod Demand3
 pub mod Times
 pub mod Promises

@@ -19,8 +19,8 @@ use Rattle.path.specs.Path.{takenBy}
 use Rattle.run.specs.Opening.{atFirst, availabilities}
 use Rattle.log.specs.Log.{Id}
 use Rattle.demands.specs.Accepted.{accepted}
-use Rattle.demands.specs.TheWord.{stateAfter, wholeOf}
-use Rattle.demands.specs.Demand3.{whose, Work, lengthOf}
+use Rattle.demand.specs.TheWord.{stateAfter, wholeOf}
+use Rattle.demand.specs.Nodes.{whose, Work, lengthOf}
 
 -- ---- the engine's way, one transition at a time; transitions stand latest first
 

@@ -21,6 +21,10 @@ pub always-map : (P Q : Said → Log → Type 0) → ((x : Said) (older : Log) �
 always-map P Q f [] h = tt
 always-map P Q f (x ∷ log) h = (f x log (h .0), always-map P Q f log (h .1))
 
+pub always-both : (P Q : Said → Log → Type 0) (log : Log) → Always P log → Always Q log → Always (λ y older. P y older × Q y older) log
+always-both P Q [] g h = tt
+always-both P Q (y ∷ log) g h = ((g .0, h .0), always-both P Q log (g .1) (h .1))
+
 -- the same at a place of the log: x, with `older` before it and `newer` after it
 pub always-at : (P : Said → Log → Type 0) (newer : Log) (x : Said) (older : Log) → Always P (newer ++ (x ∷ older)) → P x older
 always-at P [] x older h = h .0

@@ -1,5 +1,8 @@
--- Growing words: nothing changes what is there, and one growth after another is one.
-use mathlib.Core.Path.{refl, _∙_}
+-- Growing words: nothing changes what is there, and one growth after another is one; the beginnings of a word.
+use mathlib.Core.Path.{_≡_, refl, sym, ap, _∙_, subst}
+use mathlib.Core.List.{List, [], _∷_}
+use mathlib.Core.Logic.{_⊎_, inl, inr}
+use Prim.Native.Nat.{ℕ}
 use Rattle.demand.specs.Machine.{World}
 use Rattle.demand.specs.Way.{Extends}
 
@@ -14,3 +17,22 @@ extends-on W w v u a b = record {
   befores = λ m x n h. a .befores m x n (b .befores m x (a .nodes x n) h);
   activities = λ q c e. b .activities q c (a .activities q c e);
 }
+
+-- ---- beginnings; the latest transition stands first
+
+pub data Tail (is : List ℕ) : List ℕ → Type 0 where
+  here : Tail is is
+  later : {us : List ℕ} {t : ℕ} → Tail is us → Tail is (t ∷ us)
+
+pub tail-empty : (us : List ℕ) → Tail [] us
+tail-empty [] = here
+tail-empty (t ∷ us) = later (tail-empty us)
+
+-- a beginning is the whole, or goes one transition on
+pub tail-next : (is us : List ℕ) → Tail is us → (is ≡ us) ⊎ ((t : ℕ) × Tail (t ∷ is) us)
+tail-next is us here = inl refl
+tail-next is us (later {us = vs} {t} b) =
+    elim (tail-next is vs b) [
+      | inl e ↦ inr (t, subst (λ (l : List ℕ). Tail l (t ∷ vs)) (ap (λ (l : List ℕ). t ∷ l) (sym e)) here)
+      | inr n ↦ inr (n .0, later (n .1))
+    ]

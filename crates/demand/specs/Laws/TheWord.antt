@@ -1,5 +1,5 @@
 -- The word of a log is one, and every word that the log takes is a beginning of it, which it extends.
-use mathlib.Core.Path.{_≡_, refl, sym, ap, ap₂, _∙_, subst}
+use mathlib.Core.Path.{_≡_, refl, sym, ap₂, _∙_, subst}
 use mathlib.Core.List.{List, [], _∷_}
 use mathlib.Core.Logic.{_⊎_, inl, inr}
 use Prim.Native.Nat.{ℕ}
@@ -24,7 +24,7 @@ use Rattle.demand.specs.TheWord.{stateAfter, nextAfter, Oldest, Takes, n
 use Rattle.demand.specs.OfPlan.{worldOf}
 use Rattle.demand.specs.Laws.Next.{Found, next-found, chosen-found}
 use Rattle.demand.specs.Laws.World.{extends}
-use Rattle.demand.specs.Laws.Growth.{extends-self, extends-on}
+use Rattle.demand.specs.Laws.Growth.{extends-self, extends-on, Tail, here, later, tail-next, tail-empty}
 
 -- ---- a log in which no node is reported twice tells one outcome of each
 
@@ -137,22 +137,9 @@ module _ (p : Plan) (lawful : Lawful p) (log : Log) (unique : (x : Id) (o q : �
 
   -- ---- beginnings
 
-  pub data Tail (is : List ℕ) : List ℕ → Type 0 where
-    here : Tail is is
-    later : {us : List ℕ} {t : ℕ} → Tail is us → Tail is (t ∷ us)
-
   tail-takes : (is us : List ℕ) → Tail is us → Takes p log us → Takes p log is
   tail-takes is us here h = h
   tail-takes is us (later {us = vs} {t} b) h = tail-takes is vs b (last p log (t ∷ vs) h .0)
-
-  -- a beginning is the whole, or goes one transition on
-  tail-next : (is us : List ℕ) → Tail is us → (is ≡ us) ⊎ ((t : ℕ) × Tail (t ∷ is) us)
-  tail-next is us here = inl refl
-  tail-next is us (later {us = vs} {t} b) = elim (tail-next is vs b) [ inl e ↦ inr (t, subst (λ (l : List ℕ). Tail l (t ∷ vs)) (ap (λ (l : List ℕ). t ∷ l) (sym e)) here) | inr n ↦ inr (n .0, later (n .1)) ]
-
-  tail-empty : (us : List ℕ) → Tail [] us
-  tail-empty [] = here
-  tail-empty (t ∷ us) = later (tail-empty us)
 
   -- what the log takes is a beginning of its word
   pub on-the-way : (is us : List ℕ) → Takes p log is → TheWord p log us → Tail is us

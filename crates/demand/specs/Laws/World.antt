@@ -2,20 +2,21 @@
 -- starts, every node outlasts the slack, and a longer word keeps nodes and times and has no new arrow to an old node.
 use mathlib.Core.Path.{_≡_, refl, sym, subst}
 use mathlib.Core.List.{List, [], _∷_}
-use Prim.Native.Nat.{ℕ, suc, _<_}
+use Prim.Native.Nat.{ℕ, suc, _≤_, _<_}
 use native.Mathlib.Omega.{arith}
 use Rattle.lists.specs.Lists.{one, more}
 use Rattle.plan.specs.Plan.{resourceOf, emittedBy, move}
 use Rattle.plan.specs.Limits.{OutputNames}
 use Rattle.plan.specs.declared.Kind.{Kind}
 use Rattle.plan.specs.declared.Node.{Node}
+use Rattle.plan.specs.declared.Input.{Input}
 use Rattle.plan.specs.declared.Output.{Output}
 use Rattle.plan.specs.declared.Plan.{Plan}
-use Rattle.behaviour.specs.Word.{Step, Word, τ, _▷_, size}
+use Rattle.behaviour.specs.Word.{Step, Word, τ, _▷_, Begins, longer, size}
 use Rattle.behaviour.specs.Accepted.{GoodWord}
 use Rattle.behaviour.specs.Combined.{Ident, NotRelease, Before, Nodes, Joined, completed, processing, combined}
 use Rattle.behaviour.specs.Paths.{stepOf, wordOf, Follows, Lawful}
-use Rattle.behaviour.specs.Theorems.{times-equal, before-ends, kept-start, kept-end}
+use Rattle.behaviour.specs.Theorems.{held-back, times-equal, before-ends, kept-start, kept-end}
 use Rattle.behaviour.specs.Laws.Shape.{completed-shape, node-place}
 use Rattle.behaviour.specs.Laws.Chains.{to-left}
 use Rattle.behaviour.specs.Laws.Unique.{shape-of}
@@ -23,7 +24,9 @@ use Rattle.behaviour.specs.Laws.Later.{claim-place}
 use Rattle.behaviour.specs.Laws.Plans.{good-path, counted-path}
 use Rattle.log.specs.Log.{Id}
 use Rattle.demand.specs.Way.{Outlasts, InOrder, Extends}
-use Rattle.demand.specs.Nodes.{whose, Working, Work, earlier}
+use Rattle.demand.specs.Nodes.{whose, Working, Work, lengthOf, earlier}
+use Rattle.demand.specs.TheWord.{Oldest}
+use Rattle.demand.specs.Laws.Growth.{Tail, here, later}
 use Rattle.demand.specs.OfPlan.{worldOf, Outlast, Long}
 
 not-release : (k : Kind) → Working k → NotRelease k
@@ -122,3 +125,27 @@ module _ (p : Plan) (lawful : Lawful p) (available : ℕ → ℕ) where
       let e = times-equal (p .resources) (resourceOf p) available (wordOf p is) (good is q h) (counted-path p lawful is q h) .ends (whose x) (n .0) (n .1 .0) (n .1 .1) in
       let l = outlasts (p .resources) slack (wordOf p is) (outlast-path slack long is q h) (whose x) (n .0) (n .1 .0) (n .2) (n .1 .1) in
       omega arith
+
+  -- ---- what is new in a longer word
+
+  size-is : (is : List ℕ) → size (wordOf p is) ≡ lengthOf is
+  size-is [] = refl
+  size-is (i ∷ is) = let u = size-is is in omega arith
+
+  -- the nodes of a word stand below its length
+  pub old-position : (is : List ℕ) (q : ℕ) → From is q → (x : Id) → worldOf p available .Node is x → x .position < lengthOf is
+  old-position is q h x n =
+      let u = shape-of (p .resources) (resourceOf p) (wordOf p is) (good is q h) .places (whose x) (n .0) (n .1 .0) (n .1 .1) in
+      let v = size-is is in
+      omega arith
+
+  begins : (is us : List ℕ) → Tail is us → Begins (wordOf p is) (wordOf p us)
+  begins is us here = Begins.here
+  begins is us (later {us = vs} {t} b) = longer (begins is vs b)
+
+  -- if transition t, after `is`, processes the instance x, then no node of it or of a later transition starts before x has
+  -- completed
+  pub new-start : (t : ℕ) (is us : List ℕ) (q e o : ℕ) → From us q → Tail (t ∷ is) us → From is (move (p .automaton) t .from) → move (p .automaton) t .input ≡ Input.Outcome e o → (x : Id) → Oldest p is e x → (y : Id) → worldOf p available .Node us y → lengthOf is ≤ y .position → worldOf p available .completion is x ≤ worldOf p available .start us y
+  new-start t is us q e o h b f input x old y n l =
+      held-back (p .resources) (resourceOf p) available (wordOf p is) (wordOf p us) (stepOf p (move (p .automaton) t)) e o (good us q h) (counted-path p lawful is (move (p .automaton) t .from) f) input
+      (begins (t ∷ is) us b) (whose x) old (y .position) (y .node) (n .0) (n .1 .0) (let v = size-is is in omega arith) (n .1 .1)
