@@ -1,15 +1,15 @@
 -- Bits of words: what `|`, `&` and a power of two do to a bit, and when two words have the same bits.
 -- Assumes nothing.
-use mathlib.Core.Path.{_≡_, refl, sym, ap, ap₂, _∙_, subst}
+use mathlib.Core.Path.{_≡_, refl, sym, ap, _∙_}
 use mathlib.Core.Logic.{_⊎_, inl, inr, _↔_, ⊎-elim}
 use mathlib.Core.List.{List, [], _∷_}
-use Prim.Native.Nat.{ℕ, zero, suc, _+_, _-_, _*_, _/_, _%_, _^_, _<_, _≤_, max, min}
-use native.Mathlib.Nat.{lt-of-lt-of-le, one-mul, zero-div, mod-eq-of-lt, pow-suc, eq-or-lt-of-le, mul-mod-left, div-eq-of-lt}
+use Prim.Native.Nat.{ℕ, zero, suc, _+_, _-_, _*_, _/_, _%_, _^_, _<_, _≤_}
+use native.Mathlib.Nat.{one-mul, zero-div, mod-eq-of-lt, pow-suc, eq-or-lt-of-le, mul-mod-left, div-eq-of-lt}
 use native.Mathlib.Decide.{decLt}
 use native.Mathlib.Omega.{arith}
 use lib.Bits.{bitOr, bitAnd, or-shr, or-mod, and-shr, and-mod}
 use lib.ListN.{getD, replicate}
-use lib.Pow.{pow-mono, pow-lt, pow-add, shl-shr}
+use lib.Pow.{pow-lt, pow-add, shl-shr}
 use Rattle.lists.specs.Lists.{Among}
 use Rattle.activity.specs.Tests.{bit, wordOf}
 use Rattle.activity.specs.Tells.{Tells, tells-eqb}
@@ -85,6 +85,12 @@ shl-iff p j lt =
 -- 0 has no bit
 pub no-bit : (j : ℕ) → Bit 0 j → ⊥
 no-bit j e = omega (arith, zero-div (2 ^ j))
+
+-- an array of zeros has 0 everywhere
+pub zeros : (n j : ℕ) → _≡_ {A = ℕ} (getD (replicate n 0) j 0) 0
+zeros zero j = refl
+zeros (suc n) zero = refl
+zeros (suc n) (suc j) = zeros n j
 
 -- the word of a list has the bits of the list's numbers
 pub word-iff : (ms : List ℕ) (j : ℕ) → Bit (wordOf ms) j ↔ Among j ms

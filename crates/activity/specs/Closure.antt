@@ -1,6 +1,6 @@
 -- "Before" as words, one for each node: Warshall's way to them, for any words that are stepped as it says.
 -- `beforeWords` has bit m of word n iff m is before n, cycles included. Assumes nothing.
-use mathlib.Core.Path.{_≡_, refl, sym, ap, _∙_, subst}
+use mathlib.Core.Path.{_≡_, refl, sym, _∙_, subst}
 use mathlib.Core.Bool.{Bool, true, false, cond}
 use mathlib.Core.List.{List, [], _∷_, map}
 use mathlib.Core.Logic.{_⊎_, inl, inr, _↔_, ⊎-elim}
@@ -9,7 +9,7 @@ use native.Mathlib.Omega.{arith}
 use borrow.Author.Count.{below-more}
 use lib.Bits.{bitOr}
 use lib.ListN.{length, getD, length-map, List·getD-eq-default}
-use Rattle.lists.specs.Lists.{Among, Chain, one, more}
+use Rattle.lists.specs.Lists.{one, more}
 use Rattle.plan.specs.Plan.{pastNode, predecessors}
 use Rattle.plan.specs.declared.Node.{Node}
 use Rattle.activity.specs.Rules.{node, Arrow, Before}
@@ -43,6 +43,15 @@ pub joined : {a : List Node} {m k n : ℕ} → Before a m k → Before a k n →
 joined b (one h) = more b h
 joined b (more c h) = more (joined b c) h
 
+-- a chain starts and ends with an arrow
+pub first-arrow : {a : List Node} {m n : ℕ} → Before a m n → (k : ℕ) × Arrow a m k
+first-arrow {n = n} (one h) = (n, h)
+first-arrow (more b h) = first-arrow b
+
+pub last-arrow : {a : List Node} {m n : ℕ} → Before a m n → (k : ℕ) × Arrow a k n
+last-arrow {m = m} (one h) = (m, h)
+last-arrow (more {k = k} b h) = (k, h)
+
 -- the words after the passes through the nodes below k: they say nothing false, have the arrows, and two steps that meet below k are one
 pub record Closing (a : List Node) (k : ℕ) (r : List ℕ) : Type 0 where
   pub sound : (m n : ℕ) → Rel r m n → Before a m n
@@ -54,8 +63,8 @@ pub opening : (a : List Node) (r : List ℕ) → ((m n : ℕ) → Rel r m n ↔ 
 opening a r h = record { sound = λ m n e. one (h m n .0 e); arrows = λ m n x. h m n .1 x; closed = λ j l. absurd (omega arith) }
 
 -- with no node left, the words are the closure
-pub closure : {a : List Node} {r : List ℕ} → Closing a (length a) r → Closure a r
-closure {a} {r} h m n = (h .sound m n, all)
+pub shut : {a : List Node} {r : List ℕ} → Closing a (length a) r → Closure a r
+shut {a} {r} h m n = (h .sound m n, all)
   where
     all : {n : ℕ} → Before a m n → Rel r m n
     all (one x) = h .arrows m _ x
@@ -132,7 +141,7 @@ pub words-right : (a : List Node) → Closure a (beforeWords a)
 unfolding beforeWords
 words-right a =
     let t = map (λ n. wordOf (predecessors n)) a in
-    closure (passes-close a (length a) 0 t (omega arith) (length-map a (λ n. wordOf (predecessors n))) (opening a t arrow))
+    shut (passes-close a (length a) 0 t (omega arith) (length-map a (λ n. wordOf (predecessors n))) (opening a t arrow))
   where
     arrow : (m n : ℕ) → Rel (map (λ n. wordOf (predecessors n)) a) m n ↔ Arrow a m n
     arrow m n = ⊎-elim inside outside (lt-or-ge n (length a))

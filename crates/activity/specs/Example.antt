@@ -1,14 +1,17 @@
 -- The two activities of plan T ("One plan, printed"), and smaller ones with each fault, as `faultOf` judges them.
 use mathlib.Core.Path.{_≡_, refl}
-use mathlib.Core.List.{List, [], _∷_, map}
-use Prim.Native.Nat.{ℕ}
-use lib.ListN.{length, getD}
+use mathlib.Core.List.{List, [], _∷_, _++_, map}
+use Prim.Native.Nat.{ℕ, _-_}
+use lib.ListN.{length, getD, replicate}
 use Rattle.plan.specs.declared.Kind.{Kind}
 use Rattle.plan.specs.declared.Node.{Node}
 use Rattle.plan.specs.declared.Fault.{Fault}
+use Rattle.plan.specs.declared.Plan.{Plan}
+use Rattle.plan.specs.declared.Verdict.{Verdict}
 use Rattle.activity.specs.declared.Finding.{Finding}
+use Rattle.activity.specs.Copied.{emptyNode}
 use Rattle.activity.specs.Tests.{every, some, wordOf, passes, beforeWords}
-use Rattle.activity.specs.Number.{noCycle, ruleI, ruleII, ruleIII, ruleIV, ruleV, ruleVI, ruleVII, ruleVIII, ruleIX, ruleX, ruleXI, faultBy, faultOf}
+use Rattle.activity.specs.Number.{noCycle, ruleI, ruleII, ruleIII, ruleIV, ruleV, ruleVI, ruleVII, ruleVIII, ruleIX, ruleX, ruleXI, faultBy, faultOf, verdictFrom, activitiesVerdict}
 
 abbrev nodeOf : Kind → ℕ → List ℕ → Node
 nodeOf k d ps = record { kind = k; duration = d; count = length ps; preds = ps }
@@ -76,3 +79,31 @@ judged :
     )
 unfolding every some wordOf passes beforeWords noCycle ruleI ruleII ruleIII ruleIV ruleV ruleVI ruleVII ruleVIII ruleIX ruleX ruleXI faultBy faultOf
 judged = refl
+
+-- a plan of two activities
+abbrev room : List Node → List Node
+room l = l ++ replicate (64 - length l) emptyNode
+
+abbrev planOf : List Node → List Node → Plan
+planOf a b =
+    record {
+      resources = 2;
+      peripherals = 3;
+      belongs = 0 ∷ 0 ∷ 1 ∷ [];
+      events = 1;
+      outcomes = 2 ∷ [];
+      activities = 2;
+      sizes = length a ∷ length b ∷ [];
+      nodes = room a ++ room b;
+      automaton = record { states = 1; initial = 0; finals = 1; count = 0; moves = [] };
+    }
+
+-- the activities of T are accepted; with the second one's release cut off, the place is 1; the first at fault counts
+in-order :
+    (activitiesVerdict (planOf firstOfT secondOfT)
+    ∷ activitiesVerdict (planOf firstOfT (claim 0 [] ∷ []))
+    ∷ activitiesVerdict (planOf (event 0 1 [] ∷ []) (claim 0 [] ∷ []))
+    ∷ [])
+    ≡ (Verdict.Accepted ∷ Verdict.Refused Fault.ClaimUnpaired 1 ∷ Verdict.Refused Fault.EventFirst 0 ∷ [])
+unfolding every some wordOf passes beforeWords noCycle ruleI ruleII ruleIII ruleIV ruleV ruleVI ruleVII ruleVIII ruleIX ruleX ruleXI faultBy faultOf verdictFrom activitiesVerdict
+in-order = refl

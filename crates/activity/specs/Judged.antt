@@ -37,6 +37,7 @@ pub record First (belongs : ℕ → ℕ) (a : List Node) (f : Fault) : Type 0 wh
   pub broken : Rule belongs a f → ⊥
   pub earlier : (g : Fault) → numberOf g < numberOf f → Rule belongs a g
 
+-- no fault: the activity meets all rules; a fault: it is the first
 abbrev pub Judged : (ℕ → ℕ) → List Node → Finding → Type 0
 Judged belongs a Finding.Good = Meets belongs a
 Judged belongs a (Finding.Bad f) = First belongs a f

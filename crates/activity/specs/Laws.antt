@@ -1,27 +1,27 @@
 -- Laws of an activity that meets its rules: "before" can be ranked and is an order, every node but a claim has a claim
 -- before it, and the nodes of one event stand in one line. Assumes nothing.
-use mathlib.Core.Path.{_≡_, refl, sym, ap, _∙_, subst}
+use mathlib.Core.Path.{_≡_, refl, subst}
 use mathlib.Core.Bool.{Bool, true, false}
 use mathlib.Core.List.{List}
-use mathlib.Core.Logic.{_⊎_, inl, inr, _↔_, ⊎-elim}
+use mathlib.Core.Logic.{_⊎_, inl, inr, ⊎-elim}
 use Prim.Native.Nat.{ℕ, zero, suc, _+_, _*_, _<_, _≤_}
 use native.Mathlib.Omega.{arith}
 use native.Mathlib.Nat.{eq-or-lt-of-le, le-of-suc-le-suc}
 use native.Mathlib.Decide.{ℕ-discrete}
 use lib.ListN.{length, getD}
-use Rattle.lists.specs.Lists.{Among, Chain, one, more}
+use Rattle.lists.specs.Lists.{one, more}
 use Rattle.lists.specs.Parts.{length-part, getD-part}
-use Rattle.plan.specs.Plan.{pastNode, predecessors, sizeOf, activityOf}
+use Rattle.plan.specs.Plan.{pastNode, sizeOf, activityOf}
 use Rattle.plan.specs.Limits.{InLimits}
 use Rattle.plan.specs.declared.Kind.{Kind}
 use Rattle.plan.specs.declared.Node.{Node}
 use Rattle.plan.specs.declared.Plan.{Plan}
-use Rattle.activity.specs.Rules.{node, Is, Arrow, Before, NoCycle, Meets}
-use Rattle.activity.specs.Tests.{bit, beforeWords}
+use Rattle.activity.specs.Rules.{node, Is, Arrow, Before, Unnamed, NoCycle, Meets}
+use Rattle.activity.specs.Tests.{isClaim, beforeWords}
 use Rattle.activity.specs.Number.{kindOf, before}
-use Rattle.activity.specs.Tells.{Tells, Answer, holds, fails, tells-iff}
+use Rattle.activity.specs.Tells.{Tells, holds, fails, tells-iff, tells-some, claims, differ}
 use Rattle.activity.specs.Bits.{tells-bit}
-use Rattle.activity.specs.Closure.{words-right, within, joined}
+use Rattle.activity.specs.Closure.{words-right, joined, first-arrow, last-arrow}
 
 -- every predecessor is a node of the activity
 abbrev pub Inside : List Node → Type 0
@@ -48,6 +48,11 @@ count (suc n) f = toNumber (f n) + count n f
 -- how many nodes are before n
 unfoldable pub rankOf : List Node → ℕ → ℕ
 rankOf a n = count (length a) (λ m. before (beforeWords a) m n)
+
+count-all : (n : ℕ) → count n (λ k. true) ≡ n
+unfolding count
+count-all zero = refl
+count-all (suc n) = omega (arith, count-all n)
 
 -- what passes one test passes another, and so there are no fewer; with one that passes only the other, there are more
 module _ (f g : ℕ → Bool) (P Q : ℕ → Type 0) (tf : (i : ℕ) → Tells (f i) (P i)) (tg : (i : ℕ) → Tells (g i) (Q i)) (pq : (i : ℕ) → P i → Q i) where
@@ -99,12 +104,22 @@ module _ (a : List Node) where
   ranked-before free inside {m} (one {n = n} x) = ranked free inside m n x
   ranked-before free inside {m} (more {k = k} {n = n} b x) = omega (arith, ranked free inside k n x, ranked-before free inside b)
 
+  -- a rank is below the number of nodes
+  pub rank-below : NoCycle a → (n : ℕ) → n < length a → rankOf a n < length a
+  unfolding rankOf
+  rank-below free n l =
+      let u =
+      count-lt (λ k. before (beforeWords a) k n) (λ k. true) (λ k. Before a k n) (λ k. Unit {0}) (is-before n) (λ k. holds tt) (λ k b. tt)
+      (length a)
+      n
+      l
+      (free n)
+      tt in
+      omega (arith, count-all (length a))
+
   -- of two nodes at most one is before the other
   pub one-way : NoCycle a → {m n : ℕ} → Before a m n → Before a n m → ⊥
   one-way free {m} b c = free m (joined b c)
-
-differ : _≡_ {A = ℕ} 0 1 → ⊥
-differ e = omega arith
 
 -- a claim that is before n
 pub record ClaimBefore (a : List Node) (n : ℕ) : Type 0 where
@@ -112,6 +127,16 @@ pub record ClaimBefore (a : List Node) (n : ℕ) : Type 0 where
   pub resource : ℕ
   pub is : Is a claim (Kind.Claim resource)
   pub before : Before a claim n
+
+-- the one claim of a resource, before its one release
+pub record Paired (a : List Node) (r : ℕ) : Type 0 where
+  pub claim : ℕ
+  pub release : ℕ
+  pub is-claim : Is a claim (Kind.Claim r)
+  pub is-release : Is a release (Kind.Release r)
+  pub before : Before a claim release
+  pub one-claim : (n : ℕ) → Is a n (Kind.Claim r) → n ≡ claim
+  pub one-release : (n : ℕ) → Is a n (Kind.Release r) → n ≡ release
 
 module _ (belongs : ℕ → ℕ) (a : List Node) (ok : Meets belongs a) (inside : Inside a) where
   after : {m n : ℕ} → Arrow a m n → ClaimBefore a m → ClaimBefore a n
@@ -142,7 +167,43 @@ module _ (belongs : ℕ → ℕ) (a : List Node) (ok : Meets belongs a) (inside 
   pub claim-before : (n : ℕ) → n < length a → ((r : ℕ) → Is a n (Kind.Claim r) → ⊥) → ClaimBefore a n
   claim-before n l d = below (suc (rankOf a n)) n (omega arith) l (kindOf a n) refl (λ r e. d r (record { within = l; kind = e }))
 
+module _ (belongs : ℕ → ℕ) (a : List Node) (ok : Meets belongs a) where
+  -- nothing is before a claim, and nothing after a release
+  pub claim-first : (m n r : ℕ) → Is a n (Kind.Claim r) → Before a m n → ⊥
+  claim-first m n r i b = let w = last-arrow b in ok .rule-VIII (w .0) n r i (w .1)
+
+  pub release-last : (m n r : ℕ) → Is a m (Kind.Release r) → Before a m n → ⊥
+  release-last m n r i b = let w = first-arrow b in ok .rule-IX m (w .0) r i (w .1)
+
   -- the nodes of one event are totally ordered by "before"
   pub events-in-line : (m n e : ℕ) → Is a m (Kind.Event e) → Is a n (Kind.Event e) → Before a m n ⊎ (m ≡ n) ⊎ Before a n m
   events-in-line m n e i j =
       elim (ℕ-discrete m n) [ yes q ↦ inr (inl q) | no d ↦ ⊎-elim inl (λ b. inr (inr b)) (ok .rule-XI m n e i j d) ]
+
+  -- a resource is unnamed, or has its one claim before its one release
+  pub named : (r : ℕ) → Unnamed a r ⊎ Paired a r
+  named r = go (tells-some (λ m. isClaim r (kindOf a m)) (λ m. kindOf a m ≡ Kind.Claim r) (length a) (λ m l. claims .tells-is r (kindOf a m)))
+    where
+      unnamed : ((m : ℕ) × (m < length a) × (kindOf a m ≡ Kind.Claim r) → ⊥) → Unnamed a r
+      unnamed d =
+          record {
+            unclaimed = λ n i. d (n, i .within, i .kind);
+            unreleased = λ n i. let w = ok .rule-VI n r i in d (w .0, w .1 .within, w .1 .kind);
+          }
+
+      paired : (m : ℕ) → Is a m (Kind.Claim r) → Paired a r
+      paired m i =
+          let w = ok .rule-VII m r i in
+          record {
+            claim = m;
+            release = w .0;
+            is-claim = i;
+            is-release = w .1;
+            before = w .2;
+            one-claim = λ n j. ok .rule-II n m r j i;
+            one-release = λ n j. ok .rule-III n (w .0) r j (w .1);
+          }
+
+      go : {b : Bool} → Tells b ((m : ℕ) × (m < length a) × (kindOf a m ≡ Kind.Claim r)) → Unnamed a r ⊎ Paired a r
+      go (holds w) = inr (paired (w .0) (record { within = w .1; kind = w .2 }))
+      go (fails d) = inl (unnamed d)

@@ -15,12 +15,15 @@ use Rattle.activity.specs.declared.Finding.{Finding}
 use Rattle.activity.specs.Rules.{node}
 use Rattle.activity.specs.Tests.{every, some, implies, none, bit, isAction, isClaim, isRelease, isEvent, ofAction, ofClaim, ofRelease, ofEvent, beforeWords}
 
+-- the kind of node n
 abbrev pub kindOf : List Node → ℕ → Kind
 kindOf a n = node a n .kind
 
+-- m is before n
 abbrev pub before : List ℕ → ℕ → ℕ → Bool
 before words m n = bit (getD words n 0) m
 
+-- one of the two is before the other
 abbrev pub ordered : List ℕ → ℕ → ℕ → Bool
 ordered words m n = before words m n || before words n m
 
@@ -88,6 +91,7 @@ faultBy belongs words a =
     (unless (ruleXI words a) Fault.EventsUnordered
     Finding.Good)))))))
 
+-- the fault of an activity; `belongs` gives the resource of each peripheral
 unfoldable pub faultOf : (ℕ → ℕ) → List Node → Finding
 faultOf belongs a = faultBy belongs (beforeWords a) a
 

@@ -1,12 +1,12 @@
 -- A test tells whether a statement holds, and the tests of `Tests` tell what their names say.
-use mathlib.Core.Path.{_≡_, refl, sym, ap, _∙_, subst}
+use mathlib.Core.Path.{_≡_, refl, sym, ap, subst}
 use mathlib.Core.Bool.{Bool, true, false, not, _&&_, _||_}
 use mathlib.Core.List.{List, [], _∷_}
 use mathlib.Core.Logic.{_⊎_, inl, inr, _↔_, ⊎-elim}
 use Prim.Native.Nat.{ℕ, zero, suc, _<_}
 use native.Mathlib.Nat.{eq-or-lt-of-le, le-of-suc-le-suc}
 use native.Mathlib.Omega.{arith}
-use borrow.Author.Tests.{eqb-true, eqb-false}
+use borrow.Author.Tests.{eqb-true, eqb-false, not-true, not-false}
 use lib.Dec.{eqb}
 use Rattle.lists.specs.Lists.{Among}
 use Rattle.plan.specs.declared.Kind.{Kind}
@@ -32,12 +32,12 @@ told-true {P = P} t e = told (subst (λ (x : Bool). Tells x P) e t)
 pub told-false : {b : Bool} {P : Type 0} → Tells b P → b ≡ false → P → ⊥
 told-false {P = P} t e = denied (subst (λ (x : Bool). Tells x P) e t)
 
--- two tests of one statement agree
-pub tells-same : {b c : Bool} {P : Type 0} → Tells b P → Tells c P → b ≡ c
-tells-same (holds p) (holds q) = refl
-tells-same (holds p) (fails q) = absurd (q p)
-tells-same (fails p) (holds q) = absurd (p q)
-tells-same (fails p) (fails q) = refl
+-- what the negation of a test says
+pub granted : {b : Bool} {P : Type 0} → Tells b P → not b ≡ false → P
+granted {b} t e = told-true t (not-false b e)
+
+pub refuted : {b : Bool} {P : Type 0} → Tells b P → not b ≡ true → P → ⊥
+refuted {b} t e = told-false t (not-true b e)
 
 -- a test of P tests what is equivalent to P
 pub tells-iff : {b : Bool} {P Q : Type 0} → P ↔ Q → Tells b P → Tells b Q
@@ -104,7 +104,7 @@ pub record Sort (is : ℕ → Kind → Bool) (of : Kind → (ℕ → Bool) → B
   pub tells-is : (r : ℕ) (k : Kind) → Tells (is r k) (K r k)
   pub tells-of : (k : Kind) (f : ℕ → Bool) (P : ℕ → Type 0) → ((r : ℕ) → Tells (f r) (P r)) → Tells (of k f) ((r : ℕ) → K r k → P r)
 
-differ : _≡_ {A = ℕ} 0 1 → ⊥
+pub differ : _≡_ {A = ℕ} 0 1 → ⊥
 differ e = omega arith
 
 pub actions : Sort isAction ofAction (λ p k. (x : ℕ) × (k ≡ Kind.Action x p))

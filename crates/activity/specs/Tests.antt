@@ -19,10 +19,12 @@ unfoldable pub some : ℕ → (ℕ → Bool) → Bool
 some zero f = false
 some (suc n) f = f n || some n f
 
+-- where the first holds, the second does
 abbrev pub implies : Bool → Bool → Bool
 implies true b = b
 implies false b = true
 
+-- the list is empty
 abbrev pub none : List ℕ → Bool
 none [] = true
 none (m ∷ ms) = false
@@ -96,9 +98,11 @@ wordOf (m ∷ ms) = bitOr (2 ^ m) (wordOf ms)
 abbrev pub through : ℕ → ℕ → ℕ → ℕ
 through k row w = cond (bit w k) (bitOr w row) w
 
+-- one pass, through node k, over all words
 abbrev pub pass : ℕ → List ℕ → List ℕ
 pass k t = map (through k (getD t k 0)) t
 
+-- the passes through j nodes from k on
 unfoldable pub passes : ℕ → ℕ → List ℕ → List ℕ
 passes k zero t = t
 passes k (suc j) t = passes (k + 1) j (pass k t)

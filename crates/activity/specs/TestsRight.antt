@@ -1,22 +1,22 @@
 -- Each test of `Number` tells whether its rule of `Rules` holds. Assumes nothing.
-use mathlib.Core.Path.{_≡_, refl, sym, ap, _∙_, subst}
-use mathlib.Core.Bool.{Bool, true, false, not, _&&_, _||_}
+use mathlib.Core.Path.{_≡_}
+use mathlib.Core.Bool.{Bool, not, _&&_, _||_}
 use mathlib.Core.List.{List}
 use mathlib.Core.Logic.{_⊎_, inl, inr, _↔_, ⊎-elim}
 use Prim.Native.Nat.{ℕ, _<_}
 use native.Mathlib.Decide.{ℕ-discrete}
 use lib.ListN.{length, getD}
 use lib.Dec.{eqb}
-use Rattle.lists.specs.Lists.{Among, Chain, one, more}
+use Rattle.lists.specs.Lists.{one}
 use Rattle.plan.specs.Plan.{predecessors}
 use Rattle.plan.specs.declared.Kind.{Kind}
 use Rattle.plan.specs.declared.Node.{Node}
-use Rattle.activity.specs.Rules.{node, Is, Arrow, Before, Ordered, NoCycle, RuleI, RuleII, RuleIII, RuleIV, RuleV, RuleVI, RuleVII, RuleVIII, RuleIX, RuleX, RuleXI}
-use Rattle.activity.specs.Tests.{every, some, implies, none, isAction, isClaim, isRelease, isEvent, ofAction, ofClaim, ofRelease, ofEvent}
+use Rattle.activity.specs.Rules.{node, Is, Before, Ordered, NoCycle, RuleI, RuleII, RuleIII, RuleIV, RuleV, RuleVI, RuleVII, RuleVIII, RuleIX, RuleX, RuleXI}
+use Rattle.activity.specs.Tests.{every, some, implies}
 use Rattle.activity.specs.Number.{kindOf, before, ordered, noCycle, ruleI, ruleII, ruleIII, ruleIV, ruleV, ruleVI, ruleVII, ruleVIII, ruleIX, ruleX, ruleXI}
 use Rattle.activity.specs.Tells.{Tells, Sort, actions, claims, releases, events, tells-iff, tells-not, tells-and, tells-or, tells-implies, tells-eqb, tells-none, tells-any, tells-every, tells-some}
 use Rattle.activity.specs.Bits.{tells-bit}
-use Rattle.activity.specs.Closure.{Rel, Closure, within}
+use Rattle.activity.specs.Closure.{Closure, within, first-arrow}
 
 -- the nodes of a sort, one by one
 module _ (a : List Node) {is : ℕ → Kind → Bool} {of : Kind → (ℕ → Bool) → Bool} {K : ℕ → Kind → Type 0} (s : Sort is of K) where
@@ -27,27 +27,27 @@ module _ (a : List Node) {is : ℕ → Kind → Bool} {of : Kind → (ℕ → Bo
       tells-every (λ n. of (kindOf a n) (f n)) (λ n. (r : ℕ) → K r (kindOf a n) → P n r) (length a)
       (λ n l. s .tells-of (kindOf a n) (f n) (P n) (h n))
 
-  all-of :
+  pub all-of :
       {f : ℕ → Bool} {P : ℕ → Type 0} (r : ℕ) → ((m : ℕ) → Tells (f m) (P m))
       → Tells (every (length a) (λ m. implies (is r (kindOf a m)) (f m))) ((m : ℕ) → m < length a → K r (kindOf a m) → P m)
   all-of {f} {P} r h =
       tells-every (λ m. implies (is r (kindOf a m)) (f m)) (λ m. K r (kindOf a m) → P m) (length a)
       (λ m l. tells-implies (s .tells-is r (kindOf a m)) (h m))
 
-  one-of :
+  pub one-of :
       {f : ℕ → Bool} {P : ℕ → Type 0} (r : ℕ) → ((m : ℕ) → Tells (f m) (P m))
       → Tells (some (length a) (λ m. is r (kindOf a m) && f m)) ((m : ℕ) × (m < length a) × (K r (kindOf a m) × P m))
   one-of {f} {P} r h =
       tells-some (λ m. is r (kindOf a m) && f m) (λ m. K r (kindOf a m) × P m) (length a)
       (λ m l. tells-and (s .tells-is r (kindOf a m)) (h m))
 
-is-node : {a : List Node} {n : ℕ} {k : Kind} → n < length a → kindOf a n ≡ k → Is a n k
+pub is-node : {a : List Node} {n : ℕ} {k : Kind} → n < length a → kindOf a n ≡ k → Is a n k
 is-node l e = record { within = l; kind = e }
 
-same-or : {Q : Type 0} (m n : ℕ) → ((m ≡ n → ⊥) → Q) → (m ≡ n) ⊎ Q
+pub same-or : {Q : Type 0} (m n : ℕ) → ((m ≡ n → ⊥) → Q) → (m ≡ n) ⊎ Q
 same-or m n f = elim (ℕ-discrete m n) [ yes e ↦ inl e | no d ↦ inr (f d) ]
 
-not-same : {Q : Type 0} {m n : ℕ} → (m ≡ n → ⊥) → (m ≡ n) ⊎ Q → Q
+pub not-same : {Q : Type 0} {m n : ℕ} → (m ≡ n → ⊥) → (m ≡ n) ⊎ Q → Q
 not-same d s = ⊎-elim (λ e. absurd (d e)) (λ q. q) s
 
 -- a claim or a release that is another's, once it is one of the sort
@@ -101,19 +101,14 @@ tells-X a =
     )
     (each a events (λ n e. tells-any (predecessors (node a n))))
 
--- a node that is before another has a successor
-first-arrow : {a : List Node} {m n : ℕ} → Before a m n → (k : ℕ) × Arrow a m k
-first-arrow {n = n} (one x) = (n, x)
-first-arrow (more b x) = first-arrow b
-
 module _ (a : List Node) (words : List ℕ) (h : Closure a words) where
-  tells-before : (m n : ℕ) → Tells (before words m n) (Before a m n)
+  pub tells-before : (m n : ℕ) → Tells (before words m n) (Before a m n)
   tells-before m n = tells-iff (h m n) (tells-bit (getD words n 0) m)
 
   tells-ordered : (m n : ℕ) → Tells (ordered words m n) (Ordered a m n)
   tells-ordered m n = tells-or (tells-before m n) (tells-before n m)
 
-  same-or-ordered : (m n : ℕ) → Tells (eqb m n || ordered words m n) ((m ≡ n) ⊎ Ordered a m n)
+  pub same-or-ordered : (m n : ℕ) → Tells (eqb m n || ordered words m n) ((m ≡ n) ⊎ Ordered a m n)
   same-or-ordered m n = tells-or (tells-eqb m n) (tells-ordered m n)
 
   pub tells-noCycle : Tells (noCycle words a) (NoCycle a)

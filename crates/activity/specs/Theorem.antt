@@ -1,93 +1,28 @@
 -- "it is returned iff its rule is broken and no earlier one is": `faultOf` judges every activity right, whatever it holds.
 -- Assumes nothing.
-use mathlib.Core.Path.{_≡_, refl, sym, ap, _∙_, subst}
-use mathlib.Core.Bool.{Bool, true, false, _&&_}
-use mathlib.Core.List.{List, [], _∷_}
-use mathlib.Core.Logic.{_⊎_, inl, inr, _↔_, ⊎-elim}
-use Prim.Native.Nat.{ℕ, suc, _+_, _<_, _≤_}
+use mathlib.Core.Path.{_≡_, refl, ap, subst}
+use mathlib.Core.Bool.{Bool}
+use mathlib.Core.List.{List}
+use mathlib.Core.Logic.{_↔_}
+use Prim.Native.Nat.{ℕ}
 use native.Mathlib.Omega.{arith}
-use native.Mathlib.Nat.{eq-or-lt-of-le, le-of-suc-le-suc}
 use native.Mathlib.Decide.{decLt}
-use lib.ListN.{length, getD}
 use Rattle.plan.specs.Fault.{numberOf}
 use Rattle.plan.specs.declared.Node.{Node}
 use Rattle.plan.specs.declared.Fault.{Fault}
 use Rattle.activity.specs.declared.Finding.{Finding}
 use Rattle.activity.specs.Rules.{NoCycle, RuleI, RuleII, RuleIII, RuleIV, RuleV, RuleVI, RuleVII, RuleVIII, RuleIX, RuleX, RuleXI, Meets}
-use Rattle.activity.specs.Number.{noCycle, ruleI, ruleII, ruleIII, ruleIV, ruleV, ruleVI, ruleVII, ruleVIII, ruleIX, ruleX, ruleXI, unless, faultBy, faultOf}
+use Rattle.activity.specs.Number.{unless, faultBy, faultOf}
 use Rattle.activity.specs.Tests.{beforeWords}
-use Rattle.activity.specs.Tells.{Tells, Answer, holds, fails, tells-and}
+use Rattle.activity.specs.Tells.{Tells, holds, fails, tells-and}
 use Rattle.activity.specs.Closure.{Closure, words-right}
 use Rattle.activity.specs.Judged.{Rule, First, Judged}
+use Rattle.activity.specs.Order.{Below, up, same-number}
 use Rattle.activity.specs.TestsRight.{tells-noCycle, tells-I, tells-II, tells-III, tells-IV, tells-V, tells-VI, tells-VII, tells-VIII, tells-IX, tells-X, tells-XI}
-
--- the faults by number; the first stands for numbers that no fault has
-abbrev faults : List Fault
-faults =
-    Fault.Ends
-    ∷ Fault.Ends
-    ∷ Fault.Map
-    ∷ Fault.Count
-    ∷ Fault.Names
-    ∷ Fault.NotRising
-    ∷ Fault.LeftOver
-    ∷ Fault.NoAutomaton
-    ∷ Fault.Duration
-    ∷ Fault.Ends
-    ∷ Fault.Ends
-    ∷ Fault.Cycle
-    ∷ Fault.ActionsUnordered
-    ∷ Fault.NamedTwice
-    ∷ Fault.ActionUnheld
-    ∷ Fault.ClaimUnpaired
-    ∷ Fault.ArrowPastEnd
-    ∷ Fault.EventFirst
-    ∷ Fault.EventsUnordered
-    ∷ Fault.Ends
-    ∷ Fault.Ends
-    ∷ Fault.WayOutOfFinal
-    ∷ Fault.ForbiddenBranch
-    ∷ Fault.OutcomeMissing
-    ∷ Fault.NoWayToFinal
-    ∷ Fault.Unbalanced
-    ∷ Fault.TooManyPending
-    ∷ []
-
-by-number : (f : Fault) → getD faults (numberOf f) Fault.Ends ≡ f
-by-number Fault.Ends = refl
-by-number Fault.Map = refl
-by-number Fault.NoAutomaton = refl
-by-number Fault.Count = refl
-by-number Fault.Names = refl
-by-number Fault.Duration = refl
-by-number Fault.NotRising = refl
-by-number Fault.LeftOver = refl
-by-number Fault.Cycle = refl
-by-number Fault.ActionsUnordered = refl
-by-number Fault.NamedTwice = refl
-by-number Fault.ActionUnheld = refl
-by-number Fault.ClaimUnpaired = refl
-by-number Fault.ArrowPastEnd = refl
-by-number Fault.EventFirst = refl
-by-number Fault.EventsUnordered = refl
-by-number Fault.WayOutOfFinal = refl
-by-number Fault.ForbiddenBranch = refl
-by-number Fault.OutcomeMissing = refl
-by-number Fault.NoWayToFinal = refl
-by-number Fault.Unbalanced = refl
-by-number Fault.TooManyPending = refl
-
--- two faults with one number are one
-pub same-number : (f g : Fault) → numberOf f ≡ numberOf g → f ≡ g
-same-number f g e = sym (by-number f) ∙ ap (λ (i : ℕ). getD faults i Fault.Ends) e ∙ by-number g
-
--- the rules of all numbers below f's
-abbrev Earlier : (ℕ → ℕ) → List Node → Fault → Type 0
-Earlier belongs a f = (g : Fault) → numberOf g < numberOf f → Rule belongs a g
 
 module _ (belongs : ℕ → ℕ) (a : List Node) where
   -- no number below 11 is an activity's
-  start : Earlier belongs a Fault.Cycle
+  pub start : Below (Rule belongs a) 11
   start Fault.Ends l = tt
   start Fault.Map l = tt
   start Fault.NoAutomaton l = tt
@@ -111,14 +46,9 @@ module _ (belongs : ℕ → ℕ) (a : List Node) where
   start Fault.Unbalanced l = tt
   start Fault.TooManyPending l = tt
 
-  next : (f g : Fault) → numberOf g ≡ suc (numberOf f) → Earlier belongs a f → Rule belongs a f → Earlier belongs a g
-  next f g e h r i l =
-      let k : numberOf i ≤ numberOf f = omega arith in
-      elim (eq-or-lt-of-le k) [ inl q ↦ subst (Rule belongs a) (sym (same-number i f q)) r | inr q ↦ h i q ]
-
   -- a test that is broken, or what comes after it
   one-more :
-      {b : Bool} (f : Fault) (n : Finding) → Tells b (Rule belongs a f) → Earlier belongs a f → (Rule belongs a f → Judged belongs a n)
+      {b : Bool} (f : Fault) (n : Finding) → Tells b (Rule belongs a f) → Below (Rule belongs a) (numberOf f) → (Rule belongs a f → Judged belongs a n)
       → Judged belongs a (unless b f n)
   one-more f n (holds r) e k = k r
   one-more f n (fails d) e k = record { broken = d; earlier = e }
@@ -127,19 +57,19 @@ module _ (belongs : ℕ → ℕ) (a : List Node) where
   unfolding faultBy
   judged-by words h =
       one-more Fault.Cycle _ (tells-noCycle a words h) start (λ r1.
-      let e2 = next Fault.Cycle Fault.ActionsUnordered refl start r1 in
+      let e2 = up Fault.Cycle start r1 in
       one-more Fault.ActionsUnordered _ (tells-I a words h) e2 (λ r2.
-      let e3 = next Fault.ActionsUnordered Fault.NamedTwice refl e2 r2 in
+      let e3 = up Fault.ActionsUnordered e2 r2 in
       one-more Fault.NamedTwice _ (tells-and (tells-II a) (tells-III a)) e3 (λ r3.
-      let e4 = next Fault.NamedTwice Fault.ActionUnheld refl e3 r3 in
+      let e4 = up Fault.NamedTwice e3 r3 in
       one-more Fault.ActionUnheld _ (tells-and (tells-IV a words h belongs) (tells-V a words h belongs)) e4 (λ r4.
-      let e5 = next Fault.ActionUnheld Fault.ClaimUnpaired refl e4 r4 in
+      let e5 = up Fault.ActionUnheld e4 r4 in
       one-more Fault.ClaimUnpaired _ (tells-and (tells-VI a words h) (tells-VII a words h)) e5 (λ r5.
-      let e6 = next Fault.ClaimUnpaired Fault.ArrowPastEnd refl e5 r5 in
+      let e6 = up Fault.ClaimUnpaired e5 r5 in
       one-more Fault.ArrowPastEnd _ (tells-and (tells-VIII a) (tells-IX a words h)) e6 (λ r6.
-      let e7 = next Fault.ArrowPastEnd Fault.EventFirst refl e6 r6 in
+      let e7 = up Fault.ArrowPastEnd e6 r6 in
       one-more Fault.EventFirst _ (tells-X a) e7 (λ r7.
-      let e8 = next Fault.EventFirst Fault.EventsUnordered refl e7 r7 in
+      let e8 = up Fault.EventFirst e7 r7 in
       one-more Fault.EventsUnordered _ (tells-XI a words h) e8 (λ r8. all r1 r2 r3 r4 r5 r6 r7 r8))))))))
     where
       all :

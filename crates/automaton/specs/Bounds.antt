@@ -1,7 +1,7 @@
 -- What the limits of a plan say of its automaton and of what its activities emit.
-use mathlib.Core.Path.{_≡_, refl, sym, ap, _∙_, subst}
+use mathlib.Core.Path.{_≡_, refl, ap, subst}
 use mathlib.Core.Bool.{Bool, true, false}
-use mathlib.Core.List.{List, [], _∷_}
+use mathlib.Core.List.{List}
 use Prim.Native.Nat.{ℕ, zero, suc, _+_, _*_, _≤_, _<_}
 use native.Mathlib.Omega.{arith}
 use borrow.Author.Tests.{ne-eqb}
@@ -13,7 +13,7 @@ use Rattle.plan.specs.declared.Node.{Node}
 use Rattle.plan.specs.declared.Input.{Input}
 use Rattle.plan.specs.declared.Output.{Output}
 use Rattle.plan.specs.declared.Plan.{Plan}
-use Rattle.plan.specs.Plan.{pastNode, sizeOf, outcomesOf, move}
+use Rattle.plan.specs.Plan.{pastNode, sizeOf, move}
 use Rattle.plan.specs.Limits.{KindNames, InputNames, OutputNames, InLimits, nodeAt}
 use Rattle.automaton.specs.Rules.{one, ofEvent, eventsIn, emits}
 use Rattle.automaton.specs.Counts.{InputOk, OutputOk, InRange, Bounded}

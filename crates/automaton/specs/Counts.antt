@@ -1,9 +1,9 @@
 -- One count of each event at each state: counts that fit every transition are those of every path from the initial state, and where no counts fit, a path breaks number 25, provided that every state has a path to a final one.
 use mathlib.Core.Path.{_≡_, refl, sym, ap, _∙_, subst}
 use mathlib.Core.Bool.{Bool, true, false}
-use mathlib.Core.List.{List, [], _∷_}
+use mathlib.Core.List.{List}
 use mathlib.Core.Logic.{_⊎_, inl, inr}
-use Prim.Native.Nat.{ℕ, zero, suc, _+_, _-_, _*_, _≤_, _<_}
+use Prim.Native.Nat.{ℕ, _+_, _*_, _≤_, _<_}
 use native.Mathlib.Omega.{arith}
 use native.Mathlib.Decide.{decLt}
 use borrow.Author.Tests.{eqb-true, eq-eqb}
@@ -14,7 +14,7 @@ use Rattle.plan.specs.declared.Transition.{Transition}
 use Rattle.plan.specs.declared.Automaton.{Automaton}
 use Rattle.plan.specs.Plan.{move, isFinal}
 use Rattle.automaton.specs.Tests.{at, flag}
-use Rattle.automaton.specs.Rules.{Leaves, Processes, Path, none, more, ToFinal, EveryState, one, takes, processed, emitted, Breaks25, unemitted, leftover, Breaks26}
+use Rattle.automaton.specs.Rules.{Leaves, Path, none, more, ToFinal, EveryState, one, takes, processed, emitted, Breaks25, unemitted, leftover, Breaks26}
 
 -- ---- what the limits of a plan say of its automaton
 
@@ -164,7 +164,7 @@ module _ (a : Automaton) (gives : Output → ℕ → ℕ) where
         unemitted w e (k .0) (record { index = i; leaves = l; input = k .1 }) (omega arith)
   ]
 
-  short : {q : ℕ} (w : Path a (a .initial) q) (e : ℕ) → emitted a gives e w < processed a e w → Breaks25 a gives
+  pub short : {q : ℕ} (w : Path a (a .initial) q) (e : ℕ) → emitted a gives e w < processed a e w → Breaks25 a gives
   short none e h = absurd (omega arith)
   short (more w i l t) e h = last-one w i e l (λ x. short w e x) h
 

@@ -1,11 +1,10 @@
 -- The verdict that specs/Number.antt computes is the one that the rules give, for every plan within the limits; and the rules give no other.
-use mathlib.Core.Path.{_≡_, refl, sym, ap, _∙_, subst}
+use mathlib.Core.Path.{_≡_, refl, ap, _∙_, subst}
 use mathlib.Core.Bool.{Bool, true, false}
-use mathlib.Core.List.{List, [], _∷_}
-use Prim.Native.Nat.{ℕ, _+_, _≤_, _<_}
+use Prim.Native.Nat.{ℕ, _+_, _<_}
 use native.Mathlib.Omega.{arith}
 use native.Mathlib.Decide.{decLt}
-use borrow.Author.Tests.{lt-ltb, le-ltb, ltb-true, ltb-false}
+use borrow.Author.Tests.{ltb-true, ltb-false}
 use lib.Dec.{ltb}
 use Rattle.plan.specs.declared.Output.{Output}
 use Rattle.plan.specs.declared.Automaton.{Automaton}
@@ -15,7 +14,7 @@ use Rattle.plan.specs.declared.Verdict.{Verdict}
 use Rattle.plan.specs.Plan.{outcomesOf, move}
 use Rattle.plan.specs.Limits.{InLimits}
 use Rattle.automaton.specs.Tests.{flag, pick, Tells}
-use Rattle.automaton.specs.Rules.{NoWayOut, Branches, Serves, ToFinal, EveryState, EmittedFirst, NoneLeft, AtMostEight, processed, emitted, emits, MeetsAutomaton, LowestAtFault, Breaks25, unemitted, leftover, Breaks26, Judges, number21, number22, number23, number24, number25, number26, accepted}
+use Rattle.automaton.specs.Rules.{Rule21, Rule22, Rule23, Rule24, NoWayOut, Branches, Serves, ToFinal, EveryState, EmittedFirst, NoneLeft, AtMostEight, processed, emitted, emits, MeetsAutomaton, LowestAtFault, Breaks25, unemitted, leftover, Breaks26, Judges, number21, number22, number23, number24, number25, number26, accepted}
 use Rattle.automaton.specs.Number.{lowest, noWayOut, branches, serves, toFinal, pathVerdict, orElse, wayVerdict, stateVerdict, automatonVerdict}
 use Rattle.automaton.specs.Counts.{InRange, Bounded}
 use Rattle.automaton.specs.Bounds.{in-range, emits-bounded, emits-small}
@@ -96,16 +95,16 @@ module _ (p : Plan) (limits : InLimits p) where
   abbrev a : Automaton
   a = p .automaton
 
-  t23 : EveryState a (Branches a) → (q : ℕ) → q < a .states → Tells (serves a (outcomesOf p) q) (Serves a (outcomesOf p) q)
+  t23 : Rule22 p → (q : ℕ) → q < a .states → Tells (serves a (outcomesOf p) q) (Serves a (outcomesOf p) q)
   t23 b q l = tells-23 a (outcomesOf p) q (b q l)
 
   t24 : (q : ℕ) → q < a .states → Tells (flag (toFinal a) q) (ToFinal a q)
   t24 = tells-24 a (in-range p limits)
 
-  paths : EveryState a (ToFinal a) → OnPaths a (emits p) (pathVerdict a (emits p))
+  paths : Rule24 p → OnPaths a (emits p) (pathVerdict a (emits p))
   paths w = path-verdict a (emits p) (in-range p limits) (emits-small p limits) (emits-bounded p limits) w
 
-  last : EveryState a (NoWayOut a) → EveryState a (Branches a) → EveryState a (Serves a (outcomesOf p)) → EveryState a (ToFinal a)
+  last : Rule21 p → Rule22 p → Rule23 p → Rule24 p
       → (v : Verdict) → OnPaths a (emits p) v → Judges p v
   last e b c w v (broken25 x) = number25 e b c w x
   last e b c w v (broken26 n x) = number26 e b c w n x
@@ -138,17 +137,17 @@ module _ (p : Plan) (limits : InLimits p) where
   abbrev from22 : Verdict
   from22 = orElse a Fault.ForbiddenBranch (lowest (branches a) 0 (a .states)) from23
 
-  past21 : EveryState a (NoWayOut a) → automatonVerdict p ≡ from22
+  past21 : Rule21 p → automatonVerdict p ≡ from22
   unfolding automatonVerdict stateVerdict wayVerdict
   past21 e = passes a (NoWayOut a) (noWayOut a) (λ q l. tells-21 a q) Fault.WayOutOfFinal from22 e
 
-  past22 : EveryState a (NoWayOut a) → EveryState a (Branches a) → automatonVerdict p ≡ from23
+  past22 : Rule21 p → Rule22 p → automatonVerdict p ≡ from23
   past22 e b = past21 e ∙ passes a (Branches a) (branches a) (λ q l. tells-22 a q) Fault.ForbiddenBranch from23 b
 
-  past23 : EveryState a (NoWayOut a) → EveryState a (Branches a) → EveryState a (Serves a (outcomesOf p)) → automatonVerdict p ≡ from24
+  past23 : Rule21 p → Rule22 p → Rule23 p → automatonVerdict p ≡ from24
   past23 e b c = past22 e b ∙ passes a (Serves a (outcomesOf p)) (serves a (outcomesOf p)) (t23 b) Fault.OutcomeMissing from24 c
 
-  past24 : EveryState a (NoWayOut a) → EveryState a (Branches a) → EveryState a (Serves a (outcomesOf p)) → EveryState a (ToFinal a)
+  past24 : Rule21 p → Rule22 p → Rule23 p → Rule24 p
       → automatonVerdict p ≡ pathVerdict a (emits p)
   past24 e b c w = past23 e b c ∙ passes a (ToFinal a) (flag (toFinal a)) t24 Fault.NoWayToFinal (pathVerdict a (emits p)) w
 
@@ -173,3 +172,21 @@ module _ (p : Plan) (limits : InLimits p) where
 
   pub accepted-iff : (automatonVerdict p ≡ Verdict.Accepted → MeetsAutomaton p) × (MeetsAutomaton p → automatonVerdict p ≡ Verdict.Accepted)
   accepted-iff = (λ e. meets (subst (Judges p) e judged), λ m. determined Verdict.Accepted (accepted m))
+
+  -- where 21 to 24 are kept: 25 if and only if some path from the initial state processes an event that is not pending, or ends in
+  -- a final state with something left
+  pub unbalanced-iff : Rule21 p → Rule22 p → Rule23 p → Rule24 p
+      → (automatonVerdict p ≡ Verdict.Refused Fault.Unbalanced 0 → Breaks25 a (emits p)) × (Breaks25 a (emits p) → automatonVerdict p ≡ Verdict.Refused Fault.Unbalanced 0)
+  unbalanced-iff e b c w = (λ h. found (subst (Judges p) h judged), λ x. determined (Verdict.Refused Fault.Unbalanced 0) (number25 e b c w x))
+    where
+      found : Judges p (Verdict.Refused Fault.Unbalanced 0) → Breaks25 a (emits p)
+      found (number25 e b c w x) = x
+
+  -- 26 if and only if there is no such path, and some path reaches a state with more than 8 of an event pending
+  pub crowded-iff : Rule21 p → Rule22 p → Rule23 p → Rule24 p
+      → (automatonVerdict p ≡ Verdict.Refused Fault.TooManyPending 0 → (Breaks25 a (emits p) → ⊥) × Breaks26 a (emits p))
+      × ((Breaks25 a (emits p) → ⊥) → Breaks26 a (emits p) → automatonVerdict p ≡ Verdict.Refused Fault.TooManyPending 0)
+  crowded-iff e b c w = (λ h. found (subst (Judges p) h judged), λ n x. determined (Verdict.Refused Fault.TooManyPending 0) (number26 e b c w n x))
+    where
+      found : Judges p (Verdict.Refused Fault.TooManyPending 0) → (Breaks25 a (emits p) → ⊥) × Breaks26 a (emits p)
+      found (number26 e b c w n x) = (n, x)

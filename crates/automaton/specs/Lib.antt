@@ -12,3 +12,6 @@ pub mod Lowest
 pub mod Bounds
 pub mod OnPaths
 pub mod Decides
+pub mod Scan
+pub mod Later
+pub mod Halts

@@ -3,7 +3,7 @@ use mathlib.Core.Bool.{Bool, true, false, not}
 use mathlib.Core.List.{List, [], _∷_}
 use Prim.Native.Nat.{ℕ, zero, suc, _+_, _-_, _*_}
 use lib.Dec.{eqb, leb, ltb}
-use lib.ListN.{getD, set, replicate}
+use lib.ListN.{set, replicate}
 use Rattle.plan.specs.declared.Input.{Input}
 use Rattle.plan.specs.declared.Output.{Output}
 use Rattle.plan.specs.declared.Transition.{Transition}
@@ -35,12 +35,13 @@ isEnded (Next.Waits e) = false
 unfoldable pub noWayOut : Automaton → ℕ → Bool
 noWayOut a s = pick (isFinal a s) (isEnded (nextOf a s)) true
 
+-- two inputs process the same event with different outcomes
 abbrev pub apart : Input → Input → Bool
 apart Input.Nothing n = false
 apart (Input.Outcome e o) Input.Nothing = false
 apart (Input.Outcome e o) (Input.Outcome f q) = both (eqb e f) (not (eqb o q))
 
--- transition t of state s branches from each of the transitions that leaves s
+-- the input m branches from those of all the transitions that leave s
 unfoldable pub apartFrom : Input → List Transition → ℕ → Bool
 apartFrom m [] s = true
 apartFrom m (u ∷ us) s = pick (eqb (u .from) s) (both (apart m (u .input)) (apartFrom m us s)) (apartFrom m us s)
@@ -79,6 +80,7 @@ rounds pass left n x = again pass left n x (pass x)
 
 -- ---- 24: back from the final states
 
+-- how many flags do not stand
 unfoldable pub falses : List Bool → ℕ
 falses [] = 0
 falses (true ∷ D) = falses D

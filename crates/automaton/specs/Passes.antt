@@ -13,7 +13,7 @@ use Rattle.plan.specs.declared.Output.{Output}
 use Rattle.plan.specs.declared.Automaton.{Automaton}
 use Rattle.plan.specs.Plan.{move, isFinal}
 use Rattle.automaton.specs.Tests.{at, flag, Tells, true-false, tells-same}
-use Rattle.automaton.specs.Rules.{Leaves, Path, none, more, ToFinal, takes, processed, emitted}
+use Rattle.automaton.specs.Rules.{Path, none, more, ToFinal, takes}
 use Rattle.automaton.specs.Number.{falses}
 use Rattle.automaton.specs.Counts.{InRange, Witness, Ready, Known}
 

@@ -45,6 +45,7 @@ abbrev pub Branches : Automaton → ℕ → Type 0
 Branches a s = (i j : ℕ) → Leaves a s i → Leaves a s j → (i ≡ j → ⊥) → Branch (move a i .input) (move a j .input)
 
 -- "A state that processes an event has one transition for each outcome of it (Def. 5, here for unbranched states too)."
+-- That it is only one follows from the sentence before.
 abbrev pub Serves : Automaton → (ℕ → ℕ) → ℕ → Type 0
 Serves a outcomes s = (e o : ℕ) → Processes a s e o → (q : ℕ) → q < outcomes e → Processes a s e q
 
@@ -101,6 +102,7 @@ abbrev pub pending : (a : Automaton) (gives : Output → ℕ → ℕ) (e : ℕ) 
 pending a gives e w = emitted a gives e w - processed a e w
 
 -- "Along every path from the initial state, an event is processed only while more of it have been emitted than processed,"
+-- "A transition processes first, then emits": what it emits itself does not count.
 abbrev pub EmittedFirst : Automaton → (Output → ℕ → ℕ) → Type 0
 EmittedFirst a gives = (s : ℕ) (w : Path a (a .initial) s) (e o : ℕ) → Processes a s e o → processed a e w < emitted a gives e w
 
@@ -112,11 +114,25 @@ NoneLeft a gives = (s : ℕ) (w : Path a (a .initial) s) → isFinal a s ≡ tru
 abbrev pub AtMostEight : Automaton → (Output → ℕ → ℕ) → Type 0
 AtMostEight a gives = (s : ℕ) (w : Path a (a .initial) s) (e : ℕ) → pending a gives e w ≤ 8
 
+-- the rules 21 to 24 hold at every state, unreachable ones too
+abbrev pub Rule21 : Plan → Type 0
+Rule21 p = EveryState (p .automaton) (NoWayOut (p .automaton))
+
+abbrev pub Rule22 : Plan → Type 0
+Rule22 p = EveryState (p .automaton) (Branches (p .automaton))
+
+abbrev pub Rule23 : Plan → Type 0
+Rule23 p = EveryState (p .automaton) (Serves (p .automaton) (outcomesOf p))
+
+abbrev pub Rule24 : Plan → Type 0
+Rule24 p = EveryState (p .automaton) (ToFinal (p .automaton))
+
+-- "What the automaton must satisfy"
 pub record MeetsAutomaton (p : Plan) : Type 0 where
-  pub ends : EveryState (p .automaton) (NoWayOut (p .automaton))
-  pub branches : EveryState (p .automaton) (Branches (p .automaton))
-  pub serves : EveryState (p .automaton) (Serves (p .automaton) (outcomesOf p))
-  pub ways : EveryState (p .automaton) (ToFinal (p .automaton))
+  pub ends : Rule21 p
+  pub branches : Rule22 p
+  pub serves : Rule23 p
+  pub ways : Rule24 p
   pub first : EmittedFirst (p .automaton) (emits p)
   pub clear : NoneLeft (p .automaton) (emits p)
   pub few : AtMostEight (p .automaton) (emits p)
@@ -146,17 +162,10 @@ pub record Breaks26 (a : Automaton) (gives : Output → ℕ → ℕ) : Type 0 wh
 -- 26 more than 8 pending, place 0."
 pub data Judges (p : Plan) : Verdict → Type 0 where
   number21 : {s : ℕ} → LowestAtFault (p .automaton) (NoWayOut (p .automaton)) s → Judges p (Verdict.Refused Fault.WayOutOfFinal s)
-  number22 : {s : ℕ} → EveryState (p .automaton) (NoWayOut (p .automaton)) → LowestAtFault (p .automaton) (Branches (p .automaton)) s
-      → Judges p (Verdict.Refused Fault.ForbiddenBranch s)
-  number23 : {s : ℕ} → EveryState (p .automaton) (NoWayOut (p .automaton)) → EveryState (p .automaton) (Branches (p .automaton))
-      → LowestAtFault (p .automaton) (Serves (p .automaton) (outcomesOf p)) s → Judges p (Verdict.Refused Fault.OutcomeMissing s)
-  number24 : {s : ℕ} → EveryState (p .automaton) (NoWayOut (p .automaton)) → EveryState (p .automaton) (Branches (p .automaton))
-      → EveryState (p .automaton) (Serves (p .automaton) (outcomesOf p)) → LowestAtFault (p .automaton) (ToFinal (p .automaton)) s
-      → Judges p (Verdict.Refused Fault.NoWayToFinal s)
-  number25 : EveryState (p .automaton) (NoWayOut (p .automaton)) → EveryState (p .automaton) (Branches (p .automaton))
-      → EveryState (p .automaton) (Serves (p .automaton) (outcomesOf p)) → EveryState (p .automaton) (ToFinal (p .automaton))
-      → Breaks25 (p .automaton) (emits p) → Judges p (Verdict.Refused Fault.Unbalanced 0)
-  number26 : EveryState (p .automaton) (NoWayOut (p .automaton)) → EveryState (p .automaton) (Branches (p .automaton))
-      → EveryState (p .automaton) (Serves (p .automaton) (outcomesOf p)) → EveryState (p .automaton) (ToFinal (p .automaton))
-      → (Breaks25 (p .automaton) (emits p) → ⊥) → Breaks26 (p .automaton) (emits p) → Judges p (Verdict.Refused Fault.TooManyPending 0)
+  number22 : {s : ℕ} → Rule21 p → LowestAtFault (p .automaton) (Branches (p .automaton)) s → Judges p (Verdict.Refused Fault.ForbiddenBranch s)
+  number23 : {s : ℕ} → Rule21 p → Rule22 p → LowestAtFault (p .automaton) (Serves (p .automaton) (outcomesOf p)) s → Judges p (Verdict.Refused Fault.OutcomeMissing s)
+  number24 : {s : ℕ} → Rule21 p → Rule22 p → Rule23 p → LowestAtFault (p .automaton) (ToFinal (p .automaton)) s → Judges p (Verdict.Refused Fault.NoWayToFinal s)
+  number25 : Rule21 p → Rule22 p → Rule23 p → Rule24 p → Breaks25 (p .automaton) (emits p) → Judges p (Verdict.Refused Fault.Unbalanced 0)
+  number26 : Rule21 p → Rule22 p → Rule23 p → Rule24 p → (Breaks25 (p .automaton) (emits p) → ⊥) → Breaks26 (p .automaton) (emits p)
+      → Judges p (Verdict.Refused Fault.TooManyPending 0)
   accepted : MeetsAutomaton p → Judges p Verdict.Accepted

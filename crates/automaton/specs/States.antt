@@ -1,17 +1,15 @@
 -- The tests of one state tell what the rules say: numbers 21, 22 and 23, and what a state does next.
 use mathlib.Core.Path.{_≡_, refl, sym, ap, _∙_, subst}
 use mathlib.Core.Bool.{Bool, true, false, not}
-use mathlib.Core.List.{List, [], _∷_}
-use mathlib.Core.Logic.{_⊎_, inl, inr}
 use Prim.Native.Nat.{ℕ, zero, suc, _+_, _≤_, _<_}
 use native.Mathlib.Omega.{arith}
 use native.Mathlib.Decide.{ℕ-discrete, decLt}
 use borrow.Author.Tests.{eqb-true, eqb-false}
-use lib.Dec.{eqb, ltb}
+use lib.Dec.{eqb}
 use Rattle.lists.specs.Parts.{part}
 use Rattle.plan.specs.declared.Input.{Input}
 use Rattle.plan.specs.declared.Automaton.{Automaton}
-use Rattle.plan.specs.Plan.{pastMove, move, movesOf, isFinal}
+use Rattle.plan.specs.Plan.{pastMove, move, isFinal}
 use Rattle.automaton.specs.declared.Next.{Next}
 use Rattle.automaton.specs.declared.Chosen.{Chosen}
 use Rattle.automaton.specs.Tests.{pick, both, all, Tells, told-true, told-false, tells, tells-eqb, both-tells, both-left, both-right, all-tells, true-false}

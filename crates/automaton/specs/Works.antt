@@ -1,25 +1,23 @@
 -- The passes that specs/Number.antt computes end with all states that have a path to a final one, and with one count of each event at each reached state.
 use mathlib.Core.Path.{_≡_, refl, sym, ap, _∙_, subst}
 use mathlib.Core.Bool.{Bool, true, false, not}
-use mathlib.Core.List.{List, [], _∷_}
-use Prim.Native.Nat.{ℕ, zero, suc, _+_, _-_, _*_, _≤_, _<_}
+use mathlib.Core.List.{List}
+use Prim.Native.Nat.{ℕ, zero, suc, _+_, _*_, _≤_, _<_}
 use native.Mathlib.Omega.{arith}
-use borrow.Author.Tests.{eqb-true, eqb-false, not-true}
-use lib.Dec.{eqb, ltb}
-use lib.ListN.{length, getD, set, replicate}
+use borrow.Author.Tests.{eqb-true, eqb-false}
+use lib.Dec.{eqb}
+use lib.ListN.{length, set, replicate}
 use lib.Seq.{set-getD}
 use Rattle.lists.specs.Parts.{part}
 use Rattle.plan.specs.declared.Input.{Input}
 use Rattle.plan.specs.declared.Output.{Output}
-use Rattle.plan.specs.declared.Transition.{Transition}
 use Rattle.plan.specs.declared.Automaton.{Automaton}
 use Rattle.plan.specs.Plan.{pastMove, move, movesOf, isFinal}
 use Rattle.automaton.specs.declared.Explored.{Explored}
-use Rattle.automaton.specs.Tests.{at, flag, pick, both, Tells, told-true, told-false, tells-ltb, both-left, both-right, true-false}
-use Rattle.automaton.specs.Rules.{takes}
+use Rattle.automaton.specs.Tests.{at, flag, pick, both, Tells, told-true, told-false, tells-ltb, true-false}
 use Rattle.automaton.specs.Number.{falses, again, finalsOf, passBack, toFinal, isReady, advanced, isNew, passOn, outset, explored}
 use Rattle.automaton.specs.Counts.{InRange, Ready, Known, ready-takes}
-use Rattle.automaton.specs.Passes.{falses-length, no-flag, Backing, BackTo, back-starts, back-stay, back-round, back-store, back-ends, Advanced, advance-starts, advance-steps, Going, going-starts, going-stays, going-round, going-stores, going-ends}
+use Rattle.automaton.specs.Passes.{falses-length, Backing, BackTo, back-starts, back-stay, back-round, back-store, back-ends, Advanced, advance-starts, advance-steps, Going, going-starts, going-stays, going-round, going-stores, going-ends}
 
 -- ---- rounds
 

@@ -9,18 +9,13 @@ use Rattle.plan.specs.Limits.{FileRules}
 use Rattle.plan.specs.Encoding.{encode}
 use Rattle.plan.specs.Spare.{zeroed}
 use Rattle.plan.specs.declared.Plan.{Plan}
-use Rattle.plan.specs.declared.Verdict.{Verdict}
-use Rattle.plan.specs.declared.PlanRead.{PlanRead}
 use Rattle.activity.specs.Rules.{Meets}
 use Rattle.automaton.specs.Rules.{MeetsAutomaton}
-use Rattle.judge.specs.Judge.{judgeOf}
+use Rattle.judge.specs.Judge.{accepted, judgeOf}
 
 -- a list of bytes
 abbrev pub Bytes : List ℕ → Type 0
 Bytes b = (k : ℕ) → getD b k 0 < 256
-
-abbrev pub accepted : Plan → PlanRead
-accepted p = record { verdict = Verdict.Accepted; plan = p }
 
 -- what a plan and its bytes must meet
 pub record Accepts (bytes : List ℕ) (p : Plan) : Type 0 where

@@ -10,6 +10,7 @@ use Rattle.limits.specs.Limits.{within, nodeInLimits, slotInLimits, nodesInLimi
 use Rattle.limits.specs.Window.{entryInLimits, windowInLimits}
 use Rattle.activity.specs.Tests.{every, some, wordOf, passes, beforeWords}
 use Rattle.activity.specs.Number.{noCycle, ruleI, ruleII, ruleIII, ruleIV, ruleV, ruleVI, ruleVII, ruleVIII, ruleIX, ruleX, ruleXI, faultBy, faultOf, verdictFrom, activitiesVerdict}
+use Rattle.activity.specs.Copied.{copied}
 use Rattle.automaton.specs.Tests.{both, all}
 use Rattle.automaton.specs.Next.{nextFrom, chosenFrom}
 use Rattle.automaton.specs.Number.{lowest, noWayOut, apartFrom, branchesIn, serves, again, falses, finalsOf, passBack, advanced, passOn, judgeCounts, pathVerdict, wayVerdict, stateVerdict, automatonVerdict}
@@ -18,6 +19,7 @@ use Rattle.timing.specs.Queues.{shiftedOf, processedOf, floorOf, queuedOf}
 use Rattle.timing.specs.Engine.{raisedOf, heldOf, leftBy, leftOf, aboveOf, beyondOf, closedOf, emitsOf, timedOf}
 use Rattle.timing.specs.Inner.{falses as timingFalses}
 use Rattle.window.specs.Window.{isOverdue, isLate, isDue, isNode, before, first, isEmpty, placed, vacancies}
+use Rattle.window.specs.Placed.{freePlace}
 use Rattle.path.specs.Path.{entriesFrom, pathFrom}
 use Rattle.judge.specs.Judge.{judgeOf}
 use Rattle.run.specs.Limits.{runInLimits}
@@ -29,6 +31,6 @@ use Rattle.table.specs.Timetable.{rows, free, tableFrom, timetableOf}
 use Rattle.demands.specs.Cases.{theCases, AllHold}
 
 pub cases : AllHold theCases
-unfolding fieldAt number optional optionalBytes byteAt optionalCount numbersThen asksOf kindBy durationAt predsLoop predsAt nodeWith nodeAt belongsAt peripheralsAt outcomesAt eventsAt nodesThen activitiesLoop activitiesAt inputAt outputAt moveWith moveFrom moveAt finalsAt moveCountAt movesLoop movesAt automatonAt sectionsAt endedAt withAutomaton withActivities withEvents withPeripherals planAt readPlan within nodeInLimits slotInLimits nodesInLimits moveInLimits movesInLimits automatonInLimits partsInLimits inLimits isRising slotWritten nodesWritten fileRules timesInLimits instanceInLimits placeInLimits pendingInLimits progressFits progressInLimits entryInLimits windowInLimits every some wordOf passes beforeWords noCycle ruleI ruleII ruleIII ruleIV ruleV ruleVI ruleVII ruleVIII ruleIX ruleX ruleXI faultBy faultOf verdictFrom activitiesVerdict both all nextFrom chosenFrom lowest noWayOut apartFrom branchesIn serves again falses finalsOf passBack advanced passOn judgeCounts pathVerdict wayVerdict stateVerdict automatonVerdict readyOf largestOf startOf placedOf visitOf roundOf roundsOf shiftedOf processedOf floorOf queuedOf raisedOf heldOf leftBy leftOf aboveOf beyondOf closedOf emitsOf timedOf timingFalses isOverdue isLate isDue isNode before first isEmpty placed vacancies entriesFrom pathFrom judgeOf runInLimits load wayOn further anyAbove anyShort shortFrom openPlan openOf asked completed isInstance toldFrom learns timely askOf completionOf outcomeOf callOf digits line rows free tableFrom timetableOf
+unfolding fieldAt number optional optionalBytes byteAt optionalCount numbersThen asksOf kindBy durationAt predsLoop predsAt nodeWith nodeAt belongsAt peripheralsAt outcomesAt eventsAt nodesThen activitiesLoop activitiesAt inputAt outputAt moveWith moveFrom moveAt finalsAt moveCountAt movesLoop movesAt automatonAt sectionsAt endedAt withAutomaton withActivities withEvents withPeripherals planAt readPlan within nodeInLimits slotInLimits nodesInLimits moveInLimits movesInLimits automatonInLimits partsInLimits inLimits isRising slotWritten nodesWritten fileRules timesInLimits instanceInLimits placeInLimits pendingInLimits progressFits progressInLimits entryInLimits windowInLimits every some wordOf passes beforeWords noCycle ruleI ruleII ruleIII ruleIV ruleV ruleVI ruleVII ruleVIII ruleIX ruleX ruleXI faultBy faultOf verdictFrom activitiesVerdict copied both all nextFrom chosenFrom lowest noWayOut apartFrom branchesIn serves again falses finalsOf passBack advanced passOn judgeCounts pathVerdict wayVerdict stateVerdict automatonVerdict readyOf largestOf startOf placedOf visitOf roundOf roundsOf shiftedOf processedOf floorOf queuedOf raisedOf heldOf leftBy leftOf aboveOf beyondOf closedOf emitsOf timedOf timingFalses isOverdue isLate isDue isNode before first isEmpty placed vacancies freePlace entriesFrom pathFrom judgeOf runInLimits load wayOn further anyAbove anyShort shortFrom openPlan openOf asked completed isInstance toldFrom learns timely askOf completionOf outcomeOf callOf digits line rows free tableFrom timetableOf
 cases =
     (refl, (refl, (refl, (refl, (refl, (refl, (refl, (refl, (refl, (refl, (refl, (refl, (refl, (refl, (refl, (refl, (refl, tt)))))))))))))))))

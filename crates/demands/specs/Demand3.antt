@@ -23,6 +23,7 @@ use Rattle.log.specs.Host.{Host, Mild}
 use Rattle.log.specs.Drive.{Driven, drive}
 use Rattle.demand.specs.TheWord.{stateAfter, wholeOf, TheWord}
 use Rattle.demand.specs.Nodes.{whose, Work, EmitsAt}
+use Rattle.demands.specs.Accepted.{Bytes}
 
 -- an answered start names the activity of the word at its position
 abbrev pub RightActivity : Plan → List ℕ → Reply → Type 0
@@ -104,4 +105,4 @@ pub record Demand3Of (bytes : List ℕ) (psi : Clock) (slack : ℕ) (ts : List �
 
 abbrev pub StatementDemand3 : Type 0
 StatementDemand3 =
-    (bytes : List ℕ) (psi : Clock) (slack : ℕ) (ts : List ℕ) → openOf bytes psi slack ts .opening ≡ Opening.Opened → (cs : List Call) → Demand3Of bytes psi slack ts cs
+    (bytes : List ℕ) → Bytes bytes → (psi : Clock) (slack : ℕ) (ts : List ℕ) → openOf bytes psi slack ts .opening ≡ Opening.Opened → (cs : List Call) → Demand3Of bytes psi slack ts cs

@@ -1,10 +1,17 @@
 -- The promises, as statements about the definitions that the contracts cite, and the theorems that carry them.
+-- Demand 2
 pub mod Accepted
-pub mod Demand3
+pub mod AcceptedIff
 pub mod Times
+pub mod TimesEqual
+-- Demand 3
+pub mod Demand3
+pub mod Demand3Holds
+-- Promise 1 and the strength of the contracts
 pub mod Promises
+pub mod Unchanged
 pub mod Conditions
+-- K1 to K12
 pub mod Inputs
 pub mod Cases
 pub mod CasesHold
-pub mod Unchanged

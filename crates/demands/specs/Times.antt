@@ -1,39 +1,27 @@
 -- Demand 2, the times: "Each node's times equal those of the whole behaviour's combined activity."
 use mathlib.Core.Path.{_≡_}
-use mathlib.Core.Bool.{cond}
-use mathlib.Core.List.{List, [], _∷_}
-use Prim.Native.Nat.{ℕ, _+_, _<_}
-use lib.Dec.{eqb}
+use mathlib.Core.List.{List}
+use Prim.Native.Nat.{ℕ, _<_}
 use lib.ListN.{length, getD}
 use Rattle.plan.specs.declared.Kind.{Kind}
 use Rattle.plan.specs.declared.Plan.{Plan}
-use Rattle.judge.specs.Judge.{judgeOf}
-use Rattle.timing.specs.Times.{at, unscheduled}
+use Rattle.judge.specs.Judge.{accepted, judgeOf}
+use Rattle.timing.specs.Times.{at}
 use Rattle.timing.specs.declared.Progress.{Progress}
-use Rattle.timing.specs.declared.Schedule.{Schedule}
 use Rattle.behaviour.specs.Combined.{Ident}
 use Rattle.behaviour.specs.Combined as C
 use Rattle.behaviour.specs.Times.{Timing}
 use Rattle.behaviour.specs.Paths.{Follows}
-use Rattle.path.specs.Path.{takenBy}
+use Rattle.specified.specs.Plans.{progressAfter, scheduleAt}
 use Rattle.run.specs.Opening.{atFirst, availabilities}
 use Rattle.log.specs.Log.{Id}
-use Rattle.demands.specs.Accepted.{accepted}
 use Rattle.demand.specs.TheWord.{stateAfter, wholeOf}
-use Rattle.demand.specs.Nodes.{whose, Work, lengthOf}
+use Rattle.demand.specs.Nodes.{whose, Work}
+use Rattle.demands.specs.Accepted.{Bytes}
 
 -- ---- the engine's way, one transition at a time; transitions stand latest first
 
--- where the behaviour stands after them
-abbrev pub progressAfter : Plan → Progress → List ℕ → Progress
-progressAfter p g [] = g
-progressAfter p g (i ∷ is) = takenBy p i (progressAfter p g is) .progress
-
--- the times of the nodes at position q
-abbrev pub scheduleAt : Plan → Progress → List ℕ → ℕ → Schedule
-scheduleAt p g [] q = unscheduled
-scheduleAt p g (i ∷ is) q = cond (eqb q (lengthOf is)) (takenBy p i (progressAfter p g is) .schedule) (scheduleAt p g is q)
-
+-- what the opening stores
 abbrev pub opened : Plan → List ℕ → Progress
 opened p ts = atFirst (availabilities ts) (p .automaton .initial)
 
@@ -57,5 +45,5 @@ pub record TimesEqual (p : Plan) (ts is : List ℕ) : Type 0 where
 -- for every accepted plan, availabilities and word of its automaton
 abbrev pub StatementTimesEqual : Type 0
 StatementTimesEqual =
-    (bytes : List ℕ) (p : Plan) (ts is : List ℕ) → judgeOf bytes ≡ accepted p → length ts ≡ p .resources
+    (bytes : List ℕ) (p : Plan) (ts is : List ℕ) → Bytes bytes → judgeOf bytes ≡ accepted p → length ts ≡ p .resources
     → Follows p (p .automaton .initial) is (stateAfter p is) → TimesEqual p ts is

@@ -18,11 +18,16 @@ onVerdict (Verdict.Refused c place) x f = f c place
 abbrev pub refusedPlan : Fault → ℕ → PlanRead
 refusedPlan f place = record { verdict = Verdict.Refused f place; plan = zeroPlan }
 
+abbrev pub accepted : Plan → PlanRead
+accepted p = record { verdict = Verdict.Accepted; plan = p }
+
+-- "Then the automaton"
+abbrev pub judgeAutomaton : Plan → PlanRead
+judgeAutomaton p = onVerdict (automatonVerdict p) (accepted p) refusedPlan
+
+-- "Then activities in order"
 abbrev pub judgePlan : Plan → PlanRead
-judgePlan p =
-    onVerdict (activitiesVerdict p)
-    (onVerdict (automatonVerdict p) (record { verdict = Verdict.Accepted; plan = p }) refusedPlan)
-    refusedPlan
+judgePlan p = onVerdict (activitiesVerdict p) (judgeAutomaton p) refusedPlan
 
 unfoldable pub judgeOf : List ℕ → PlanRead
 judgeOf bytes = onVerdict (readPlan bytes .verdict) (judgePlan (readPlan bytes .plan)) refusedPlan

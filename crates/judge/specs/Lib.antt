@@ -1,2 +1,3 @@
 -- The whole verdict on bytes.
 pub mod Judge
+pub mod Laws

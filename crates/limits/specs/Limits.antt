@@ -1,6 +1,6 @@
 -- The limits of "The plan file", and of what is stored between transitions (number 50), as tests. That they tell
--- exactly the plans and the stored numbers that are in limits is proved in Plans and Stored.
-use mathlib.Core.Bool.{Bool, true, false, _&&_, _||_}
+-- exactly what is in limits is proved in Plans, Files and Stored.
+use mathlib.Core.Bool.{Bool, true, _&&_, _||_}
 use mathlib.Core.List.{List}
 use Prim.Native.Nat.{ℕ, _*_, _+_, _-_, _/_, _%_, _^_}
 use lib.ListN.{getD}
@@ -24,9 +24,13 @@ use Rattle.timing.specs.Times.{at}
 use Rattle.timing.specs.Queues.{noInstance}
 use Rattle.timing.specs.Engine.{lastPosition}
 
--- the first `count` of some numbers lie from `low` to below `below`
+-- x lies from `low` to below `below`
+abbrev pub isWithin : ℕ → ℕ → ℕ → Bool
+isWithin low below x = leb low x && ltb x below
+
+-- the first `count` of some numbers do
 unfoldable pub within : ℕ → ℕ → ℕ → List ℕ → Bool
-within low below count xs = every count (λ i. leb low (getD xs i 0) && ltb (getD xs i 0) below)
+within low below count xs = every count (λ i. isWithin low below (getD xs i 0))
 
 -- ---- a plan
 
@@ -73,15 +77,16 @@ unfoldable pub movesInLimits : ℕ → ℕ → ℕ → List ℕ → ℕ → List
 movesInLimits states activities events outcomes count moves =
     every count (λ i. moveInLimits states activities events outcomes (getD moves i pastMove))
 
--- "State count 1 to 64, initial state, eight bytes of final-state bits, two-byte transition count 0 to 256, transitions.";
--- no "final bit past the last state"
+-- "State count 1 to 64, initial state, eight bytes of final-state bits"; no "final bit past the last state"
+abbrev pub statesInLimits : ℕ → ℕ → ℕ → Bool
+statesInLimits states initial finals =
+    leb 1 states && (leb states 64 && (ltb initial states && ltb finals (2 ^ states)))
+
+-- "two-byte transition count 0 to 256, transitions"
 unfoldable pub automatonInLimits : ℕ → ℕ → List ℕ → Automaton → Bool
 automatonInLimits activities events outcomes a =
-    leb 1 (a .states)
-    && (leb (a .states) 64
-    && (ltb (a .initial) (a .states)
-    && (ltb (a .finals) (2 ^ a .states)
-    && (leb (a .count) 256 && movesInLimits (a .states) activities events outcomes (a .count) (a .moves)))))
+    statesInLimits (a .states) (a .initial) (a .finals)
+    && (leb (a .count) 256 && movesInLimits (a .states) activities events outcomes (a .count) (a .moves))
 
 -- what the counts count: "for each, one byte, its resource"; "how many outcomes it has, 1 to 8"; "a node count, 1 to 64"
 unfoldable pub partsInLimits : Plan → Bool

@@ -9,13 +9,17 @@ use Rattle.timing.specs.Engine.{lastPosition}
 use Rattle.window.specs.Window.{isFree}
 use Rattle.window.specs.declared.Entry.{Entry}
 
--- a place that is held names a node of the plan, whose activities have these sizes, and its times are at most 10^15
+-- node n of activity a is one of the plan's, whose activities have these sizes
+abbrev pub namesNode : ℕ → List ℕ → ℕ → ℕ → Bool
+namesNode activities sizes a n = ltb a activities && ltb n (getD sizes a 0)
+
+-- a place that is held names a node of the plan, and its times are at most 10^15
 unfoldable pub entryInLimits : ℕ → List ℕ → Entry → Bool
 entryInLimits activities sizes e =
     isFree (e .phase)
     || (leb (e .position) lastPosition
-    && (ltb (e .activity) activities
-    && (ltb (e .node) (getD sizes (e .activity) 0) && (leb (e .start .0) horizon && leb (e .end .0) horizon))))
+    && (namesNode activities sizes (e .activity) (e .node)
+    && (leb (e .start .0) horizon && leb (e .end .0) horizon)))
 
 unfoldable pub windowInLimits : ℕ → List ℕ → List Entry → Bool
 windowInLimits activities sizes [] = true

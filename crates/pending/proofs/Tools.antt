@@ -1,28 +1,25 @@
 -- What the proofs of numbers 24 to 26 share: answers, scans of all counts, flags at equal places.
 use mathlib.Core.Path.{_≡_, refl, sym, ap, _∙_, subst}
 use mathlib.Core.Bool.{Bool, true, false}
-use mathlib.Core.List.{List, [], _∷_}
+use mathlib.Core.List.{List}
 use Prim.Native.Nat.{ℕ, zero, suc, _+_, _*_, _/_, _%_, _≤_, _<_}
 use native.Mathlib.Omega.{arith}
 use native.Mathlib.Decide.{ℕ-discrete}
 use borrow.Author.Tests.{lt-ltb, le-ltb}
-use lib.Dec.{ltb}
 use lib.ListN.{replicate}
 use Rattle.plan.specs.declared.Input.{Input}
-use Rattle.plan.specs.declared.Output.{Output}
 use Rattle.plan.specs.declared.Automaton.{Automaton}
 use Rattle.plan.specs.declared.Fault.{Fault}
 use Rattle.plan.specs.declared.Verdict.{Verdict}
 use Rattle.plan.specs.Plan.{move, isFinal}
 use Rattle.automaton.specs.Tests.{at, flag, pick, true-false}
-use Rattle.automaton.specs.Counts.{InRange, MoveOk, Ready, Left, Crowd, Bounded}
-use Rattle.automaton.specs.Works.{Small}
+use Rattle.automaton.specs.Counts.{InRange, MoveOk, Ready, Left, Crowd}
 use Rattle.automaton.specs.Rules.{ToFinal}
 use Rattle.automaton.specs.Number.{lowest, toFinal, pathVerdict, wayVerdict}
 use Rattle.automaton.specs.OnPaths.{same-on-paths, path-verdict}
 use Rattle.automaton.specs.Lowest.{none-found}
 use Rattle.automaton.specs.Decides.{tells-24}
-use Rattle.pending.specs.Emits.{Either, gives, Few, Judged}
+use Rattle.pending.specs.Emits.{Either, gives, Few, Judged, gives-small, gives-bounded}
 
 pub sure : {P Q : Type 0} → P → Either true P Q
 sure p = record { yea = λ e. p; nay = λ e. absurd (true-false e) }
@@ -46,30 +43,6 @@ move-ok a ok i l =
 
 pub not-ready : (C : List ℕ) (n : Input) {x y : ℕ} → x ≡ y → (Ready C x n → ⊥) → Ready C y n → ⊥
 not-ready C n e h r = h (subst (λ (z : ℕ). Ready C z n) (sym e) r)
-
--- ---- the table
-
--- one of the events 0 to 15
-pub gives-at : (em : List ℕ) (k e : ℕ) → e < 16 → gives em (Output.Activity k) e ≡ at em (16 * k + e)
-gives-at em k e l = ap (λ (b : Bool). pick b (at em (16 * k + e)) 0) (lt-ltb e 16 l)
-
-pub gives-few : (em : List ℕ) (o : Output) (e : ℕ) → Few em → gives em o e ≤ 64
-gives-few em Output.Empty e h = omega arith
-gives-few em (Output.Activity k) e h = go (ltb e 16)
-  where
-    go : (b : Bool) → pick b (at em (16 * k + e)) 0 ≤ 64
-    go true = h (16 * k + e)
-    go false = omega arith
-
-pub gives-small : (a : Automaton) (em : List ℕ) → Few em → Small a (gives em)
-gives-small a em h i e l = gives-few em (move a i .output) e h
-
-pub gives-bounded : (a : Automaton) (em : List ℕ) → Bounded a (gives em)
-gives-bounded a em i e l m = go (move a i .output)
-  where
-    go : (o : Output) → gives em o e ≡ 0
-    go Output.Empty = refl
-    go (Output.Activity k) = ap (λ (b : Bool). pick b (at em (16 * k + e)) 0) (le-ltb e 16 m)
 
 -- ---- 24, then 25 and 26
 

@@ -1,8 +1,6 @@
 // Numbers 24 to 26: every state has a path to a final one, and the events pending along every path from the initial state.
 ghost use mathlib.Core.Path.{_≡_};
-ghost use mathlib.Core.Bool.{Bool};
 ghost use Prim.Native.Nat.{ℕ, _+_, _*_, _<_, _≤_};
-ghost use lib.ListN.{length};
 ghost use Rattle.automaton.specs.Tests.{at, flag, Tells};
 ghost use Rattle.automaton.specs.Rules.{takes};
 ghost use Rattle.automaton.specs.Number.{lowest, toFinal, wayVerdict};
@@ -57,7 +55,7 @@ fn finals_of(finals: u64) -> [bool; 64]
 }
 
 // The states with a path to a final one: back from the final states, until a pass over the transitions marks nothing.
-pub fn to_final(a: Automaton) -> [bool; 64]
+fn to_final(a: Automaton) -> [bool; 64]
     requires { ⌜ InRange a ⌝ }
     ensures { λ r. ⌜ r ≡ toFinal a ⌝ }
 {

@@ -1,7 +1,8 @@
 -- The encoding of a plan, in the words of "The plan file". A count or a duration of 0 is absent.
 use mathlib.Core.Bool.{Bool, true, false}
 use mathlib.Core.List.{List, [], _∷_, _++_}
-use Prim.Native.Nat.{ℕ, zero, suc, _+_}
+use Prim.Native.Nat.{ℕ, zero, suc, _+_, _*_}
+use lib.ListN.{getD}
 use Rattle.lists.specs.Parts.{part}
 use Rattle.wire.specs.Number.{bytesOf, present, optionalBytes}
 use Rattle.wire.specs.Map.{mapOf}
@@ -12,7 +13,7 @@ use Rattle.plan.specs.declared.Output.{Output}
 use Rattle.plan.specs.declared.Transition.{Transition}
 use Rattle.plan.specs.declared.Automaton.{Automaton}
 use Rattle.plan.specs.declared.Plan.{Plan}
-use Rattle.plan.specs.Plan.{predecessors, sizeOf, activityOf, movesOf}
+use Rattle.plan.specs.Plan.{pastNode, predecessors, movesOf}
 
 -- "bit 0 action .., bit 1 claim .., bit 2 release .., bit 3 event"
 abbrev pub kindBits : Kind → List Bool
@@ -45,9 +46,10 @@ encodeNodes [] = []
 encodeNodes (n ∷ ns) = encodeNode n ++ encodeNodes ns
 
 -- "each has a node count, 1 to 64, and its nodes": k activities from activity a on
-unfoldable pub encodeActivities : Plan → ℕ → ℕ → List ℕ
-encodeActivities p a zero = []
-encodeActivities p a (suc k) = sizeOf p a ∷ (encodeNodes (activityOf p a) ++ encodeActivities p (a + 1) k)
+unfoldable pub encodeActivities : List ℕ → List Node → ℕ → ℕ → List ℕ
+encodeActivities sizes nodes a zero = []
+encodeActivities sizes nodes a (suc k) =
+    getD sizes a 0 ∷ (encodeNodes (part pastNode nodes (64 * a) (getD sizes a 0)) ++ encodeActivities sizes nodes (a + 1) k)
 
 -- "bit 0: event and outcome"
 abbrev pub inputBit : Input → Bool
@@ -96,7 +98,7 @@ eventBytes p = optionalBytes 1 (p .events) ++ part 0 (p .outcomes) 0 (p .events)
 
 -- "activity count, 1 to 32; each has a node count, 1 to 64, and its nodes"
 unfoldable pub activityBytes : Plan → List ℕ
-activityBytes p = optionalBytes 1 (p .activities) ++ encodeActivities p 0 (p .activities)
+activityBytes p = optionalBytes 1 (p .activities) ++ encodeActivities (p .sizes) (p .nodes) 0 (p .activities)
 
 -- "a map of sections"; "automaton; always present"
 unfoldable pub sectionMap : Plan → ℕ

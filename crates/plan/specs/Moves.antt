@@ -40,14 +40,16 @@ abbrev pub onMove : {A : Type 0} → MoveRead → (Transition → ℕ → A) →
 onMove (MoveRead.Value x next) value refused = value x next
 onMove (MoveRead.Refused f p) value refused = refused f p
 
+-- "event and outcome"
+abbrev pub outcomeAt : ℕ → List ℕ → List ℕ → ℕ → InputRead
+outcomeAt events outcomes b at =
+    onField (nameAt events b at)
+    (λ e next. onField (nameAt (getD outcomes e 0) b next) (λ o end. InputRead.Value (Input.Outcome e o) end) InputRead.Refused)
+    InputRead.Refused
+
 -- "bit 0: event and outcome"; "Without bit 0 nothing is processed"
 unfoldable pub inputAt : ℕ → ℕ → List ℕ → List ℕ → ℕ → InputRead
-inputAt m events outcomes b at =
-    cond (bit 0 m)
-    (onField (nameAt events b at)
-    (λ e next. onField (nameAt (getD outcomes e 0) b next) (λ o end. InputRead.Value (Input.Outcome e o) end) InputRead.Refused)
-    InputRead.Refused)
-    (InputRead.Value Input.Nothing at)
+inputAt m events outcomes b at = cond (bit 0 m) (outcomeAt events outcomes b at) (InputRead.Value Input.Nothing at)
 
 -- "bit 1: activity"; "without bit 1 the activity is the empty one"
 unfoldable pub outputAt : ℕ → ℕ → List ℕ → ℕ → OutputRead
@@ -56,7 +58,7 @@ outputAt m activities b at =
     (onField (nameAt activities b at) (λ a end. OutputRead.Value (Output.Activity a) end) OutputRead.Refused)
     (OutputRead.Value Output.Empty at)
 
-module _ (states events : ℕ) (outcomes : List ℕ) (activities : ℕ) (b : List ℕ) where
+module _ (events : ℕ) (outcomes : List ℕ) (activities : ℕ) (b : List ℕ) where
   -- the fields after a transition's states
   unfoldable pub moveWith : ℕ → ℕ → ℕ → ℕ → MoveRead
   moveWith m from to at =
@@ -67,11 +69,12 @@ module _ (states events : ℕ) (outcomes : List ℕ) (activities : ℕ) (b : Lis
       MoveRead.Refused)
       MoveRead.Refused
 
+module _ (states events : ℕ) (outcomes : List ℕ) (activities : ℕ) (b : List ℕ) where
   -- "from-state, to-state"
   unfoldable pub moveFrom : ℕ → ℕ → MoveRead
   moveFrom m at =
       onField (nameAt states b at)
-      (λ from next. onField (nameAt states b next) (λ to after. moveWith m from to after) MoveRead.Refused)
+      (λ from next. onField (nameAt states b next) (λ to after. moveWith events outcomes activities b m from to after) MoveRead.Refused)
       MoveRead.Refused
 
   -- "A transition is a map byte, from-state, to-state, then ..."; "Bits 2 to 7 are 0."

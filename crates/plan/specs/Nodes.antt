@@ -47,18 +47,31 @@ asksBy true true release event long = Asks.Nothing
 unfoldable pub asksOf : ℕ → Asks
 asksOf m = cond (ltb m 64) (asksBy (bit 0 m) (bit 1 m) (bit 2 m) (bit 3 m) (bit 4 m)) Asks.Nothing
 
--- the fields of the kind, from `next` on; the map stands at `at`
-unfoldable pub kindBy : Asks → ℕ → ℕ → ℕ → List ℕ → ℕ → ℕ → KindRead
-kindBy Asks.Action peripherals resources events b at next =
-    onField (anyAt b next)
+-- "action (action number, peripheral; any action number is good)"
+abbrev pub actionAt : ℕ → List ℕ → ℕ → KindRead
+actionAt peripherals b at =
+    onField (anyAt b at)
     (λ a after. onField (nameAt peripherals b after) (λ x end. KindRead.Value (Kind.Action a x) end) KindRead.Refused)
     KindRead.Refused
-kindBy Asks.Claim peripherals resources events b at next =
-    onField (nameAt resources b next) (λ r end. KindRead.Value (Kind.Claim r) end) KindRead.Refused
-kindBy Asks.Release peripherals resources events b at next =
-    onField (nameAt resources b next) (λ r end. KindRead.Value (Kind.Release r) end) KindRead.Refused
-kindBy Asks.Event peripherals resources events b at next =
-    onField (nameAt events b next) (λ e end. KindRead.Value (Kind.Event e) end) KindRead.Refused
+
+-- "claim (resource)"
+abbrev pub claimAt : ℕ → List ℕ → ℕ → KindRead
+claimAt resources b at = onField (nameAt resources b at) (λ r end. KindRead.Value (Kind.Claim r) end) KindRead.Refused
+
+-- "release (resource)"
+abbrev pub releaseAt : ℕ → List ℕ → ℕ → KindRead
+releaseAt resources b at = onField (nameAt resources b at) (λ r end. KindRead.Value (Kind.Release r) end) KindRead.Refused
+
+-- "event (event number)"
+abbrev pub eventAt : ℕ → List ℕ → ℕ → KindRead
+eventAt events b at = onField (nameAt events b at) (λ e end. KindRead.Value (Kind.Event e) end) KindRead.Refused
+
+-- the fields of the kind, from `next` on; the map stands at `at`
+unfoldable pub kindBy : Asks → ℕ → ℕ → ℕ → List ℕ → ℕ → ℕ → KindRead
+kindBy Asks.Action peripherals resources events b at next = actionAt peripherals b next
+kindBy Asks.Claim peripherals resources events b at next = claimAt resources b next
+kindBy Asks.Release peripherals resources events b at next = releaseAt resources b next
+kindBy Asks.Event peripherals resources events b at next = eventAt events b next
 kindBy Asks.Nothing peripherals resources events b at next = KindRead.Refused Fault.Map at
 
 -- "bit 4 duration (four bytes, 1 to 60,000,000)"; "No bit 4 means duration 0."

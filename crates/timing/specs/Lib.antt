@@ -4,5 +4,6 @@ pub mod Times
 pub mod Queues
 pub mod Engine
 pub mod Limits
-pub mod Inner
 pub mod Example
+pub mod Inner
+pub mod Laws

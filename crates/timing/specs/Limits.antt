@@ -1,8 +1,10 @@
 -- What is stored between transitions lies "inside this paper's and its plan's limits" (number 50): counts, numbers and
 -- times of the resources and events that the plan has.
+use mathlib.Core.Bool.{Bool, true, false, cond}
 use mathlib.Core.List.{List}
-use Prim.Native.Nat.{ℕ, _+_, _≤_, _<_}
+use Prim.Native.Nat.{ℕ, zero, suc, _+_, _/_, _%_, _≤_, _<_}
 use lib.ListN.{getD}
+use lib.Dec.{ltb}
 use Rattle.lists.specs.Lists.{Among}
 use Rattle.time.specs.Time.{horizon}
 use Rattle.plan.specs.Plan.{pastNode, predecessors}
@@ -15,8 +17,8 @@ use Rattle.timing.specs.declared.Told.{Told}
 use Rattle.timing.specs.declared.Instance.{Instance}
 use Rattle.timing.specs.declared.Progress.{Progress}
 use Rattle.timing.specs.Times.{at}
-use Rattle.timing.specs.Queues.{pendingOf, instanceOf}
-use Rattle.timing.specs.Engine.{lastPosition}
+use Rattle.timing.specs.Queues.{noInstance, pendingOf, instanceOf}
+use Rattle.timing.specs.Engine.{lastPosition, aboveOf}
 
 -- an outcome that was reported of an event is one of its outcomes
 abbrev pub ToldNames : ℕ → Told → Type 0
@@ -39,6 +41,8 @@ pub record ProgressInLimits (resources events states : ℕ) (outcomes : List ℕ
   pub pending : (e i : ℕ) → e < events → i < pendingOf g e → InstanceInLimits (getD outcomes e 0) (instanceOf g e i)
   pub position : g .position ≤ lastPosition + 1
   pub state : g .state < states
+
+-- ---- a transition
 
 -- the numbers in a node's kind
 abbrev pub KindFits : ℕ → ℕ → Kind → Type 0

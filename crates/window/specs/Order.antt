@@ -16,7 +16,7 @@ pub data AtMost (x y : ℕ) (a b : Entry) : Type 0 where
   position : x ≡ y → a .position < b .position → AtMost x y a b
   node : x ≡ y → a .position ≡ b .position → a .node ≤ b .node → AtMost x y a b
 
-at-most-trans : (x y z : ℕ) (a b c : Entry) → AtMost x y a b → AtMost y z b c → AtMost x z a c
+pub at-most-trans : (x y z : ℕ) (a b c : Entry) → AtMost x y a b → AtMost y z b c → AtMost x z a c
 at-most-trans x y z a b c (earlier p) (earlier q) = earlier (omega arith)
 at-most-trans x y z a b c (earlier p) (position e q) = earlier (omega arith)
 at-most-trans x y z a b c (earlier p) (node e f q) = earlier (omega arith)

@@ -1,7 +1,7 @@
 -- New nodes take places: places held before are kept, each new entry stands at one place that was free, and nothing else is
 -- new; so no node comes to stand at two places.
 use mathlib.Core.Path.{_≡_, refl, sym, _∙_, ap}
-use mathlib.Core.Bool.{Bool, true, false, cond, true≢false}
+use mathlib.Core.Bool.{true, false, cond, true≢false}
 use mathlib.Core.List.{List, [], _∷_, _++_}
 use mathlib.Core.Logic.{_⊎_, inl, inr, ⊎-elim}
 use Prim.Native.Nat.{ℕ, zero, suc, _-_, _≤_, _<_}
@@ -9,7 +9,7 @@ use native.Mathlib.Omega.{arith}
 use lib.ListN.{length, getD}
 use Rattle.window.specs.declared.Entry.{Entry}
 use Rattle.window.specs.Window.{vacant, isFree, isHeld, placed, vacancies}
-use Rattle.window.specs.Tests.{by-test, held-unfree}
+use Rattle.window.specs.Tests.{by-test, free-or-held, held-unfree}
 use Rattle.window.specs.Places.{Holds, SameNode, Once, holds-unfree}
 
 pub placed-length : (w es : List Entry) → length (placed w es) ≡ length w
@@ -75,13 +75,6 @@ module _ (x : Entry) (w : List Entry) where
   placed-past [] f = ap (λ (l : List Entry). x ∷ l) (sym (placed-none w))
   placed-past (e ∷ es) f = rw f
 
-  free-or-held : (isFree (x .phase) ≡ true) ⊎ (isFree (x .phase) ≡ false)
-  free-or-held = go (isFree (x .phase)) refl
-    where
-      go : (b : Bool) → isFree (x .phase) ≡ b → (isFree (x .phase) ≡ true) ⊎ (isFree (x .phase) ≡ false)
-      go true f = inl f
-      go false f = inr f
-
 -- a later one stands at a higher place
 pub places-rise : (w : List Entry) (k l : ℕ) → k < l → freePlace w k < freePlace w l
 unfolding freePlace
@@ -90,12 +83,12 @@ places-rise (x ∷ w) k zero h = absurd (omega arith)
 places-rise (x ∷ w) zero (suc l) h =
     let g = places-rise w 0 (suc l) h in
     ⊎-elim (λ f. omega (arith, place-first x w f, place-next x w l f)) (λ f. omega (arith, place-past x w 0 f, place-past x w (suc l) f))
-    (free-or-held x w)
+    (free-or-held (x .phase))
 places-rise (x ∷ w) (suc k) (suc l) h =
     let g = places-rise w k l (omega arith) in
     let i = places-rise w (suc k) (suc l) h in
     ⊎-elim (λ f. omega (arith, place-next x w k f, place-next x w l f)) (λ f. omega (arith, place-past x w (suc k) f, place-past x w (suc l) f))
-    (free-or-held x w)
+    (free-or-held (x .phase))
 
 vacant-none : vacancies [] ≡ 0
 unfolding vacancies
@@ -117,11 +110,11 @@ place-free [] k h = absurd (no-vacancies k h)
 place-free (x ∷ w) zero h =
     ⊎-elim (λ f. rw (place-first x w f) (omega arith, f))
     (λ f. rw (place-past x w 0 f) (free-suc x w (freePlace w 0) (place-free w 0 (omega (arith, vacant-past x w f)))))
-    (free-or-held x w)
+    (free-or-held (x .phase))
 place-free (x ∷ w) (suc k) h =
     ⊎-elim (λ f. rw (place-next x w k f) (free-suc x w (freePlace w k) (place-free w k (omega (arith, vacant-first x w f)))))
     (λ f. rw (place-past x w (suc k) f) (free-suc x w (freePlace w (suc k)) (place-free w (suc k) (omega (arith, vacant-past x w f)))))
-    (free-or-held x w)
+    (free-or-held (x .phase))
 
 -- ---- what stands where afterwards
 
@@ -132,11 +125,11 @@ placed-new (x ∷ w) [] k l h = absurd (omega arith)
 placed-new (x ∷ w) (e ∷ es) zero l h =
     ⊎-elim (λ f. rw (place-first x w f, placed-first x w e es f))
     (λ f. rw (place-past x w 0 f, placed-past x w (e ∷ es) f) (placed-new w (e ∷ es) 0 l (omega (arith, vacant-past x w f))))
-    (free-or-held x w)
+    (free-or-held (x .phase))
 placed-new (x ∷ w) (e ∷ es) (suc k) l h =
     ⊎-elim (λ f. rw (place-next x w k f, placed-first x w e es f) (placed-new w es k (omega arith) (omega (arith, vacant-first x w f))))
     (λ f. rw (place-past x w (suc k) f, placed-past x w (e ∷ es) f) (placed-new w (e ∷ es) (suc k) l (omega (arith, vacant-past x w f))))
-    (free-or-held x w)
+    (free-or-held (x .phase))
 
 -- place j has taken a new entry
 pub record Took (w es : List Entry) (j : ℕ) : Type 0 where
@@ -154,7 +147,7 @@ placed-cases (x ∷ w) [] j = inl refl
 placed-cases (x ∷ w) (e ∷ es) zero =
     ⊎-elim (λ f. inr record { number = 0; listed = omega arith; place = sym (place-first x w f); free = (omega arith, f); entry = rw f })
     (λ f. inl (rw f))
-    (free-or-held x w)
+    (free-or-held (x .phase))
 placed-cases (x ∷ w) (e ∷ es) (suc j) =
     ⊎-elim (λ f. ⊎-elim (λ q. inl (rw f q)) (λ t. inr record {
       number = suc (t .number);
@@ -170,7 +163,7 @@ placed-cases (x ∷ w) (e ∷ es) (suc j) =
       free = free-suc x w j (t .free);
       entry = rw f (t .entry);
     }) (placed-cases w (e ∷ es) j))
-    (free-or-held x w)
+    (free-or-held (x .phase))
 
 -- ---- some entries, and then others
 
@@ -192,7 +185,7 @@ placed-append (x ∷ w) (e ∷ es) fs h =
     ⊎-elim
     (λ f. rw (placed-first x w e (es ++ fs) f, placed-first x w e es f, placed-past e (placed w es) fs (front-held e es h)) (ap (λ (l : List Entry). e ∷ l) (placed-append w es fs (rest-held e es h))))
     (λ f. rw (placed-past x w (e ∷ (es ++ fs)) f, placed-past x w (e ∷ es) f, placed-past x (placed w (e ∷ es)) fs f) (ap (λ (l : List Entry). x ∷ l) (placed-append w (e ∷ es) fs h)))
-    (free-or-held x w)
+    (free-or-held (x .phase))
 
 -- each takes a place that was free
 pub placed-vacancies : (w es : List Entry) → AllHeld es → vacancies (placed w es) ≡ vacancies w - length es
@@ -202,7 +195,7 @@ placed-vacancies (x ∷ w) (e ∷ es) h =
     ⊎-elim
     (λ f. rw (placed-first x w e es f) (omega (arith, vacant-past e (placed w es) (front-held e es h), vacant-first x w f, placed-vacancies w es (rest-held e es h))))
     (λ f. rw (placed-past x w (e ∷ es) f) (omega (arith, vacant-past x (placed w (e ∷ es)) f, vacant-past x w f, placed-vacancies w (e ∷ es) h)))
-    (free-or-held x w)
+    (free-or-held (x .phase))
 
 -- ---- the nodes that are held afterwards
 

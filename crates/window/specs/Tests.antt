@@ -1,7 +1,7 @@
 -- What each test of one place tells, on the clock.
 use mathlib.Core.Path.{_≡_, refl, sym}
 use mathlib.Core.Bool.{Bool, true, false, cond, _&&_, true≢false}
-use mathlib.Core.Logic.{_↔_}
+use mathlib.Core.Logic.{_↔_, _⊎_, inl, inr}
 use Prim.Native.Nat.{ℕ, _+_, _≤_, _<_}
 use lib.Dec.{eqb}
 use borrow.Author.Tests.{ltb-true, ltb-false, lt-ltb, leb-true, leb-false, le-leb, eqb-true, eq-eqb}
@@ -28,6 +28,11 @@ loaded-true Phase.Loaded e = refl
 loaded-true Phase.Started e = absurd (true≢false (sym e))
 
 -- a place is free or holds a node, and never both
+pub free-or-held : (s : Phase) → (isFree s ≡ true) ⊎ (isFree s ≡ false)
+free-or-held Phase.Free = inl refl
+free-or-held Phase.Loaded = inr refl
+free-or-held Phase.Started = inr refl
+
 pub free-unheld : (s : Phase) → isFree s ≡ true → isHeld s ≡ false
 free-unheld Phase.Free e = refl
 free-unheld Phase.Loaded e = absurd (true≢false (sym e))

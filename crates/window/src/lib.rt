@@ -33,7 +33,7 @@ pub enum Found {
 }
 
 // Which time comes first: "the earliest specified start", "the earliest completion".
-pub enum Earliest {
+enum Earliest {
     Start,
     Completion,
 }

@@ -1,13 +1,13 @@
 -- `chosen_of` goes by the first transition that carries the event and the outcome: the transition taken is what the transitions from i on say.
-use mathlib.Core.Path.{_≡_, refl, sym, ap, _∙_}
+use mathlib.Core.Path.{_≡_, sym, ap, _∙_}
 use mathlib.Core.List.{List}
-use Prim.Native.Nat.{ℕ, _+_, _-_, _≤_}
+use Prim.Native.Nat.{_-_, _≤_}
 use native.Mathlib.Omega.{arith}
 use Rattle.plan.specs.declared.Transition.{Transition}
 use Rattle.plan.specs.Plan.{pastMove}
 use Rattle.lists.specs.Parts.{part}
 use Rattle.automaton.specs.Next.{chosenFrom, chosenOf}
-use Rattle.automaton.proofs.Scan.{rest, rest-all, chosen-here, chosen-other, chosen-past, chosen-none}
+use Rattle.automaton.specs.Scan.{rest, rest-all, chosen-here, chosen-other, chosen-past, chosen-none}
 use borrow.Author.Needs.{needs}
 use Rattle.automaton.proofs.chosen_of.Statement.{statement}
 use Rattle.automaton.proofs.chosen_of.Tie as tie

@@ -1,13 +1,13 @@
 -- `next_of` goes by the first transition that leaves the state: what the state does next is what the transitions from i on say.
-use mathlib.Core.Path.{_≡_, refl, sym, ap, _∙_}
+use mathlib.Core.Path.{_≡_, sym, ap, _∙_}
 use mathlib.Core.List.{List}
-use Prim.Native.Nat.{ℕ, _+_, _-_, _≤_}
+use Prim.Native.Nat.{_-_, _≤_}
 use native.Mathlib.Omega.{arith}
 use Rattle.plan.specs.declared.Transition.{Transition}
 use Rattle.plan.specs.Plan.{pastMove}
 use Rattle.lists.specs.Parts.{part}
 use Rattle.automaton.specs.Next.{nextFrom, nextOf}
-use Rattle.automaton.proofs.Scan.{rest, rest-all, next-here, next-past, next-none}
+use Rattle.automaton.specs.Scan.{rest, rest-all, next-here, next-past, next-none}
 use borrow.Author.Needs.{needs}
 use Rattle.automaton.proofs.next_of.Statement.{statement}
 use Rattle.automaton.proofs.next_of.Tie as tie

@@ -1,5 +1,5 @@
 -- `on_input` answers by the case of the input.
-use mathlib.Core.Path.{_≡_, refl, sym, ap, _∙_}
+use mathlib.Core.Path.{sym, ap}
 use Rattle.plan.specs.declared.Input.{Input}
 use Rattle.automaton.specs.Next.{onInput}
 use borrow.Author.Needs.{needs}

@@ -147,6 +147,16 @@ only-emitted p first is i e u f l h =
     let b = w .emits-same in
     omega arith
 
+-- "at most 8 of one event are pending at a state", of the word of a path
+pub few-pending : (p : Plan) → Rules.AtMostEight (p .automaton) (emits p) → (is : List ℕ) (q e : ℕ) → Follows p (p .automaton .initial) is q
+    → emissions e (wordOf p is) ≤ times e (wordOf p is) + 8
+few-pending p few is q e f =
+    let w = along p (p .automaton .initial) e is q f in
+    let g = few q (w .path) e in
+    let a = w .takes-same in
+    let b = w .emits-same in
+    omega arith
+
 -- what acceptance gives
 pub lawful : (p : Plan) → FileRules p → ((a : ℕ) → a < p .activities → Meets (resourceOf p) (activityOf p a)) → EmittedFirst (p .automaton) (emits p) → Lawful p
 lawful p file acts first = record { file = file; activities = acts; automaton = only-emitted p first }

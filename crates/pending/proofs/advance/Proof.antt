@@ -1,19 +1,14 @@
+-- `advance` sets the counts of one state event by event.
 use Rattle.automaton.specs.Passes.{advance-starts, advance-steps, Advanced}
-use Rattle.automaton.specs.Rules.{takes}
 use Rattle.automaton.specs.Tests.{at}
-use Rattle.pending.proofs.Tools.{gives-few}
+use Rattle.pending.specs.Emits.{gives-few}
 use Rattle.pending.specs.Emits.{gives}
-use mathlib.Core.Bool.{Bool, true, false}
-use Prim.Native.Nat.{ℕ, _+_, _*_, _-_, _/_, _≤_, _<_}
-use mathlib.Core.Path.{_≡_, refl, sym, ap, subst, _∙_}
+use Prim.Native.Nat.{_+_, _*_, _-_, _≤_}
+use mathlib.Core.Path.{_≡_}
 use native.Mathlib.Omega.{arith}
 use borrow.Author.Needs.{needs}
 use Rattle.pending.proofs.advance.Statement.{statement}
 use Rattle.pending.proofs.advance.Tie as tie
-use Rattle.pending.proofs.advance.Reads as reads
-use Rattle.pending.proofs.advance.Lts as lts
-use Rattle.pending.proofs.given.Reads as given-reads
-use Rattle.pending.proofs.taken.Reads as taken-reads
 
 abbrev Inv-loop : tie.InvT-loop
 Inv-loop from to input output emits counts r₀ e₀ r e = (e ≤ 16) × Advanced (gives emits) counts from to input output e r

@@ -1,17 +1,14 @@
-use Rattle.automaton.specs.Counts.{Crowd}
+-- `crowded` looks at all counts: none before k is above 8 at a reached state.
 use Rattle.automaton.specs.Tests.{true-false, flag, at}
 use Rattle.pending.proofs.Tools.{crowd-at, no-crowd}
-use borrow.Author.Tests.{not-true, not-false}
 use borrow.Author.Count.{below-more}
-use mathlib.Core.Bool.{Bool, true, false}
-use Prim.Native.Nat.{ℕ, _+_, _*_, _-_, _/_, _≤_, _<_}
-use mathlib.Core.Path.{_≡_, refl, sym, ap, subst, _∙_}
+use mathlib.Core.Bool.{true}
+use Prim.Native.Nat.{ℕ, _-_, _/_, _≤_, _<_}
+use mathlib.Core.Path.{_≡_, sym, _∙_}
 use native.Mathlib.Omega.{arith}
 use borrow.Author.Needs.{needs}
 use Rattle.pending.proofs.crowded.Statement.{statement}
 use Rattle.pending.proofs.crowded.Tie as tie
-use Rattle.pending.proofs.crowded.Reads as reads
-use Rattle.pending.proofs.crowded.Lts as lts
 
 abbrev Inv-loop : tie.InvT-loop
 Inv-loop reached counts k₀ k = (k ≤ 1024) × ((j : ℕ) → j < k → flag reached (j / 16) ≡ true → at counts j ≤ 8)

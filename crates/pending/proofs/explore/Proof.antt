@@ -1,25 +1,19 @@
+-- `explore` keeps what `Going` says of the reached states and their counts; each pass that reaches a state leaves fewer.
 use Rattle.pending.specs.Emits.{gives}
 use Rattle.automaton.specs.Counts.{ready-takes}
 use Rattle.automaton.specs.Number.{falses}
 use Rattle.automaton.specs.Passes.{going-starts, going-stays, going-stores, going-round, going-ends, Going}
-use Rattle.automaton.specs.Tests.{true-false, told-true, told-false, flag, at}
+use Rattle.automaton.specs.Tests.{true-false, told-true, told-false, at}
 use Rattle.pending.proofs.Tools.{moved, move-ok, not-ready}
 use Rattle.plan.specs.Plan.{move}
 use borrow.Author.Tests.{not-true, not-false}
-use mathlib.Core.Bool.{Bool, true, false}
-use Prim.Native.Nat.{ℕ, _+_, _*_, _-_, _/_, _≤_, _<_}
-use mathlib.Core.Path.{_≡_, refl, sym, ap, subst, _∙_}
+use mathlib.Core.Bool.{false}
+use Prim.Native.Nat.{_-_, _≤_}
+use mathlib.Core.Path.{_≡_, sym, _∙_}
 use native.Mathlib.Omega.{arith}
 use borrow.Author.Needs.{needs}
 use Rattle.pending.proofs.explore.Statement.{statement}
 use Rattle.pending.proofs.explore.Tie as tie
-use Rattle.pending.proofs.explore.Reads as reads
-use Rattle.pending.proofs.explore.Lts as lts
-use Rattle.pending.proofs.advance.Reads as advance-reads
-use Rattle.pending.proofs.blank.Reads as blank-reads
-use Rattle.pending.proofs.long.Reads as long-reads
-use Rattle.pending.proofs.ready.Reads as ready-reads
-use Rattle.pending.proofs.wide.Reads as wide-reads
 
 abbrev Inv-loop2 : tie.InvT-loop2
 Inv-loop2 a emits count first counts₀ reached₀ changed₀ i₀ counts reached changed i = (i ≤ count) × Going a (gives emits) reached₀ i reached counts changed

@@ -1,18 +1,16 @@
-use Rattle.automaton.specs.Tests.{flag, Tells}
+-- `finals_of` copies the bits one by one.
+use Rattle.automaton.specs.Tests.{flag}
 use Rattle.pending.specs.Emits.{finalBit}
 use lib.Seq.{getD-set-same, getD-set-other}
 use lib.ListN.{length, length-set}
 use borrow.Author.Count.{below-more}
-use mathlib.Core.Bool.{Bool, true, false}
-use Prim.Native.Nat.{ℕ, _+_, _*_, _-_, _/_, _≤_, _<_}
-use mathlib.Core.Path.{_≡_, refl, sym, ap, subst, _∙_}
+use mathlib.Core.Bool.{false}
+use Prim.Native.Nat.{ℕ, _-_, _≤_, _<_}
+use mathlib.Core.Path.{_≡_, refl}
 use native.Mathlib.Omega.{arith}
 use borrow.Author.Needs.{needs}
 use Rattle.pending.proofs.finals_of.Statement.{statement}
 use Rattle.pending.proofs.finals_of.Tie as tie
-use Rattle.pending.proofs.finals_of.Reads as reads
-use Rattle.pending.proofs.finals_of.Lts as lts
-use Rattle.pending.proofs.is_final.Reads as is-final-reads
 
 abbrev Inv-loop : tie.InvT-loop
 Inv-loop finals r₀ i₀ r i = (i ≤ 64) × (length r ≡ 64) × ((s : ℕ) → s < i → flag r s ≡ finalBit finals s)

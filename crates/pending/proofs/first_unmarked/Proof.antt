@@ -1,5 +1,5 @@
 -- `first_unmarked` scans the flags from state 0 on.
-use mathlib.Core.Path.{_≡_, refl, sym, _∙_}
+use mathlib.Core.Path.{_≡_, sym, _∙_}
 use Prim.Native.Nat.{_-_, _≤_}
 use native.Mathlib.Omega.{arith}
 use borrow.Author.Tests.{not-true, not-false}
@@ -9,8 +9,6 @@ use Rattle.automaton.specs.Lowest.{scan-starts, scan-passes, scan-stops, scan-e
 use borrow.Author.Needs.{needs}
 use Rattle.pending.proofs.first_unmarked.Statement.{statement}
 use Rattle.pending.proofs.first_unmarked.Tie as tie
-use Rattle.pending.proofs.first_unmarked.Reads as reads
-use Rattle.pending.proofs.first_unmarked.Lts as lts
 
 abbrev Inv-loop : tie.InvT-loop
 Inv-loop states done s₀ s = (s ≤ states) × (lowest (flag done) 0 states ≡ lowest (flag done) s (states - s))

@@ -1,18 +1,15 @@
-use Rattle.pending.proofs.Tools.{gives-at}
+-- `given` answers by the case of the output.
+use Rattle.pending.specs.Emits.{gives-at}
 use Rattle.automaton.specs.Counts.{OutputOk}
 use Rattle.automaton.specs.Tests.{at}
 use Rattle.pending.specs.Emits.{gives}
 use Rattle.plan.specs.declared.Output.{Output}
 use Prim.Native.Nat.{ℕ, _+_, _*_}
-use mathlib.Core.Path.{_≡_, refl, sym, ap, subst, _∙_}
+use mathlib.Core.Path.{sym, ap, subst, _∙_}
 use native.Mathlib.Omega.{arith}
 use borrow.Author.Needs.{needs}
 use Rattle.pending.proofs.given.Statement.{statement}
 use Rattle.pending.proofs.given.Tie as tie
-use Rattle.pending.proofs.given.Reads as reads
-use Rattle.pending.proofs.given.Lts as lts
-use Rattle.pending.proofs.short.Reads as short-reads
-use Rattle.pending.proofs.wide.Reads as wide-reads
 
 enum-told : tie.Need-enum-told
 enum-told c = search needs

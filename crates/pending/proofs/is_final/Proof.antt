@@ -1,9 +1,8 @@
+-- `is_final` is the bit of the word.
 use mathlib.Core.Path.{refl}
 use borrow.Author.Needs.{needs}
 use Rattle.pending.proofs.is_final.Statement.{statement}
 use Rattle.pending.proofs.is_final.Tie as tie
-use Rattle.pending.proofs.is_final.Reads as reads
-use Rattle.pending.proofs.is_final.Lts as lts
 
 shr-result : tie.Need-shr-result
 shr-result c = search needs

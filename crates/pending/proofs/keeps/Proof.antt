@@ -1,3 +1,4 @@
+-- `keeps` looks at all transitions of reached states.
 use Rattle.pending.specs.Emits.{gives}
 use Rattle.automaton.specs.Counts.{Kept}
 use Rattle.automaton.specs.Tests.{true-false, flag}
@@ -5,18 +6,13 @@ use Rattle.pending.proofs.Tools.{moved, move-ok, sure, fails}
 use Rattle.plan.specs.Plan.{move}
 use borrow.Author.Count.{below-more}
 use borrow.Author.Tests.{not-true, not-false}
-use mathlib.Core.Bool.{Bool, true, false}
-use Prim.Native.Nat.{ℕ, _+_, _*_, _-_, _/_, _≤_, _<_}
-use mathlib.Core.Path.{_≡_, refl, sym, ap, subst, _∙_}
+use mathlib.Core.Bool.{true}
+use Prim.Native.Nat.{ℕ, _-_, _≤_, _<_}
+use mathlib.Core.Path.{_≡_, sym, _∙_}
 use native.Mathlib.Omega.{arith}
 use borrow.Author.Needs.{needs}
 use Rattle.pending.proofs.keeps.Statement.{statement}
 use Rattle.pending.proofs.keeps.Tie as tie
-use Rattle.pending.proofs.keeps.Reads as reads
-use Rattle.pending.proofs.keeps.Lts as lts
-use Rattle.pending.proofs.kept.Reads as kept-reads
-use Rattle.pending.proofs.long.Reads as long-reads
-use Rattle.pending.proofs.wide.Reads as wide-reads
 
 abbrev Inv-loop : tie.InvT-loop
 Inv-loop a emits reached counts count i₀ i = (i ≤ count) × ((j : ℕ) → j < i → (e : ℕ) → e < 16 → flag reached (move a j .from) ≡ true → Kept (gives emits) counts (move a j) e)

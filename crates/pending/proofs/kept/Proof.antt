@@ -1,21 +1,16 @@
+-- `kept` looks at all events.
 use Rattle.automaton.specs.Counts.{Fitting}
-use Rattle.automaton.specs.Rules.{takes}
 use Rattle.automaton.specs.Tests.{at}
-use Rattle.pending.proofs.Tools.{gives-few, sure, fails}
+use Rattle.pending.proofs.Tools.{sure, fails}
+use Rattle.pending.specs.Emits.{gives-few}
 use Rattle.pending.specs.Emits.{gives}
 use borrow.Author.Count.{below-more}
-use mathlib.Core.Bool.{Bool, true, false}
-use Prim.Native.Nat.{ℕ, _+_, _*_, _-_, _/_, _≤_, _<_}
-use mathlib.Core.Path.{_≡_, refl, sym, ap, subst, _∙_}
+use Prim.Native.Nat.{ℕ, _+_, _*_, _-_, _≤_, _<_}
+use mathlib.Core.Path.{ap}
 use native.Mathlib.Omega.{arith}
 use borrow.Author.Needs.{needs}
 use Rattle.pending.proofs.kept.Statement.{statement}
 use Rattle.pending.proofs.kept.Tie as tie
-use Rattle.pending.proofs.kept.Reads as reads
-use Rattle.pending.proofs.kept.Lts as lts
-use Rattle.pending.proofs.given.Reads as given-reads
-use Rattle.pending.proofs.taken.Reads as taken-reads
-use Rattle.pending.proofs.wide.Reads as wide-reads
 
 abbrev Inv-loop : tie.InvT-loop
 Inv-loop emits counts from to input output e₀ e = (e ≤ 16) × ((k : ℕ) → k < e → Fitting (gives emits) counts from to input output k)

@@ -1,7 +1,7 @@
 -- `left` looks at all counts: at none before k is something left at a reached final state.
-use mathlib.Core.Path.{_≡_, refl, sym, _∙_}
+use mathlib.Core.Path.{_≡_, sym, _∙_}
 use mathlib.Core.Bool.{true}
-use Prim.Native.Nat.{ℕ, _+_, _-_, _/_, _≤_, _<_}
+use Prim.Native.Nat.{ℕ, _-_, _/_, _≤_, _<_}
 use native.Mathlib.Omega.{arith}
 use borrow.Author.Count.{below-more}
 use borrow.Author.Tests.{not-true, not-false}
@@ -11,9 +11,6 @@ use Rattle.pending.proofs.Tools.{left-at, no-left}
 use borrow.Author.Needs.{needs}
 use Rattle.pending.proofs.left.Statement.{statement}
 use Rattle.pending.proofs.left.Tie as tie
-use Rattle.pending.proofs.left.Reads as reads
-use Rattle.pending.proofs.left.Lts as lts
-use Rattle.pending.proofs.is_final.Reads as is-final-reads
 
 abbrev Inv-loop : tie.InvT-loop
 Inv-loop reached counts finals k₀ k = (k ≤ 1024) × ((j : ℕ) → j < k → flag reached (j / 16) ≡ true → finalBit finals (j / 16) ≡ true → at counts j ≡ 0)

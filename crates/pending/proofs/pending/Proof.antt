@@ -1,18 +1,12 @@
 -- `pending` judges by the counts: a transition that does not fit, something left, more than 8.
 use Rattle.automaton.specs.OnPaths.{broken25, broken26, neither}
-use Rattle.pending.proofs.Tools.{gives-bounded}
+use Rattle.pending.specs.Emits.{gives-bounded}
 use Rattle.automaton.specs.Counts.{clash-25, left-25, crowd-26, crowd-of, not-25}
 use Rattle.automaton.specs.Tests.{told-true, told-false}
 use borrow.Author.Tests.{not-true, not-false}
 use borrow.Author.Needs.{needs}
 use Rattle.pending.proofs.pending.Statement.{statement}
 use Rattle.pending.proofs.pending.Tie as tie
-use Rattle.pending.proofs.pending.Reads as reads
-use Rattle.pending.proofs.pending.Lts as lts
-use Rattle.pending.proofs.crowded.Reads as crowded-reads
-use Rattle.pending.proofs.explore.Reads as explore-reads
-use Rattle.pending.proofs.keeps.Reads as keeps-reads
-use Rattle.pending.proofs.left.Reads as left-reads
 
 explore-requires : tie.Need-explore-requires
 explore-requires c κs = search needs

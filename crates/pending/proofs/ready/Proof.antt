@@ -1,17 +1,15 @@
+-- `ready` answers by the case of the input.
 use Rattle.automaton.specs.Counts.{Ready, InputOk}
 use Rattle.automaton.specs.Tests.{tells-ltb, at, Tells}
 use Prim.Native.Nat.{_<_}
 use lib.Dec.{ltb}
 use Rattle.plan.specs.declared.Input.{Input}
 use Prim.Native.Nat.{ℕ, _+_, _*_}
-use mathlib.Core.Path.{_≡_, refl, sym, ap, subst, _∙_}
+use mathlib.Core.Path.{sym, subst}
 use native.Mathlib.Omega.{arith}
 use borrow.Author.Needs.{needs}
 use Rattle.pending.proofs.ready.Statement.{statement}
 use Rattle.pending.proofs.ready.Tie as tie
-use Rattle.pending.proofs.ready.Reads as reads
-use Rattle.pending.proofs.ready.Lts as lts
-use Rattle.pending.proofs.wide.Reads as wide-reads
 
 enum-told : tie.Need-enum-told
 enum-told c = search needs

@@ -1,15 +1,11 @@
+-- `taken` answers by the case of the input.
 use Rattle.automaton.specs.Rules.{takes, one}
 use Rattle.plan.specs.declared.Input.{Input}
-use Prim.Native.Nat.{ℕ, _+_, _*_}
 use borrow.Author.Tests.{eq-eqb, ne-eqb}
-use mathlib.Core.Path.{_≡_, refl, sym, ap, subst, _∙_}
-use native.Mathlib.Omega.{arith}
+use mathlib.Core.Path.{sym, ap, _∙_}
 use borrow.Author.Needs.{needs}
 use Rattle.pending.proofs.taken.Statement.{statement}
 use Rattle.pending.proofs.taken.Tie as tie
-use Rattle.pending.proofs.taken.Reads as reads
-use Rattle.pending.proofs.taken.Lts as lts
-use Rattle.pending.proofs.wide.Reads as wide-reads
 
 enum-told : tie.Need-enum-told
 enum-told c = search needs

@@ -1,22 +1,18 @@
+-- `to_final` keeps what `Backing` says of the marked states; each pass that marks a state leaves fewer. The flags are determined by what they tell.
 use Rattle.automaton.specs.Passes.{same-back}
 use Rattle.automaton.specs.Works.{back-done}
 use Rattle.automaton.specs.Number.{falses}
 use Rattle.automaton.specs.Passes.{back-starts, back-stay, back-store, back-round, back-ends, Backing}
-use Rattle.automaton.specs.Tests.{true-false, flag}
+use Rattle.automaton.specs.Tests.{true-false}
 use Rattle.pending.proofs.Tools.{moved, move-ok}
 use borrow.Author.Tests.{not-true, not-false}
-use mathlib.Core.Bool.{Bool, true, false}
-use Prim.Native.Nat.{ℕ, _+_, _*_, _-_, _/_, _≤_, _<_}
-use mathlib.Core.Path.{_≡_, refl, sym, ap, subst, _∙_}
+use mathlib.Core.Bool.{false}
+use Prim.Native.Nat.{_-_, _≤_}
+use mathlib.Core.Path.{_≡_, sym, _∙_}
 use native.Mathlib.Omega.{arith}
 use borrow.Author.Needs.{needs}
 use Rattle.pending.proofs.to_final.Statement.{statement}
 use Rattle.pending.proofs.to_final.Tie as tie
-use Rattle.pending.proofs.to_final.Reads as reads
-use Rattle.pending.proofs.to_final.Lts as lts
-use Rattle.pending.proofs.finals_of.Reads as finals-of-reads
-use Rattle.pending.proofs.long.Reads as long-reads
-use Rattle.pending.proofs.wide.Reads as wide-reads
 
 abbrev Inv-loop2 : tie.InvT-loop2
 Inv-loop2 a count done₀ changed₀ i₀ done changed i = (i ≤ count) × Backing a done₀ i done changed

@@ -1,6 +1,6 @@
 -- `ways` answers 24 at the first state without a path to a final one, and otherwise what the counts say.
 use native.Mathlib.Omega.{arith}
-use mathlib.Core.Path.{_≡_, refl, sym, ap, _∙_}
+use mathlib.Core.Path.{ap, _∙_}
 use mathlib.Core.Bool.{Bool}
 use mathlib.Core.List.{List}
 use Rattle.automaton.specs.Tests.{flag}
@@ -9,12 +9,6 @@ use Rattle.pending.proofs.Tools.{way-stops, way-goes}
 use borrow.Author.Needs.{needs}
 use Rattle.pending.proofs.ways.Statement.{statement}
 use Rattle.pending.proofs.ways.Tie as tie
-use Rattle.pending.proofs.ways.Reads as reads
-use Rattle.pending.proofs.ways.Lts as lts
-use Rattle.pending.proofs.first_unmarked.Reads as first-unmarked-reads
-use Rattle.pending.proofs.pending.Reads as pending-reads
-use Rattle.pending.proofs.to_final.Reads as to-final-reads
-use Rattle.pending.proofs.wide.Reads as wide-reads
 
 wide-requires : tie.Need-wide-requires
 wide-requires c κs = search needs

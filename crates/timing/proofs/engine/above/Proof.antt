@@ -6,7 +6,7 @@ use native.Mathlib.Omega.{arith}
 use borrow.Author.Tests.{lt-ltb, le-ltb}
 use borrow.Author.Needs.{needs}
 use Rattle.timing.specs.Engine.{aboveOf}
-use Rattle.timing.proofs.Loops.{above-here, above-on, above-end}
+use Rattle.timing.specs.Laws.Loops.{above-here, above-on, above-end}
 use Rattle.timing.proofs.engine.above.Statement.{statement}
 use Rattle.timing.proofs.engine.above.Tie as tie
 

@@ -2,7 +2,7 @@
 use mathlib.Core.Path.{sym, ap, _∙_, subst}
 use native.Mathlib.Omega.{arith}
 use Rattle.plan.specs.Plan.{nodesOf}
-use Rattle.timing.proofs.Fits.{input-fits, left-position, timeable, position-le, leaving, held-as, assembled}
+use Rattle.timing.specs.Laws.Fits.{input-fits, left-position, timeable, position-le, leaving, held-as, assembled}
 use Rattle.timing.specs.Inner.{Timeable, Leaving}
 use Rattle.timing.specs.declared.Progress.{Progress}
 use Rattle.timing.proofs.engine.advance.Statement.{statement}

@@ -7,8 +7,8 @@ use borrow.Author.Needs.{needs}
 use lib.ListN.{getD}
 use Rattle.lists.specs.Parts.{part}
 use Rattle.plan.specs.Plan.{pastNode, nodesOf}
-use Rattle.timing.proofs.Leaves.{leaves, leaves-end, leaves-action, leaves-claim, leaves-release, leaves-joined, leaves-dropped}
-use Rattle.timing.proofs.Rounds.{kind-fits}
+use Rattle.timing.specs.Laws.Leaves.{leaves, leaves-end, leaves-action, leaves-claim, leaves-release, leaves-joined, leaves-dropped}
+use Rattle.timing.specs.Laws.Rounds.{kind-fits}
 use Rattle.timing.specs.Engine.{leftOf}
 use Rattle.timing.specs.Limits.{KindFits}
 use Rattle.timing.specs.Times.{at}

@@ -5,7 +5,7 @@ use native.Mathlib.Nat.{sub-zero}
 use native.Mathlib.Omega.{arith}
 use borrow.Author.Needs.{needs}
 use Rattle.timing.specs.Engine.{raisedOf}
-use Rattle.timing.proofs.Loops.{raised-on, raised-end}
+use Rattle.timing.specs.Laws.Loops.{raised-on, raised-end}
 use Rattle.timing.proofs.engine.raised.Statement.{statement}
 use Rattle.timing.proofs.engine.raised.Tie as tie
 

@@ -3,7 +3,7 @@ use mathlib.Core.Path.{subst}
 use Prim.Native.Nat.{_<_}
 use native.Mathlib.Omega.{arith}
 use borrow.Author.Needs.{needs}
-use Rattle.timing.proofs.Taken.{floor-nothing, floor-oldest, floor-none}
+use Rattle.timing.specs.Laws.Taken.{floor-nothing, floor-oldest, floor-none}
 use Rattle.timing.specs.Limits.{InputFits}
 use Rattle.timing.specs.Queues.{floorOf}
 use Rattle.timing.proofs.queues.floor.Statement.{statement}

@@ -5,7 +5,7 @@ use Prim.Native.Nat.{_<_, _-_}
 use native.Mathlib.Omega.{arith}
 use borrow.Author.Needs.{needs}
 use lib.ListN.{set}
-use Rattle.timing.proofs.Taken.{processed-nothing, processed-oldest, processed-none}
+use Rattle.timing.specs.Laws.Taken.{processed-nothing, processed-oldest, processed-none}
 use Rattle.timing.specs.Queues.{pendingOf, processedOf}
 use Rattle.timing.specs.declared.Instance.{Instance}
 use Rattle.timing.specs.Limits.{InputFits}

@@ -4,7 +4,7 @@ use Prim.Native.Nat.{_≤_, _-_, _+_}
 use native.Mathlib.Omega.{arith}
 use borrow.Author.Needs.{needs}
 use Rattle.timing.specs.Queues.{shiftedOf}
-use Rattle.timing.proofs.Loops.{shifted-on, shifted-end}
+use Rattle.timing.specs.Laws.Loops.{shifted-on, shifted-end}
 use Rattle.timing.proofs.queues.shifted.Statement.{statement}
 use Rattle.timing.proofs.queues.shifted.Tie as tie
 

@@ -7,7 +7,7 @@ use borrow.Author.Needs.{needs}
 use Rattle.lists.specs.Parts.{part}
 use Rattle.time.specs.declared.Specified.{Specified}
 use Rattle.timing.specs.Times.{specified, at, largestOf}
-use Rattle.timing.proofs.Loops.{largest-on, largest-end}
+use Rattle.timing.specs.Laws.Loops.{largest-on, largest-end}
 use Rattle.timing.proofs.times.largest.Statement.{statement}
 use Rattle.timing.proofs.times.largest.Tie as tie
 

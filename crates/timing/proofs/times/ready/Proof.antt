@@ -7,7 +7,7 @@ use borrow.Author.Tests.{not-true, not-false}
 use borrow.Author.Needs.{needs}
 use Rattle.lists.specs.Parts.{part}
 use Rattle.timing.specs.Times.{flag, readyOf}
-use Rattle.timing.proofs.Loops.{ready-not, ready-on, ready-end}
+use Rattle.timing.specs.Laws.Loops.{ready-not, ready-on, ready-end}
 use Rattle.timing.proofs.times.ready.Statement.{statement}
 use Rattle.timing.proofs.times.ready.Tie as tie
 

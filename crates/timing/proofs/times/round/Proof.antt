@@ -10,7 +10,7 @@ use lib.ListN.{getD}
 use Rattle.lists.specs.Parts.{part}
 use Rattle.time.specs.declared.Specified.{Specified}
 use Rattle.plan.specs.Plan.{pastNode}
-use Rattle.timing.proofs.Rounds.{stored-placed, arrows-fit, kind-fits, turn, round-end, visit-done, visit-waits, visit-placed, start-small, room, placed-sound}
+use Rattle.timing.specs.Laws.Rounds.{stored-placed, arrows-fit, kind-fits, turn, round-end, visit-done, visit-waits, visit-placed, start-small, room, placed-sound}
 use Rattle.timing.specs.Inner.{Sound}
 use Rattle.timing.specs.Times.{roundOf}
 use Rattle.timing.proofs.times.round.Statement.{statement}

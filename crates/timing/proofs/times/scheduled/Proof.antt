@@ -4,7 +4,7 @@ use Prim.Native.Nat.{ℕ, _≤_, _-_}
 use native.Mathlib.Omega.{arith}
 use borrow.Author.Needs.{needs}
 use Rattle.plan.specs.Plan.{nodesOf}
-use Rattle.timing.proofs.Rounds.{round-sound, unscheduled-sound, rounds-stop, rounds-on, schedule-begins}
+use Rattle.timing.specs.Laws.Rounds.{round-sound, unscheduled-sound, rounds-stop, rounds-on, schedule-begins}
 use Rattle.timing.specs.Inner.{Sound}
 use Rattle.timing.specs.Times.{roundOf, roundsOf, scheduleOf}
 use Rattle.timing.specs.declared.Schedule.{Schedule}

@@ -1,0 +1,88 @@
+-- `activity_of` meets its contract. The loop's invariant: the first n nodes are copied, the rest are zeros. Assumes nothing.
+use mathlib.Core.List.{List}
+use Rattle.plan.specs.Plan.{pastNode, sizeOf}
+use Rattle.plan.specs.declared.Node.{Node}
+use Prim.Native.Nat.{_≤_, _-_, _+_, _*_}
+use mathlib.Core.Path.{_≡_, refl, ap, _∙_}
+use native.Mathlib.Omega.{arith}
+use lib.ListN.{getD, set}
+use Rattle.activity.specs.Copied.{filled, copied}
+use Rattle.activity.proofs.Copying.{filled-more}
+use borrow.Author.Needs.{needs}
+use Rattle.activity.proofs.activity_of.Statement.{statement}
+use Rattle.activity.proofs.activity_of.Tie as tie
+
+abbrev Inv-loop : tie.InvT-loop
+Inv-loop a plan i first count size nodes₀ n₀ nodes n = (n ≤ size) × (nodes ≡ filled plan a n)
+
+abbrev μ-loop : tie.MeasureT-loop
+μ-loop a plan i first count size nodes₀ n₀ nodes n = size - n
+
+mul-first : tie.Need-mul-first Inv-loop μ-loop
+mul-first c = search needs
+
+element-copy-out-count : tie.Need-element-copy-out-count Inv-loop μ-loop
+element-copy-out-count c = search needs
+
+cast-size : tie.Need-cast-size Inv-loop μ-loop
+cast-size c = search needs
+
+loop-holds : tie.Need-loop-holds Inv-loop μ-loop
+loop-holds c = (search needs, refl)
+
+add-nodes : tie.Need-add-nodes Inv-loop μ-loop
+add-nodes c = search needs
+
+mul-nodes : tie.Need-mul-nodes Inv-loop μ-loop
+mul-nodes c = search needs
+
+element-copy-out-nodes : tie.Need-element-copy-out-nodes Inv-loop μ-loop
+element-copy-out-nodes c = search needs
+
+mul-nodes-2 : tie.Need-mul-nodes-2 Inv-loop μ-loop
+mul-nodes-2 c = search needs
+
+array-set-from-nodes : tie.Need-array-set-from-nodes Inv-loop μ-loop
+array-set-from-nodes c = search needs
+
+add-n : tie.Need-add-n Inv-loop μ-loop
+add-n c = search needs
+
+loop-less : tie.Need-loop-less Inv-loop μ-loop
+loop-less c = search needs
+
+loop-again : tie.Need-loop-again Inv-loop μ-loop
+loop-again c =
+    let l = c .before .before .loop in
+    let s = c .before .before .before .before .args in (
+      search needs,
+      ap (λ x. set x (l .n) (getD (s .t1 .nodes) (64 * s .a + l .n) pastNode)) (l .inv .1) ∙ filled-more (s .t1) (s .a) (l .n) (omega arith),
+    )
+
+returns : tie.Need-returns Inv-loop μ-loop
+unfolding copied
+returns c =
+    let l = c .before .loop in
+    let s = c .before .before .before .args in
+    let e : l .n ≡ sizeOf (s .t1) (s .a) = omega arith in
+    ap (λ (x : List Node). record { count = sizeOf (s .t1) (s .a); nodes = x }) (l .inv .1 ∙ ap (filled (s .t1) (s .a)) e)
+
+pub activity-of-spec : {M : Type 1} → statement M
+activity-of-spec =
+    tie.close
+    (tie.spec
+    Inv-loop
+    μ-loop
+    mul-first
+    element-copy-out-count
+    cast-size
+    loop-holds
+    add-nodes
+    mul-nodes
+    element-copy-out-nodes
+    mul-nodes-2
+    array-set-from-nodes
+    add-n
+    loop-less
+    loop-again
+    returns)

@@ -1,0 +1,65 @@
+-- `before::closure` meets its contract. The loop's invariant: the words are closed through the nodes below k, for every activity whose arrows they had. Assumes nothing.
+use Prim.Native.Nat.{_≤_, _-_}
+use mathlib.Core.Path.{_≡_}
+use mathlib.Core.List.{List}
+use native.Mathlib.Omega.{arith}
+use lib.ListN.{length}
+use Rattle.plan.specs.Plan.{nodesOf}
+use Rattle.plan.specs.declared.Node.{Node}
+use Rattle.activity.specs.Closure.{Closing, opening, passing, shut}
+use Rattle.activity.proofs.Places.{count-of}
+use borrow.Author.Needs.{needs}
+use Rattle.activity.proofs.before.closure.Statement.{statement}
+use Rattle.activity.proofs.before.closure.Tie as tie
+
+abbrev Inv-loop : tie.InvT-loop
+Inv-loop count r₀ k₀ r k = (k ≤ count) × ((a : List Node) → length a ≡ count → Closing a 0 r₀ → Closing a k r)
+
+abbrev μ-loop : tie.MeasureT-loop
+μ-loop count r₀ k₀ r k = count - k
+
+cast-count : tie.Need-cast-count Inv-loop μ-loop
+cast-count c = search needs
+
+arrows-requires : tie.Need-arrows-requires Inv-loop μ-loop
+arrows-requires c κs = search needs
+
+loop-holds : tie.Need-loop-holds Inv-loop μ-loop
+loop-holds c = (search needs, λ a e h. h)
+
+through-requires : tie.Need-through-requires Inv-loop μ-loop
+through-requires c κs = search needs
+
+add-k : tie.Need-add-k Inv-loop μ-loop
+add-k c = search needs
+
+loop-less : tie.Need-loop-less Inv-loop μ-loop
+loop-less c = search needs
+
+loop-again : tie.Need-loop-again Inv-loop μ-loop
+loop-again c =
+    let l = c .before .before .loop in
+    (search needs, λ a e h. passing a (l .k) (l .r) (c .through .result) (l .inv .1 a e h) (rw e (c .through .ensures)))
+
+returns : tie.Need-returns Inv-loop μ-loop
+returns c =
+    let a = c .before .before .before .before .args .activity in
+    let r = c .before .before .arrows in
+    let e : c .before .loop .k ≡ length (nodesOf a) = omega (arith, count-of a) in
+    let done = c .before .loop .inv .1 (nodesOf a) (count-of a) (opening (nodesOf a) (r .result) (r .ensures)) in
+    shut (rw e at done)
+
+pub closure-spec : {M : Type 1} → statement M
+closure-spec =
+    tie.close
+    (tie.spec
+    Inv-loop
+    μ-loop
+    cast-count
+    arrows-requires
+    loop-holds
+    through-requires
+    add-k
+    loop-less
+    loop-again
+    returns)

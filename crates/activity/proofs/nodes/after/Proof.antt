@@ -1,0 +1,64 @@
+-- `nodes::after` meets its contract. The loop's invariant: the word marks the nodes below m that n is before. Assumes nothing.
+use Prim.Native.Nat.{_<_, _≤_, _-_}
+use mathlib.Core.Path.{_≡_}
+use native.Mathlib.Omega.{arith}
+use Rattle.activity.specs.Sight.{Marks}
+use Rattle.activity.specs.Closure.{Rel}
+use Rattle.activity.proofs.Marking.{nothing-marked, one-more-marked}
+use borrow.Author.Needs.{needs}
+use Rattle.activity.proofs.nodes.after.Statement.{statement}
+use Rattle.activity.proofs.nodes.after.Tie as tie
+
+abbrev Inv-loop : tie.InvT-loop
+Inv-loop count n before w₀ m₀ w m = (m ≤ count) × Marks w (λ j. (j < m) × Rel before n j)
+
+abbrev μ-loop : tie.MeasureT-loop
+μ-loop count n before w₀ m₀ w m = count - m
+
+loop-holds : tie.Need-loop-holds Inv-loop μ-loop
+loop-holds c = (search needs, nothing-marked _)
+
+mul-has : tie.Need-mul-has Inv-loop μ-loop
+mul-has c = search needs
+
+array-read-has : tie.Need-array-read-has Inv-loop μ-loop
+array-read-has c = search needs
+
+has-requires : tie.Need-has-requires Inv-loop μ-loop
+has-requires c κs = search needs
+
+marked-requires : tie.Need-marked-requires Inv-loop μ-loop
+marked-requires c κs = search needs
+
+add-m : tie.Need-add-m Inv-loop μ-loop
+add-m c = search needs
+
+loop-less : tie.Need-loop-less Inv-loop μ-loop
+loop-less c = search needs
+
+loop-again : tie.Need-loop-again Inv-loop μ-loop
+loop-again c =
+    let l = c .before .before .before .loop in
+    let s = c .before .before .before .before .args in (
+      search needs,
+      one-more-marked (λ j. Rel (s .t1) (s .n) j) (l .w) (c .marked .result) (l .m) (c .before .has .ensures) (l .inv .1) (c .marked .ensures),
+    )
+
+returns : tie.Need-returns Inv-loop μ-loop
+returns c = let e : c .before .loop .m ≡ c .before .before .args .count = omega arith in rw (← e) (c .before .loop .inv .1)
+
+pub after-spec : {M : Type 1} → statement M
+after-spec =
+    tie.close
+    (tie.spec
+    Inv-loop
+    μ-loop
+    loop-holds
+    mul-has
+    array-read-has
+    has-requires
+    marked-requires
+    add-m
+    loop-less
+    loop-again
+    returns)

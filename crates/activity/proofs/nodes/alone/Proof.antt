@@ -1,0 +1,20 @@
+-- `nodes::alone` meets its contract: what the words say of the other nodes like n. Assumes nothing.
+use Rattle.activity.specs.Tells.{tells-iff}
+use Rattle.activity.proofs.Seeing.{seen-alone}
+use borrow.Author.Needs.{needs}
+use Rattle.activity.proofs.nodes.alone.Statement.{statement}
+use Rattle.activity.proofs.nodes.alone.Tie as tie
+
+with-requires : tie.Need-with-requires
+with-requires c κs = search needs
+
+within-requires : tie.Need-within-requires
+within-requires c κs = search needs
+
+returns : tie.Need-returns
+returns c belongs a h =
+    let s = c .before .before .args in
+    tells-iff (seen-alone belongs a (s .n) (s .s) h (c .before .with .result) (c .before .with .ensures)) (c .within .ensures)
+
+pub alone-spec : {M : Type 1} → statement M
+alone-spec = tie.close (tie.spec with-requires within-requires returns)

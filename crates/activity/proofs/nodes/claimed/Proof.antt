@@ -1,0 +1,15 @@
+-- `nodes::claimed` meets its contract: the words of the claims and of the nodes before n have a common bit. Assumes nothing.
+use Rattle.activity.specs.Tells.{tells-iff}
+use Rattle.activity.proofs.Seeing.{seen-claimed}
+use borrow.Author.Needs.{needs}
+use Rattle.activity.proofs.nodes.claimed.Statement.{statement}
+use Rattle.activity.proofs.nodes.claimed.Tie as tie
+
+meet-requires : tie.Need-meet-requires
+meet-requires c κs = search needs
+
+returns : tie.Need-returns
+returns c belongs a n h = tells-iff (seen-claimed belongs a n (c .before .args .s) h) (c .meet .ensures)
+
+pub claimed-spec : {M : Type 1} → statement M
+claimed-spec = tie.close (tie.spec meet-requires returns)

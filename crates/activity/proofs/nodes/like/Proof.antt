@@ -1,0 +1,61 @@
+-- `nodes::like` meets its contract. The loop's invariant: the word marks the nodes below m with the label. Assumes nothing.
+use Prim.Native.Nat.{_<_, _≤_, _-_}
+use mathlib.Core.Path.{_≡_}
+use native.Mathlib.Omega.{arith}
+use lib.ListN.{getD}
+use Rattle.activity.specs.Sight.{Marks}
+use Rattle.activity.specs.Tells.{tells-eqb}
+use Rattle.activity.proofs.Marking.{nothing-marked, one-more-marked}
+use borrow.Author.Needs.{needs}
+use Rattle.activity.proofs.nodes.like.Statement.{statement}
+use Rattle.activity.proofs.nodes.like.Tie as tie
+
+abbrev Inv-loop : tie.InvT-loop
+Inv-loop count wanted labels w₀ m₀ w m = (m ≤ count) × Marks w (λ j. (j < m) × (getD labels j 0 ≡ wanted))
+
+abbrev μ-loop : tie.MeasureT-loop
+μ-loop count wanted labels w₀ m₀ w m = count - m
+
+loop-holds : tie.Need-loop-holds Inv-loop μ-loop
+loop-holds c = (search needs, nothing-marked _)
+
+mul-marked : tie.Need-mul-marked Inv-loop μ-loop
+mul-marked c = search needs
+
+array-read-marked : tie.Need-array-read-marked Inv-loop μ-loop
+array-read-marked c = search needs
+
+marked-requires : tie.Need-marked-requires Inv-loop μ-loop
+marked-requires c κs = search needs
+
+add-m : tie.Need-add-m Inv-loop μ-loop
+add-m c = search needs
+
+loop-less : tie.Need-loop-less Inv-loop μ-loop
+loop-less c = search needs
+
+loop-again : tie.Need-loop-again Inv-loop μ-loop
+loop-again c =
+    let l = c .before .before .loop in
+    let s = c .before .before .before .args in (
+      search needs,
+      one-more-marked (λ j. getD (s .t1) j 0 ≡ s .wanted) (l .w) (c .marked .result) (l .m) (tells-eqb (getD (s .t1) (l .m) 0) (s .wanted)) (l .inv .1) (c .marked .ensures),
+    )
+
+returns : tie.Need-returns Inv-loop μ-loop
+returns c = let e : c .before .loop .m ≡ c .before .before .args .count = omega arith in rw (← e) (c .before .loop .inv .1)
+
+pub like-spec : {M : Type 1} → statement M
+like-spec =
+    tie.close
+    (tie.spec
+    Inv-loop
+    μ-loop
+    loop-holds
+    mul-marked
+    array-read-marked
+    marked-requires
+    add-m
+    loop-less
+    loop-again
+    returns)

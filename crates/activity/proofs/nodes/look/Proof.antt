@@ -1,0 +1,68 @@
+-- `nodes::look` meets its contract: each word is what the function that made it says, for every activity with these labels. Assumes nothing.
+use mathlib.Core.Path.{sym, ap, _∙_}
+use Prim.Native.Nat.{ℕ, _*_, _+_}
+use Rattle.activity.specs.Sight.{labelOf, heldOf}
+use Rattle.activity.proofs.Seeing.{label-marks, after-marks}
+use borrow.Author.Needs.{needs}
+use Rattle.activity.proofs.nodes.look.Statement.{statement}
+use Rattle.activity.proofs.nodes.look.Tie as tie
+
+label-requires : tie.Need-label-requires
+label-requires c κs = search needs
+
+mul-r : tie.Need-mul-r
+mul-r c = search needs
+
+mul-t11 : tie.Need-mul-t11
+mul-t11 c = search needs
+
+array-read-t14 : tie.Need-array-read-t14
+array-read-t14 c = search needs
+
+after-requires : tie.Need-after-requires
+after-requires c κs = search needs
+
+like-requires : tie.Need-like-requires
+like-requires c κs = search needs
+
+add-like : tie.Need-add-like
+add-like c = search needs
+
+like-requires-2 : tie.Need-like-requires-2
+like-requires-2 c κs = search needs
+
+add-like-2 : tie.Need-add-like-2
+add-like-2 c = search needs
+
+like-requires-3 : tie.Need-like-requires-3
+like-requires-3 c κs = search needs
+
+returns : tie.Need-returns
+returns c belongs a long closed named own held =
+    let l = c .before .before .before .before .before .args in
+    let mark = label-marks a (l .count) long (l .labels) in
+    let kind = ap labelOf (sym own) in
+    let resource = held ∙ ap (heldOf belongs) (sym own) in
+    record {
+      before = λ m. closed m (l .n);
+      after = after-marks a (l .count) long (l .t1) _ (l .n) closed (c .before .before .before .after .ensures);
+      same = mark _ _ _ named (c .before .before .before .before .label .ensures ∙ kind) (c .before .before .like .ensures);
+      claims = mark _ _ _ named (ap (λ (x : ℕ). 4 * x + 1) resource) (c .before .like2 .ensures);
+      releases = mark _ _ _ named (ap (λ (x : ℕ). 4 * x + 2) resource) (c .like3 .ensures);
+    }
+
+pub look-spec : {M : Type 1} → statement M
+look-spec =
+    tie.close
+    (tie.spec
+    label-requires
+    mul-r
+    mul-t11
+    array-read-t14
+    after-requires
+    like-requires
+    add-like
+    like-requires-2
+    add-like-2
+    like-requires-3
+    returns)

@@ -1,0 +1,89 @@
+-- `nodes::node_number` meets its contract: a node on a cycle, or what the function of its kind says. Assumes nothing.
+use mathlib.Core.Path.{subst}
+use mathlib.Core.List.{List}
+use Prim.Native.Nat.{ℕ}
+use Rattle.plan.specs.declared.Node.{Node}
+use Rattle.activity.specs.Rules.{Is, Before}
+use Rattle.activity.specs.Sight.{Seen}
+use Rattle.activity.specs.Tells.{told-true, told-false}
+use Rattle.activity.proofs.Numbering.{on-cycle}
+use borrow.Author.Needs.{needs}
+use Rattle.activity.proofs.nodes.node_number.Statement.{statement}
+use Rattle.activity.proofs.nodes.node_number.Tie as tie
+
+has-requires : tie.Need-has-requires
+has-requires c κs = search needs
+
+returns : tie.Need-returns
+returns c belongs a i h =
+    let s = c .before .before .args in
+    on-cycle belongs a (s .n) (h .before (s .n) .0 (told-true (c .before .has .ensures) (c .if1 .taken)))
+
+enum-told : tie.Need-enum-told
+enum-told c = search needs
+
+action-number-requires : tie.Need-action-number-requires
+action-number-requires c κs = search needs
+
+enum-told-2 : tie.Need-enum-told-2
+enum-told-2 c = search needs
+
+claim-number-requires : tie.Need-claim-number-requires
+claim-number-requires c κs = search needs
+
+enum-told-3 : tie.Need-enum-told-3
+enum-told-3 c = search needs
+
+release-number-requires : tie.Need-release-number-requires
+release-number-requires c κs = search needs
+
+enum-told-4 : tie.Need-enum-told-4
+enum-told-4 c = search needs
+
+event-number-requires : tie.Need-event-number-requires
+event-number-requires c κs = search needs
+
+-- past the first test the node is on no cycle
+free :
+    (c : tie.Else1) {belongs : ℕ → ℕ} {a : List Node} → Seen belongs a (c .before .before .args .n) (c .before .before .args .s)
+    → Before a (c .before .before .args .n) (c .before .before .args .n) → ⊥
+free c h b = told-false (c .before .has .ensures) (c .if1 .left) (h .before _ .1 b)
+
+returns-2 : tie.Need-returns-2
+returns-2 c belongs a i h =
+    let g = c .before .enum-told .given in
+    c .action-number .ensures (g .0 .0) (g .0 .1 .0) belongs a (subst (Is a _) (g .1) i) h (free (c .before .before .before) h)
+
+returns-3 : tie.Need-returns-3
+returns-3 c belongs a i h =
+    let g = c .before .enum-told2 .given in
+    c .claim-number .ensures (g .0 .0) belongs a (subst (Is a _) (g .1) i) h (free (c .before .before .before) h)
+
+returns-4 : tie.Need-returns-4
+returns-4 c belongs a i h =
+    let g = c .before .enum-told3 .given in
+    c .release-number .ensures (g .0 .0) belongs a (subst (Is a _) (g .1) i) h (free (c .before .before .before) h)
+
+returns-5 : tie.Need-returns-5
+returns-5 c belongs a i h =
+    let g = c .before .enum-told4 .given in
+    c .event-number .ensures (g .0 .0) belongs a (subst (Is a _) (g .1) i) h (free (c .before .before .before) h)
+
+pub node-number-spec : {M : Type 1} → statement M
+node-number-spec =
+    tie.close
+    (tie.spec
+    has-requires
+    returns
+    enum-told
+    action-number-requires
+    enum-told-2
+    claim-number-requires
+    enum-told-3
+    release-number-requires
+    enum-told-4
+    event-number-requires
+    returns-2
+    returns-3
+    returns-4
+    returns-5)

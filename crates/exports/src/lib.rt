@@ -1,0 +1,79 @@
+// What Rust and C link: functions on numbers and byte slices.
+use plan::Fault;
+use plan::Verdict;
+ghost use mathlib.Core.Path.{_≡_};
+ghost use Prim.Native.Nat.{_≤_, _<_, min};
+ghost use Rattle.plan.specs.Fault.{numberOf};
+ghost use Rattle.plan.specs.Reading.{readPlan};
+ghost use Rattle.judge.specs.Judge.{judgeOf};
+ghost use Rattle.exports.specs.Codes.{codeOf};
+
+// Document 01's number of a fault.
+fn number(f: Fault) -> u64
+    ensures { λ r. ⌜ (r ≡ numberOf f) × (r < 32) ⌝ }
+{
+    match f {
+        Fault::Ends => 1,
+        Fault::Map => 2,
+        Fault::NoAutomaton => 7,
+        Fault::Count => 3,
+        Fault::Names => 4,
+        Fault::Duration => 8,
+        Fault::NotRising => 5,
+        Fault::LeftOver => 6,
+        Fault::Cycle => 11,
+        Fault::ActionsUnordered => 12,
+        Fault::NamedTwice => 13,
+        Fault::ActionUnheld => 14,
+        Fault::ClaimUnpaired => 15,
+        Fault::ArrowPastEnd => 16,
+        Fault::EventFirst => 17,
+        Fault::EventsUnordered => 18,
+        Fault::WayOutOfFinal => 21,
+        Fault::ForbiddenBranch => 22,
+        Fault::OutcomeMissing => 23,
+        Fault::NoWayToFinal => 24,
+        Fault::Unbalanced => 25,
+        Fault::TooManyPending => 26,
+    }
+}
+
+// The place, or 2^32 - 1 where it is larger.
+fn short_place(place: usize) -> u64
+    ensures { λ r. ⌜ r ≡ min place 4_294_967_295 ⌝ }
+{
+    if place < 4294967295 {
+        place as u64
+    } else {
+        4294967295
+    }
+}
+
+fn code(v: Verdict) -> u64
+    ensures { λ r. ⌜ r ≡ codeOf v ⌝ }
+{
+    match v {
+        Verdict::Accepted => 0,
+        Verdict::Refused(f, place) => number(f) * 4294967296 + short_place(place),
+    }
+}
+
+// Reading alone: 0 if the bytes read as a plan, otherwise number and place.
+#[no_mangle]
+pub extern "C" fn jidlekuvo_read(bytes: &[u8]) -> u64
+    ensures { λ r. ⌜ r ≡ codeOf (readPlan (now (bytes .entry)) .verdict) ⌝ }
+{
+    let read = reading::read(bytes);
+    let v = read.verdict;
+    code(v)
+}
+
+// The whole verdict: 0 if the plan is accepted, otherwise number and place.
+#[no_mangle]
+pub extern "C" fn jidlekuvo_judge(bytes: &[u8]) -> u64
+    ensures { λ r. ⌜ r ≡ codeOf (judgeOf (now (bytes .entry)) .verdict) ⌝ }
+{
+    let judged = judge::judge(bytes);
+    let v = judged.verdict;
+    code(v)
+}

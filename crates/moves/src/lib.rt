@@ -1,0 +1,301 @@
+// Reading the automaton: its states and its transitions.
+use plan::Automaton;
+use plan::Fault;
+use plan::Input;
+use plan::Output;
+use plan::Transition;
+use plan::fields::AutomatonRead;
+use plan::fields::Field;
+use plan::fields::FinalsField;
+use plan::fields::InputRead;
+use plan::fields::MoveCount;
+use plan::fields::MoveRead;
+use plan::fields::OutputRead;
+use plan::fields::Step;
+ghost use mathlib.Core.Path.{_≡_};
+ghost use Prim.Native.Nat.{_≤_};
+ghost use lib.ListN.{replicate};
+ghost use Rattle.plan.specs.Plan.{pastMove};
+ghost use Rattle.plan.specs.Moves.{outcomeAt, inputAt, outputAt, moveWith, moveFrom, moveAt, zeroAutomaton, noAutomaton, movesLoop, movesAt, automatonAt};
+
+fn outcome_at(bytes: &[u8], at: usize, events: u8, outcomes: [u8; 16]) -> InputRead
+    requires { ⌜ events ≤ 16 ⌝ }
+    ensures { λ r. ⌜ r ≡ outcomeAt events outcomes (now (bytes .entry)) at ⌝ }
+{
+    let f = fields::name_at(bytes, at, events);
+    match f {
+        Field::Refused(f, p) => InputRead::Refused(f, p),
+        Field::Value(e, next) => {
+            let w = e as usize;
+            let g = fields::name_at(bytes, next, outcomes[w]);
+            match g {
+                Field::Refused(f, p) => InputRead::Refused(f, p),
+                Field::Value(o, end) => InputRead::Value(Input::Outcome(e, o), end),
+            }
+        }
+    }
+}
+
+// What a transition whose map is m processes.
+fn input_at(bytes: &[u8], at: usize, m: u8, events: u8, outcomes: [u8; 16]) -> InputRead
+    requires { ⌜ events ≤ 16 ⌝ }
+    ensures { λ r. ⌜ r ≡ inputAt m events outcomes (now (bytes .entry)) at ⌝ }
+{
+    if m % 2 == 1 {
+        return outcome_at(bytes, at, events, outcomes);
+    }
+    InputRead::Value(Input::Nothing, at)
+}
+
+// What a transition whose map is m emits.
+fn output_at(bytes: &[u8], at: usize, m: u8, activities: u8) -> OutputRead
+    ensures { λ r. ⌜ r ≡ outputAt m activities (now (bytes .entry)) at ⌝ }
+{
+    if m / 2 % 2 == 1 {
+        let f = fields::name_at(bytes, at, activities);
+        match f {
+            Field::Refused(f, p) => {
+                return OutputRead::Refused(f, p);
+            }
+            Field::Value(a, end) => {
+                return OutputRead::Value(Output::Activity(a), end);
+            }
+        }
+    }
+    OutputRead::Value(Output::Empty, at)
+}
+
+// The fields after a transition's states.
+fn move_with(
+    bytes: &[u8],
+    at: usize,
+    m: u8,
+    from: u8,
+    to: u8,
+    events: u8,
+    outcomes: [u8; 16],
+    activities: u8,
+) -> MoveRead
+    requires { ⌜ events ≤ 16 ⌝ }
+    ensures { λ r. ⌜ r ≡ moveWith events outcomes activities (now (bytes .entry)) m from to at ⌝ }
+{
+    let f = input_at(bytes, at, m, events, outcomes);
+    match f {
+        InputRead::Refused(f, p) => MoveRead::Refused(f, p),
+        InputRead::Value(input, next) => {
+            let g = output_at(bytes, next, m, activities);
+            match g {
+                OutputRead::Refused(f, p) => MoveRead::Refused(f, p),
+                OutputRead::Value(output, end) => {
+                    let t = Transition {
+                        from,
+                        to,
+                        input,
+                        output,
+                    };
+                    MoveRead::Value(t, end)
+                }
+            }
+        }
+    }
+}
+
+// The fields after a transition's map.
+fn move_from(
+    bytes: &[u8],
+    at: usize,
+    m: u8,
+    states: u8,
+    events: u8,
+    outcomes: [u8; 16],
+    activities: u8,
+) -> MoveRead
+    requires { ⌜ events ≤ 16 ⌝ }
+    ensures { λ r. ⌜ r ≡ moveFrom states events outcomes activities (now (bytes .entry)) m at ⌝ }
+{
+    let f = fields::name_at(bytes, at, states);
+    match f {
+        Field::Refused(f, p) => MoveRead::Refused(f, p),
+        Field::Value(from, next) => {
+            let g = fields::name_at(bytes, next, states);
+            match g {
+                Field::Refused(f, p) => MoveRead::Refused(f, p),
+                Field::Value(to, after) => move_with(
+                    bytes,
+                    after,
+                    m,
+                    from,
+                    to,
+                    events,
+                    outcomes,
+                    activities,
+                ),
+            }
+        }
+    }
+}
+
+fn move_at(
+    bytes: &[u8],
+    at: usize,
+    states: u8,
+    events: u8,
+    outcomes: [u8; 16],
+    activities: u8,
+) -> MoveRead
+    requires { ⌜ events ≤ 16 ⌝ }
+    ensures { λ r. ⌜ r ≡ moveAt states events outcomes activities (now (bytes .entry)) at ⌝ }
+{
+    let f = fields::byte_in(bytes, at, 0, 4, Fault::Map);
+    match f {
+        Field::Refused(f, p) => MoveRead::Refused(f, p),
+        Field::Value(m, next) => move_from(bytes, next, m, states, events, outcomes, activities),
+    }
+}
+
+fn zero_move() -> Transition
+    ensures { λ r. ⌜ r ≡ pastMove ⌝ }
+{
+    Transition {
+        from: 0,
+        to: 0,
+        input: Input::Nothing,
+        output: Output::Empty,
+    }
+}
+
+pub fn zero_automaton() -> Automaton
+    ensures { λ r. ⌜ r ≡ zeroAutomaton ⌝ }
+{
+    let z = zero_move();
+    Automaton {
+        states: 0,
+        initial: 0,
+        finals: 0,
+        count: 0,
+        moves: [z; 256],
+    }
+}
+
+fn no_automaton(fault: Fault, place: usize) -> AutomatonRead
+    ensures { λ r. ⌜ r ≡ noAutomaton fault place ⌝ }
+{
+    AutomatonRead {
+        step: Step::Refused(fault, place),
+        automaton: zero_automaton(),
+    }
+}
+
+// The transitions, after the automaton's other parts.
+fn moves_loop(
+    bytes: &[u8],
+    at: usize,
+    states: u8,
+    initial: u8,
+    finals: u64,
+    count: u16,
+    events: u8,
+    outcomes: [u8; 16],
+    activities: u8,
+) -> AutomatonRead
+    requires { ⌜ (count ≤ 256) × (events ≤ 16) ⌝ }
+    ensures { λ r. ⌜ r ≡ movesLoop events outcomes activities (now (bytes .entry)) states initial finals count count at 0 (replicate 256 pastMove) ⌝ }
+{
+    let z = zero_move();
+    let mut moves = [z; 256];
+    let mut off = at;
+    let mut i: usize = 0;
+    let n = count as usize;
+    while i < n {
+        let f = move_at(bytes, off, states, events, outcomes, activities);
+        match f {
+            MoveRead::Refused(f, p) => {
+                return no_automaton(f, p);
+            }
+            MoveRead::Value(t, next) => {
+                moves[i] = t;
+                off = next;
+            }
+        }
+        i += 1;
+    }
+    let automaton = Automaton {
+        states,
+        initial,
+        finals,
+        count,
+        moves,
+    };
+    AutomatonRead {
+        step: Step::Read(off),
+        automaton,
+    }
+}
+
+// The fields after the initial state.
+fn moves_at(
+    bytes: &[u8],
+    at: usize,
+    states: u8,
+    initial: u8,
+    events: u8,
+    outcomes: [u8; 16],
+    activities: u8,
+) -> AutomatonRead
+    requires { ⌜ events ≤ 16 ⌝ }
+    ensures { λ r. ⌜ r ≡ movesAt events outcomes activities (now (bytes .entry)) states initial at ⌝ }
+{
+    let f = fields::finals_at(bytes, at, states);
+    match f {
+        FinalsField::Refused(f, p) => no_automaton(f, p),
+        FinalsField::Value(finals, next) => {
+            let g = fields::move_count_at(bytes, next);
+            match g {
+                MoveCount::Refused(f, p) => no_automaton(f, p),
+                MoveCount::Value(count, after) => moves_loop(
+                    bytes,
+                    after,
+                    states,
+                    initial,
+                    finals,
+                    count,
+                    events,
+                    outcomes,
+                    activities,
+                ),
+            }
+        }
+    }
+}
+
+// The automaton of a plan with these events and activities.
+pub fn automaton_at(
+    bytes: &[u8],
+    at: usize,
+    events: u8,
+    outcomes: [u8; 16],
+    activities: u8,
+) -> AutomatonRead
+    requires { ⌜ events ≤ 16 ⌝ }
+    ensures { λ r. ⌜ r ≡ automatonAt events outcomes activities (now (bytes .entry)) at ⌝ }
+{
+    let f = fields::count_at(bytes, at, 64);
+    match f {
+        Field::Refused(f, p) => no_automaton(f, p),
+        Field::Value(states, next) => {
+            let g = fields::name_at(bytes, next, states);
+            match g {
+                Field::Refused(f, p) => no_automaton(f, p),
+                Field::Value(initial, after) => moves_at(
+                    bytes,
+                    after,
+                    states,
+                    initial,
+                    events,
+                    outcomes,
+                    activities,
+                ),
+            }
+        }
+    }
+}

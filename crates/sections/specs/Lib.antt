@@ -1,0 +1,2 @@
+-- A limit that every answer of a section keeps.
+pub mod Counts

@@ -1,0 +1,2 @@
+-- What the activities of a plan emit, as a table.
+pub mod Table

@@ -1,0 +1,24 @@
+-- A byte is put where the buffer has the place, and the buffer is kept where it has not.
+use native.Mathlib.Omega.{arith}
+use mathlib.Core.Path.{_≡_, refl, sym, _∙_, ap}
+use lib.Seq.{set-out}
+use borrow.Author.Needs.{needs}
+use Rattle.wire.proofs.put.Statement.{statement}
+use Rattle.wire.proofs.put.Tie as tie
+use Rattle.wire.proofs.put.Reads as reads
+use Rattle.wire.proofs.put.Lts as lts
+
+slice-write-out : tie.Need-slice-write-out
+slice-write-out c = search needs
+
+same-length : tie.Need-same-length
+same-length c = search needs
+
+returns : tie.Need-returns
+returns c = search needs
+
+returns-2 : tie.Need-returns-2
+returns-2 c = sym (set-out _ _ _ (c .if1 .left))
+
+pub put-spec : {M : Type 1} → statement M
+put-spec = tie.close (tie.spec slice-write-out same-length returns returns-2)

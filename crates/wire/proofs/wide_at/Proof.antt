@@ -1,0 +1,29 @@
+-- A field of eight bytes: by the test whether they fit, and the number that they make.
+use native.Mathlib.Omega.{arith}
+use borrow.Author.Tests.{lt-ltb, le-ltb, le-leb, lt-leb, leb-true}
+use mathlib.Core.Path.{_≡_, refl, sym, _∙_, ap}
+use Rattle.wire.specs.Number.{fieldAt}
+use borrow.Author.Needs.{needs}
+use Rattle.wire.proofs.wide_at.Statement.{statement}
+use Rattle.wire.proofs.wide_at.Tie as tie
+use Rattle.wire.proofs.wide_at.Reads as reads
+use Rattle.wire.proofs.wide_at.Lts as lts
+use Rattle.wire.proofs.eight.Reads as eight-reads
+use Rattle.wire.proofs.fits.Reads as fits-reads
+
+fits-requires : tie.Need-fits-requires
+fits-requires c κs = search needs
+
+eight-requires : tie.Need-eight-requires
+eight-requires c κs = leb-true _ _ (sym (c .before .fits2 .ensures) ∙ c .if1 .taken)
+
+returns : tie.Need-returns
+unfolding fieldAt
+returns c = rw (sym (c .before .before .fits2 .ensures) ∙ c .before .if1 .taken, c .eight .ensures)
+
+returns-2 : tie.Need-returns-2
+unfolding fieldAt
+returns-2 c = rw (sym (c .before .fits2 .ensures) ∙ c .if1 .left)
+
+pub wide-at-spec : {M : Type 1} → statement M
+wide-at-spec = tie.close (tie.spec fits-requires eight-requires returns returns-2)

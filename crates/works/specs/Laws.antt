@@ -1,0 +1,21 @@
+-- The proofs: the calls that load nothing; one transition, a path and further paths; an outcome; the opening; the engine's laws.
+pub mod Bools
+pub mod Later
+pub mod Bounds
+pub mod Ways
+pub mod Counts
+pub mod Taken
+pub mod Entries
+pub mod Loaded
+pub mod Paths
+pub mod Sums
+pub mod Onward
+pub mod Further
+pub mod Kinds
+pub mod Telling
+pub mod Informed
+pub mod Learn
+pub mod Works
+pub mod Opening
+pub mod EngineHolds
+pub mod AcceptedHolds

@@ -1,0 +1,56 @@
+-- A call that tells nothing: what holds of the calls before it still holds.
+use mathlib.Core.List.{List, _∷_}
+use mathlib.Core.Logic.{inr, ⊎-elim}
+use Prim.Native.Nat.{ℕ}
+use Rattle.plan.specs.declared.Plan.{Plan}
+use Rattle.timing.specs.declared.Told.{Told}
+use Rattle.timing.specs.declared.Instance.{Instance}
+use Rattle.timing.specs.declared.Progress.{Progress}
+use Rattle.behaviour.specs.Combined.{Graph}
+use Rattle.run.specs.declared.Call.{Call}
+use Rattle.run.specs.declared.Reply.{Reply}
+use Rattle.log.specs.Log.{Id, Log, Said, said, Accepts, Tells}
+use Rattle.log.specs.Log as Log
+use Rattle.demand.specs.TheWord.{Takes, none, goes, hears, Stuck, ended, waits}
+use Rattle.works.specs.Stands.{idOf, ToldAs, Queued, Stands}
+
+-- what a longer log tells it takes
+pub takes-more : (p : Plan) (log : Log) (y : Said) (is : List ℕ) → Takes p log is → Takes p (y ∷ log) is
+takes-more p log y is none = none
+takes-more p log y is (goes h e) = goes (takes-more p log y _ h) e
+takes-more p log y is (hears e o x h n old told c) = hears e o x (takes-more p log y _ h) n old (inr told) c
+
+-- nothing is told by a call whose answer is no acceptance
+pub tells-not : (c : Call) (r : Reply) (log : Log) → (Accepts r log → ⊥) → (x : Id) (o : ℕ) → Tells c r log x o → ⊥
+tells-not (Call.Ask t) r log h x o q = q
+tells-not (Call.Completion t p n) r log h x o q = q
+tells-not (Call.Outcome t p n u) r log h x o q = h (q .2)
+
+module _ (c : Call) (r : Reply) (log : Log) where
+  abbrev Silent : Id → Type 0
+  Silent x = (o : ℕ) → Tells c r log x o → ⊥
+
+  pub told-later : (x : Id) (t : Told) → Silent x → ToldAs log x t → ToldAs (said c r ∷ log) x t
+  told-later x Told.Nothing s h = λ o. ⊎-elim (λ q. s o q) (λ q. h o q)
+  told-later x (Told.Outcome o) s h = inr h
+
+  pub stuck-later : (p : Plan) (is : List ℕ) → ((x : Id) → Silent x) → Stuck p log is → Stuck p (said c r ∷ log) is
+  stuck-later p is s (ended e) = ended e
+  stuck-later p is s (waits e n h) = waits e n (λ x o old. ⊎-elim (λ q. s x o q) (λ q. h x o old q))
+
+  pub queued-later : (G : Graph) (e n : ℕ) (q : List Instance) → ((x : Id) → Silent x) → Queued G log e n q → Queued G (said c r ∷ log) e n q
+  queued-later G e n q s h = record { past = h .past; count = h .count; listing = h .listing; told = λ x m. told-later (idOf x) (x .told) (s (idOf x)) (h .told x m) }
+
+  pub stands-later : (p : Plan) (available : ℕ → ℕ) (is : List ℕ) (g : Progress) → ((x : Id) → Silent x) → Stands p available log is g → Stands p available (said c r ∷ log) is g
+  stands-later p available is g s h = record {
+    trace = h .trace;
+    runs = h .runs;
+    state = h .state;
+    queues = λ e. queued-later _ e _ _ s (h .queues e);
+    place = h .place;
+    position = h .position;
+    sized = h .sized;
+    within = h .within;
+    taken = takes-more p log (said c r) is (h .taken);
+    known = λ x o. ⊎-elim (λ q. absurd (s x o q)) (λ q. h .known x o q);
+  }

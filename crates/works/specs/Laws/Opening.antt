@@ -1,0 +1,257 @@
+-- An accepted opening gives a good run: in limits, with the first path loaded and at rest.
+use mathlib.Core.Path.{_≡_, refl, sym, ap, _∙_, subst}
+use mathlib.Core.Bool.{Bool, true, false, cond, _&&_, _||_, true≢false}
+use mathlib.Core.Logic.{inl, ⊎-elim}
+use mathlib.Core.List.{List, [], _∷_, _++_, map}
+use Prim.Native.Nat.{ℕ, zero, suc, _+_, _*_, _-_, _≤_, _<_}
+use native.Mathlib.Omega.{arith}
+use native.Mathlib.Decide.{ℕ-discrete}
+use borrow.Author.Tests.{ltb-false, leb-false, eqb-true}
+use lib.Dec.{ltb, leb, eqb}
+use lib.ListN.{length, getD, replicate, length-append, length-map, length-replicate}
+use Rattle.lists.specs.Lists.{Among}
+use Rattle.lists.specs.Parts.{part}
+use Rattle.time.specs.Time.{horizon}
+use Rattle.time.specs.declared.Clock.{Clock}
+use Rattle.time.specs.declared.Specified.{Specified}
+use Rattle.plan.specs.Plan.{activityOf, resourceOf}
+use Rattle.plan.specs.Limits.{FileRules}
+use Rattle.plan.specs.declared.Node.{Node}
+use Rattle.plan.specs.declared.Plan.{Plan}
+use Rattle.plan.specs.declared.Verdict.{Verdict}
+use Rattle.activity.specs.Rules.{node, Meets}
+use Rattle.automaton.specs.Next.{nextOf}
+use Rattle.automaton.specs.Rules.{MeetsAutomaton}
+use Rattle.behaviour.specs.Combined.{combined}
+use Rattle.behaviour.specs.Word.{τ}
+use Rattle.behaviour.specs.Engine.{opens}
+use Rattle.behaviour.specs.Laws.Instances.{Listing}
+use Rattle.behaviour.specs.Laws.TimesEqual.{empty-listing}
+use Rattle.judge.specs.Judge.{accepted, judgeOf}
+use Rattle.timing.specs.Times.{specified, at}
+use Rattle.timing.specs.Queues.{noInstance, pendingOf, queueOf}
+use Rattle.timing.specs.declared.Instance.{Instance}
+use Rattle.timing.specs.declared.Progress.{Progress}
+use Rattle.path.specs.Path.{isWork, pathFrom, longestPath}
+use Rattle.window.specs.Window.{vacant, isHeld, vacancies}
+use Rattle.window.specs.Tests.{by-test}
+use Rattle.window.specs.Places.{Holds}
+use Rattle.window.specs.declared.Entry.{Entry}
+use Rattle.limits.specs.Window.{entryInLimits}
+use Rattle.run.specs.Limits.{slackInLimits}
+use Rattle.run.specs.Loading.{load}
+use Rattle.run.specs.Opening.{atFirst, availabilities, fresh, anyAbove, anyShort, shortFrom, Shortest, onShortest, firstLoaded, begin, openPlan, openJudged, openOf}
+use Rattle.run.specs.Opening as Opening
+use Rattle.run.specs.declared.Loading.{Loading}
+use Rattle.run.specs.declared.Unopened.{Unopened}
+use Rattle.run.specs.declared.Opening.{Opening as Outcome}
+use Rattle.run.specs.declared.Opened.{Opened as Answer}
+use Rattle.log.specs.Log.{Id}
+use Rattle.demand.specs.Works.{Opened}
+use Rattle.demand.specs.OfPlan.{worldOf, Outlast}
+use Rattle.demand.specs.TheWord.{none}
+use Rattle.demand.specs.Laws.Next.{lawful}
+use Rattle.demand.specs.Laws.Growth.{here, extends-self}
+use Rattle.demand.specs.Laws.World.{old-position}
+use Rattle.works.specs.Machine.{machine}
+use Rattle.works.specs.Engine.{stateOf, EngineLaws}
+use Rattle.works.specs.Stands.{identOf, Stands, Accepted, Good}
+use Rattle.works.specs.Laws.Bools.{and-false, or-false}
+use Rattle.works.specs.Laws.Bounds.{vacant-passes}
+use Rattle.works.specs.Laws.Loaded.{Loaded, working-work}
+use Rattle.works.specs.Laws.Paths.{path-on}
+use Rattle.works.specs.Laws.Onward.{heard-if, stuck-if}
+
+-- what acceptance by the judge gives of a plan
+pub record Judged (p : Plan) : Type 0 where
+  pub file : FileRules p
+  pub activities : (a : ℕ) → a < p .activities → Meets (resourceOf p) (activityOf p a)
+  pub automaton : MeetsAutomaton p
+
+-- the plan that these bytes are accepted as meets the definitions
+abbrev pub AcceptedLaws : List ℕ → Type 0
+AcceptedLaws bytes = (p : Plan) → judgeOf bytes ≡ accepted p → Judged p
+
+-- ---- lists
+
+all-same : {A : Type 0} (n j : ℕ) (x : A) → getD (replicate n x) j x ≡ x
+all-same zero j x = refl
+all-same (suc n) zero x = refl
+all-same (suc n) (suc j) x = all-same n j x
+
+-- the availabilities, by number
+pub given-at : (ts : List ℕ) (n r : ℕ) → at (map specified ts ++ replicate n (specified 0)) r ≡ getD ts r 0
+given-at [] n r = ap (λ (s : Specified). s .0) (all-same n r (specified 0))
+given-at (t ∷ ts) n zero = refl
+given-at (t ∷ ts) n (suc r) = given-at ts n r
+
+none-above : (ts : List ℕ) → anyAbove ts ≡ false → (r : ℕ) → getD ts r 0 ≤ horizon
+unfolding anyAbove
+none-above [] e r = omega arith
+none-above (t ∷ ts) e zero = ltb-false horizon t (or-false (ltb horizon t) (anyAbove ts) e .0)
+none-above (t ∷ ts) e (suc r) = none-above ts (or-false (ltb horizon t) (anyAbove ts) e .1) r
+
+-- ---- 33
+
+none-short : (slack : ℕ) (ns : List Node) → anyShort slack ns ≡ false → Outlast slack ns
+unfolding anyShort
+none-short slack [] e n l w = absurd (omega arith)
+none-short slack (x ∷ ns) e zero l w =
+    leb-false (x .duration) slack (and-false (isWork (x .kind)) (leb (x .duration) slack) (or-false (isWork (x .kind) && leb (x .duration) slack) (anyShort slack ns) e .0) (working-work (x .kind) w))
+none-short slack (x ∷ ns) e (suc n) l w = none-short slack ns (or-false (isWork (x .kind) && leb (x .duration) slack) (anyShort slack ns) e .1) n (omega arith) w
+
+short-none : (p : Plan) (slack k a : ℕ) → shortFrom p slack a k ≡ Shortest.Nothing → (b : ℕ) → a ≤ b → b < a + k → Outlast slack (activityOf p b)
+unfolding shortFrom
+short-none p slack zero a e b h l = absurd (omega arith)
+short-none p slack (suc k) a e b h l = go (anyShort slack (activityOf p a)) refl e (ℕ-discrete b a) (λ q m. short-none p slack k (a + 1) q b m (omega arith))
+  where
+    go : (c : Bool) → anyShort slack (activityOf p a) ≡ c → cond c (Shortest.Activity a) (shortFrom p slack (a + 1) k) ≡ Shortest.Nothing → Dec (b ≡ a)
+        → (shortFrom p slack (a + 1) k ≡ Shortest.Nothing → a + 1 ≤ b → Outlast slack (activityOf p b)) → Outlast slack (activityOf p b)
+    go true f q d more = absurd (let z : _≡_ {A = ℕ} 0 1 = cc in omega arith)
+    go false f q (yes z) more = subst (λ (n : ℕ). Outlast slack (activityOf p n)) (sym z) (none-short slack (activityOf p a) f)
+    go false f q (no z) more = more q (omega arith)
+
+by-shortest : {A : Type 0} (P : A → Type 0) (s : Shortest) (f : ℕ → A) (z : A) → ((a : ℕ) → P (f a)) → (s ≡ Shortest.Nothing → P z) → P (onShortest s f z)
+by-shortest P Shortest.Nothing f z k g = g refl
+by-shortest P (Shortest.Activity a) f z k g = k a
+
+-- ---- the run at its opening
+
+-- the answer to an accepted opening: a good run of an accepted plan
+pub record OpensWell (psi : Clock) (slack : ℕ) (ts : List ℕ) (a : Answer) : Type 0 where
+  pub given : Accepted (a .run .plan) psi slack
+  pub word : List ℕ
+  pub opened : Opened (worldOf (a .run .plan) (λ r. getD ts r 0)) machine (Good (a .run .plan) psi slack (λ r. getD ts r 0)) word (a .run)
+
+module _ (laws : EngineLaws) (p : Plan) (psi : Clock) (slack : ℕ) (given : Accepted p psi slack) (ts : List ℕ) (enough : length ts ≡ p .resources) (early : (r : ℕ) → getD ts r 0 ≤ horizon) where
+  abbrev available : ℕ → ℕ
+  available r = getD ts r 0
+
+  abbrev g : Progress
+  g = atFirst (availabilities ts) (p .automaton .initial)
+
+  abbrev w : List Entry
+  w = replicate 512 vacant
+
+  none-pending : (e : ℕ) → pendingOf g e ≡ 0
+  none-pending e = all-same 16 e 0
+
+  empty-queue : (e : ℕ) → queueOf g e ≡ []
+  empty-queue e = ap (part noInstance (g .pending) (8 * e)) (none-pending e)
+
+  unheld : {A : Type 0} (j : ℕ) (e : Entry) → Holds w j e → A
+  unheld j e h = absurd (true≢false (sym (h .held) ∙ ap (λ (x : Entry). isHeld (x .phase)) (sym (h .entry) ∙ all-same 512 j vacant)))
+
+  first-stands : Stands p available [] [] g
+  first-stands = record {
+    trace = record { state = λ i. stateOf g; floor = λ i. 0; start = λ i n. 0; end = λ i n. 0; emits = λ i e. [] };
+    runs = opens (λ r. given-at ts (16 - length ts) r) (λ e. ap (λ (s : Specified). s .0) (all-same 16 e (specified 0))) (λ e. ap (map (λ x. x .end .0)) (empty-queue e));
+    state = refl;
+    queues = λ e. record {
+      past = [];
+      count = refl;
+      listing = subst (λ (q : List Instance). Listing (combined (p .resources) τ) e (map identOf q)) (sym (empty-queue e)) (empty-listing (p .resources) e);
+      told = λ x m. absurd (subst (Among x) (empty-queue e) m);
+    };
+    place = refl;
+    position = refl;
+    sized = record {
+      available = (let u = length-append (map specified ts) (replicate (16 - length ts) (specified 0)) in let v = length-map ts specified in let x = length-replicate (16 - length ts) (specified 0) in let y = given .lawful .file .limits .resources in omega arith);
+      latest = refl;
+      lengths = refl;
+      pending = refl;
+    };
+    within = record {
+      available = λ r l. (let u = given-at ts (16 - length ts) r in let x = early r in omega arith);
+      latest = λ e l. (let u = ap (λ (s : Specified). s .0) (all-same 16 e (specified 0)) in omega arith);
+      lengths = λ e l. (let u = none-pending e in omega arith);
+      pending = λ e i l m. absurd (let u = none-pending e in omega arith);
+      position = omega arith;
+      state = given .lawful .file .limits .initial;
+    };
+    taken = none;
+    known = λ x o k. absurd k;
+  }
+
+  first-loaded : Loaded p (given .lawful) (given .automaton) available [] [] w [] g w
+  first-loaded = record {
+    stands = first-stands;
+    tail = here;
+    grows = extends-self (worldOf p available) [];
+    kept = λ j f q. q;
+    only = λ j f q. inl q;
+    agree = λ j f q. unheld j f q;
+    once = λ i j e f q r s. unheld i e q;
+    all = λ x n. inl n;
+    entries = λ j. subst (λ (e : Entry). entryInLimits (p .activities) (p .sizes) e ≡ true) (sym (all-same 512 j vacant)) (vacant-passes (p .activities) (p .sizes));
+  }
+
+  abbrev Well : Answer → Type 0
+  Well a = a .opening ≡ Outcome.Opened → OpensWell psi slack ts a
+
+  refused : (u : Unopened) → Well (Opening.unopened u)
+  refused u e = absurd (let z : _≡_ {A = ℕ} 0 1 = cc in omega arith)
+
+  pub begins : Well (begin (fresh p psi slack g))
+  unfolding load
+  begins =
+      by-test (λ (l : Loading). Well (firstLoaded l)) (pathFrom p longestPath (nextOf (p .automaton) (p .automaton .initial)) g .beyond) _ _ (λ b. refused Unopened.Beyond) λ b.
+      by-test (λ (l : Loading). Well (firstLoaded l)) (ltb (vacancies w) (length (pathFrom p longestPath (nextOf (p .automaton) (p .automaton .initial)) g .entries))) _ _ (λ f. refused Unopened.Full) λ f q.
+      let r = path-on p (given .lawful) (given .automaton) available [] [] w laws longestPath [] g w first-loaded (laws .settles p (given .lawful) (given .automaton) (p .automaton .initial) longestPath (given .lawful .file .limits .initial) (omega arith)) b (ltb-false _ _ f) in
+      record {
+        given = given;
+        word = r .word;
+        opened = record {
+          good = record {
+            same-plan = refl;
+            same-psi = refl;
+            same-slack = refl;
+            stands = r .loaded .stands;
+            whole = λ nf. stuck-if p (given .lawful) (given .automaton) available [] (r .word) _ (r .loaded .stands) laws (r .rests) (λ t e. heard-if p (given .lawful) (given .automaton) available [] (r .word) _ (r .loaded .stands) t e .told);
+            entries = r .loaded .entries;
+            halt = refl;
+          };
+          going = refl;
+          agree = r .loaded .agree;
+          unstarted = λ i e h. ⊎-elim (λ k. unheld i e k) (λ k. k .0) (r .loaded .only i e h);
+          distinct = λ i j e f h k s. r .loaded .once i j e f h k (ap (λ (n : Id). n .position) s, ap (λ (n : Id). n .node) s);
+          all = λ x n. ⊎-elim (λ m. absurd (let u = old-position p (given .lawful) available [] (p .automaton .initial) refl x m in omega arith)) (λ k. k) (r .loaded .all x n);
+        };
+      }
+
+-- ---- any opening that is accepted
+
+module _ (laws : EngineLaws) (bytes : List ℕ) (accept : AcceptedLaws bytes) (psi : Clock) (slack : ℕ) (ts : List ℕ) where
+  abbrev Fine : Answer → Type 0
+  Fine a = a .opening ≡ Outcome.Opened → OpensWell psi slack ts a
+
+  unopened : (u : Unopened) → Fine (Opening.unopened u)
+  unopened u e = absurd (let z : _≡_ {A = ℕ} 0 1 = cc in omega arith)
+
+  open-plan : (p : Plan) → Judged p → Fine (openPlan p psi slack ts)
+  unfolding openPlan
+  open-plan p j =
+      by-test Fine (eqb (length ts) (p .resources)) _ _ (λ a. by-test Fine (ltb horizon (psi .0) || anyAbove ts) _ _ (λ b. unopened Unopened.Time) (λ b.
+      by-test Fine (slackInLimits slack) _ _ (λ c.
+      by-shortest Fine (shortFrom p slack 0 (p .activities)) _ _ (λ d. unopened (Unopened.Short d)) (λ d. well (eqb-true _ _ a) (or-false (ltb horizon (psi .0)) (anyAbove ts) b) c d))
+      (λ c. unopened Unopened.Slack))) (λ a. unopened Unopened.Availabilities)
+    where
+      well : length ts ≡ p .resources → (ltb horizon (psi .0) ≡ false) × (anyAbove ts ≡ false) → slackInLimits slack ≡ true → shortFrom p slack 0 (p .activities) ≡ Shortest.Nothing
+          → Fine (begin (fresh p psi slack (atFirst (availabilities ts) (p .automaton .initial))))
+      well enough in-time c d q =
+          let given : Accepted p psi slack = record {
+            lawful = lawful p (j .file) (j .activities) (j .automaton .first);
+            automaton = j .automaton;
+            start = ltb-false _ _ (in-time .0);
+            host = c;
+            long = λ a l. short-none p slack (p .activities) 0 d a (omega arith) (omega arith);
+          } in
+          begins laws p psi slack given ts enough (none-above ts (in-time .1)) q
+
+  open-judged : (v : Verdict) → judgeOf bytes .verdict ≡ v → Fine (openJudged v (judgeOf bytes .plan) psi slack ts)
+  open-judged Verdict.Accepted e = open-plan (judgeOf bytes .plan) (accept (judgeOf bytes .plan) (λ i. record { verdict = e i; plan = judgeOf bytes .plan }))
+  open-judged (Verdict.Refused f place) e = unopened (Unopened.Plan f place)
+
+  pub opens-well : openOf bytes psi slack ts .opening ≡ Outcome.Opened → OpensWell psi slack ts (openOf bytes psi slack ts)
+  unfolding openOf
+  opens-well = open-judged (judgeOf bytes .verdict) refl

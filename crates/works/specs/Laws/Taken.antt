@@ -1,0 +1,173 @@
+-- One transition more: where the run stands after it is where the engine's way over the longer word leads.
+use mathlib.Core.Path.{_≡_, refl, sym, ap, _∙_, subst}
+use mathlib.Core.Bool.{Bool, true, false, cond}
+use mathlib.Core.Logic.{inr, ⊎-elim}
+use mathlib.Core.List.{List, [], _∷_, _++_, map, append-assoc, map-append}
+use Prim.Native.Nat.{ℕ, suc, _+_, _<_}
+use native.Mathlib.Omega.{arith}
+use native.Mathlib.Nat.{add-zero}
+use borrow.Author.Tests.{lt-leb, eqb-true, eq-eqb}
+use lib.Dec.{ltb, eqb}
+use lib.ListN.{length, length-append, getD}
+use Rattle.lists.specs.Lists.{Among}
+use Rattle.time.specs.declared.Specified.{Specified}
+use Rattle.plan.specs.Plan.{move, resourceOf, pastNode}
+use Rattle.plan.specs.declared.Input.{Input}
+use Rattle.plan.specs.declared.Kind.{Kind}
+use Rattle.plan.specs.declared.Node.{Node}
+use Rattle.plan.specs.declared.Plan.{Plan}
+use Rattle.behaviour.specs.Word.{Step, Word, size, once, times, _▷_}
+use Rattle.behaviour.specs.Combined.{Ident, named, Graph, processing, combined}
+use Rattle.behaviour.specs.Accepted.{GoodWord}
+use Rattle.behaviour.specs.Engine.{Trace, Steps, State, startAt, endAt}
+use Rattle.behaviour.specs.Exec.{put}
+use Rattle.behaviour.specs.Paths.{stepOf, wordOf, Follows, Lawful}
+use Rattle.behaviour.specs.Laws.Exists.{extended}
+use Rattle.behaviour.specs.Laws.Instances.{Listing, listing-grows}
+use Rattle.behaviour.specs.Laws.Lists.{among-either, map-among}
+use Rattle.behaviour.specs.Laws.Unique.{shape-of}
+use Rattle.behaviour.specs.Laws.Plans.{good-path}
+use Rattle.timing.specs.Times.{at}
+use Rattle.timing.specs.Queues.{pendingOf, queueOf, floorOf, processedOf, queuedOf, emission}
+use Rattle.timing.specs.Engine.{heldOf, leftBy, leftOf, closedOf, emitsOf, timedOf}
+use Rattle.timing.specs.declared.Instance.{Instance}
+use Rattle.timing.specs.declared.Progress.{Progress}
+use Rattle.path.specs.Path.{takenBy}
+use Rattle.window.specs.Tests.{by-test}
+use Rattle.log.specs.Log.{Log}
+use Rattle.log.specs.Log as Log
+use Rattle.demand.specs.Nodes.{lengthOf}
+use Rattle.demand.specs.TheWord.{stateAfter, wholeOf, Takes}
+use Rattle.demand.specs.Laws.TheWord.{takes-follows}
+use Rattle.works.specs.Engine.{stateOf, rest, remaining, Pending, Advances}
+use Rattle.works.specs.Stands.{identOf, idOf, ToldAs, Queued, Stands}
+
+-- ---- the next position and state
+
+pub processed-position : (i : Input) (g : Progress) → processedOf i g .position ≡ g .position
+unfolding processedOf
+processed-position Input.Nothing g = refl
+processed-position (Input.Outcome e o) g = by-test (λ (h : Progress). h .position ≡ g .position) (ltb 0 (pendingOf g e)) _ _ (λ b. refl) (λ b. refl)
+
+left-position-by : (n t : ℕ) (k : Kind) (g : Progress) → leftBy n t k g .position ≡ g .position
+unfolding leftBy queuedOf
+left-position-by n t (Kind.Action a p) g = refl
+left-position-by n t (Kind.Claim r) g = refl
+left-position-by n t (Kind.Release r) g = refl
+left-position-by n t (Kind.Event e) g = by-test (λ (h : Progress). h .position ≡ g .position) (ltb (pendingOf g e) 8) _ _ (λ b. refl) (λ b. refl)
+
+pub left-position : (a : List Node) (end : List Specified) (ns : List ℕ) (g : Progress) → leftOf a end ns g .position ≡ g .position
+unfolding leftOf
+left-position a end [] g = refl
+left-position a end (n ∷ ns) g =
+    left-position a end ns (leftBy n (at end n) (getD a n pastNode .kind) g)
+    ∙ left-position-by n (at end n) (getD a n pastNode .kind) g
+
+pub next-position : (p : Plan) (t : ℕ) (g : Progress) → takenBy p t g .progress .position ≡ g .position + 1
+unfolding timedOf emitsOf closedOf heldOf
+next-position p t g = ap (λ (n : ℕ). n + 1) (left-position _ _ _ _ ∙ processed-position (move (p .automaton) t .input) g)
+
+pub next-state : (p : Plan) (t : ℕ) (g : Progress) → takenBy p t g .progress .state ≡ move (p .automaton) t .to
+unfolding timedOf emitsOf closedOf
+next-state p t g = refl
+
+pub size-is : (p : Plan) (is : List ℕ) → size (wordOf p is) ≡ lengthOf is
+size-is p [] = refl
+size-is p (i ∷ is) = let u = size-is p is in omega arith
+
+-- ---- queues
+
+rest-among : (x : Instance) (q : List Instance) → Among x (rest q) → Among x q
+rest-among x (y ∷ q) h = inr h
+
+-- the oldest is taken
+popped : (G : Graph) (log : Log) (e n : ℕ) (q : List Instance) → 0 < length q → Queued G log e n q → Queued G log e (n + 1) (rest q)
+popped G log e n [] l h = absurd (omega arith)
+popped G log e n (x ∷ q) l h = record {
+  past = h .past ++ (identOf x ∷ []);
+  count = (let u = length-append (h .past) (identOf x ∷ []) in let v = h .count in omega arith);
+  listing = subst (Listing G e) (sym (append-assoc (h .past) (identOf x ∷ []) (map identOf q))) (h .listing);
+  told = λ y m. h .told y (inr m);
+}
+
+-- new instances: nothing is told of them yet
+emissions-are : (q : ℕ) (C : ℕ → ℕ) (ns : List ℕ) → map identOf (map (λ n. emission q n (C n)) ns) ≡ map (named (suc q)) ns
+emissions-are q C [] = refl
+emissions-are q C (n ∷ ns) = ap (λ (l : List Ident). named (suc q) n ∷ l) (emissions-are q C ns)
+
+module _ (p : Plan) (lawful : Lawful p) (available : ℕ → ℕ) (log : Log) (is : List ℕ) (g : Progress) (s : Stands p available log is g) (t : ℕ)
+    (next : Takes p log (t ∷ is)) (ready : Pending (move (p .automaton) t .input) g) (long : (e : ℕ) → length (queueOf g e) ≡ pendingOf g e) (adv : Advances p t g) where
+  abbrev w : Word
+  w = wordOf p is
+
+  abbrev x : Step
+  x = stepOf p (move (p .automaton) t)
+
+  pub follows : Follows p (p .automaton .initial) (t ∷ is) (stateAfter p (t ∷ is))
+  follows = takes-follows p log (t ∷ is) next
+
+  good : GoodWord (p .resources) (resourceOf p) (w ▷ x)
+  good = good-path p lawful (p .automaton .initial) (t ∷ is) (stateAfter p (t ∷ is)) follows
+
+  processes : (i : Input) → Pending i g → (e : ℕ) → Queued (wholeOf p is) log e (times e w + once e i) (remaining i g e)
+  processes Input.Nothing h e = rw add-zero (s .queues e)
+  processes (Input.Outcome f o) h e = go (eqb f e) refl
+    where
+      go : (b : Bool) → eqb f e ≡ b → Queued (wholeOf p is) log e (times e w + cond b 1 0) (cond b (rest (queueOf g e)) (queueOf g e))
+      go true q =
+          let z : f ≡ e = eqb-true f e q in
+          let h1 : 0 < pendingOf g e = subst (λ (n : ℕ). 0 < pendingOf g n) z h in
+          let m = long e in
+          popped (wholeOf p is) log e (times e w) (queueOf g e) (omega arith) (s .queues e)
+      go false q = rw add-zero (s .queues e)
+
+  pub here : size w ≡ g .position
+  here = size-is p is ∙ sym (s .position)
+
+  joined : (e n : ℕ) (q : List Instance) → Queued (wholeOf p is) log e n q → Queued (wholeOf p (t ∷ is)) log e n (q ++ map (λ m. emission (g .position) m (at (takenBy p t g .schedule .end) m)) (adv .emitted e))
+  joined e n q h = record {
+    past = h .past;
+    count = h .count;
+    listing =
+        subst (Listing (combined (p .resources) (w ▷ x)) e) same
+        (listing-grows (p .resources) (resourceOf p) (combined (p .resources) w) (processing w (x .input)) (size w) (x .output) (shape-of (p .resources) (resourceOf p) w (good .0)) (good .1)
+        e (h .past ++ map identOf q) (h .listing) (adv .emitted e) (adv .steps .emits e));
+    told = λ y m. ⊎-elim (λ k. h .told y k) (λ k. untold y (map-among (λ m. emission (g .position) m (at (takenBy p t g .schedule .end) m)) y (adv .emitted e) k)) (among-either y q _ m);
+  }
+    where
+      untold : (y : Instance) → (m : ℕ) × Among m (adv .emitted e) × (y ≡ emission (g .position) m (at (takenBy p t g .schedule .end) m)) → ToldAs log (idOf y) (y .told)
+      untold y c = subst (λ (z : Instance). ToldAs log (idOf z) (z .told)) (sym (c .2)) (λ o k. let u = s .known _ o k in let v = s .position in omega arith)
+
+      same : (h .past ++ map identOf q) ++ map (named (suc (size w))) (adv .emitted e) ≡ h .past ++ map identOf (q ++ map (λ m. emission (g .position) m (at (takenBy p t g .schedule .end) m)) (adv .emitted e))
+      same =
+          append-assoc (h .past) (map identOf q) (map (named (suc (size w))) (adv .emitted e))
+          ∙ ap (λ (l : List Ident). h .past ++ l)
+          (ap (λ (l : List Ident). map identOf q ++ l) (ap (λ (z : ℕ). map (named (suc z)) (adv .emitted e)) here ∙ sym (emissions-are (g .position) (λ m. at (takenBy p t g .schedule .end) m) (adv .emitted e)))
+          ∙ sym (map-append identOf q (map (λ m. emission (g .position) m (at (takenBy p t g .schedule .end) m)) (adv .emitted e))))
+
+  abbrev trace : Trace
+  trace = put (s .trace) (size w) (floorOf (move (p .automaton) t .input) g) (λ n. at (takenBy p t g .schedule .start) n) (λ n. at (takenBy p t g .schedule .end) n) (adv .emitted) (stateOf (takenBy p t g .progress))
+
+  pub stands-on : Stands p available log (t ∷ is) (takenBy p t g .progress)
+  stands-on = record {
+    trace = trace;
+    runs = extended (p .resources) available (s .trace) w x _ _ _ _ _ (s .runs)
+        (subst (λ (z : State). Steps (p .resources) x z (floorOf (move (p .automaton) t .input) g) (λ n. at (takenBy p t g .schedule .start) n) (λ n. at (takenBy p t g .schedule .end) n) (adv .emitted) (stateOf (takenBy p t g .progress))) (sym (s .state)) (adv .steps));
+    state = rw (lt-leb (suc (size w)) (size w) (omega arith));
+    queues = λ e. subst (Queued (wholeOf p (t ∷ is)) log e (times e w + once e (x .input))) (sym (adv .queues e)) (joined e _ _ (processes (move (p .automaton) t .input) ready e));
+    place = next-state p t g;
+    position = next-position p t g ∙ ap (λ (n : ℕ). n + 1) (s .position);
+    sized = adv .sized;
+    within = adv .within;
+    taken = next;
+    known = λ y o k. let u = s .known y o k in omega arith;
+  }
+
+  -- the times of its nodes are those of the schedule
+  pub trace-start : (n : ℕ) → startAt (stands-on .trace) (named (suc (size w)) n) ≡ at (takenBy p t g .schedule .start) n
+  unfolding stands-on
+  trace-start n = rw (eq-eqb (size w) (size w) refl)
+
+  pub trace-end : (n : ℕ) → endAt (stands-on .trace) (named (suc (size w)) n) ≡ at (takenBy p t g .schedule .end) n
+  unfolding stands-on
+  trace-end n = rw (eq-eqb (size w) (size w) refl)

@@ -1,0 +1,87 @@
+//! How often each number and each reply was hit.
+
+use crate::check::log::Log;
+use crate::run::Reply;
+use std::collections::BTreeMap;
+
+#[derive(Clone, Debug, Default)]
+pub struct Hits {
+    counts: BTreeMap<String, usize>,
+}
+
+impl Hits {
+    pub fn hit(&mut self, what: impl Into<String>) {
+        *self.counts.entry(what.into()).or_default() += 1;
+    }
+
+    /// The number of a verdict, or "accepted".
+    pub fn verdict(&mut self, number: Option<u8>) {
+        match number {
+            Some(number) => self.hit(format!("number {number:02}")),
+            None => self.hit("accepted"),
+        }
+    }
+
+    /// Every answer of a log.
+    pub fn log(&mut self, log: &Log) {
+        match log.answer {
+            Ok(()) => self.hit("opened"),
+            Err(fault) => self.hit(format!("opening refused {:02}", fault.number)),
+        }
+        let mut stopped = false;
+        for entry in &log.calls {
+            match entry.reply {
+                Reply::Stopped(_) if stopped => self.hit("kept stop"),
+                reply => self.hit(name(reply)),
+            }
+            stopped |= matches!(entry.reply, Reply::Stopped(_));
+        }
+    }
+
+    pub fn add(&mut self, other: &Hits) {
+        for (what, count) in &other.counts {
+            *self.counts.entry(what.clone()).or_default() += count;
+        }
+    }
+
+    pub fn print(&self, title: &str) {
+        println!("{title}");
+        for (what, count) in &self.counts {
+            println!("  {what:<34} {count:>9}");
+        }
+    }
+
+    /// What was never hit of a list.
+    pub fn missing(&self, wanted: &[String]) -> Vec<String> {
+        wanted.iter().filter(|what| !self.counts.contains_key(*what)).cloned().collect()
+    }
+}
+
+/// A reply's line in the table.
+pub fn name(reply: Reply) -> String {
+    match reply {
+        Reply::Start { .. } => "start".into(),
+        Reply::Wait => "wait".into(),
+        Reply::Done => "done".into(),
+        Reply::Taken => "taken".into(),
+        Reply::Refused(number) => format!("refused {number}"),
+        Reply::Stopped(stop) => format!("stopped {}", stop.number),
+    }
+}
+
+/// The lines that a comparison of files must hit.
+pub fn wanted_of_files() -> Vec<String> {
+    let numbers = (1..=8).chain(11..=18).chain(21..=26);
+    let mut wanted: Vec<String> = numbers.map(|n| format!("number {n:02}")).collect();
+    wanted.push("accepted".into());
+    wanted
+}
+
+/// The lines that a comparison of call lists must hit.
+pub fn wanted_of_runs() -> Vec<String> {
+    let openings = [30, 31, 32, 33, 43, 44].map(|n| format!("opening refused {n}"));
+    let refusals = (50..=55).map(|n| format!("refused {n}"));
+    let stops = (41..=44).map(|n| format!("stopped {n}"));
+    let rest = ["opened", "start", "wait", "done", "taken", "kept stop"].map(String::from);
+    openings.into_iter().chain(refusals).chain(stops).chain(rest).collect()
+}

@@ -1,0 +1,83 @@
+//! The functions of the Rattle side, each behind the feature that says it is there. A slice
+//! passes as pointer and length.
+
+#[cfg(any(
+    feature = "rattle_read",
+    feature = "rattle_write_back",
+    feature = "rattle_activities",
+    feature = "rattle_judge",
+    feature = "rattle_drive"
+))]
+mod linked {
+    extern "C" {
+        #[cfg(feature = "rattle_read")]
+        pub fn jidlekuvo_read(bytes: *const u8, length: usize) -> u64;
+        #[cfg(feature = "rattle_write_back")]
+        pub fn jidlekuvo_write_back(bytes: *const u8, length: usize, out: *mut u8, room: usize) -> u64;
+        #[cfg(feature = "rattle_activities")]
+        pub fn jidlekuvo_activities(bytes: *const u8, length: usize) -> u64;
+        #[cfg(feature = "rattle_judge")]
+        pub fn jidlekuvo_judge(bytes: *const u8, length: usize) -> u64;
+        #[cfg(feature = "rattle_drive")]
+        pub fn jidlekuvo_drive(input: *const u8, length: usize, out: *mut u8, room: usize) -> usize;
+    }
+}
+
+/// Reading alone: 0, or number * 2^32 + place.
+#[cfg(feature = "rattle_read")]
+pub fn read(bytes: &[u8]) -> u64 {
+    // SAFETY: the function reads the slice it is lent and nothing else.
+    unsafe { linked::jidlekuvo_read(bytes.as_ptr(), bytes.len()) }
+}
+
+/// Reading and writing back: the length written, or number * 2^32 + place.
+#[cfg(feature = "rattle_write_back")]
+pub fn write_back(bytes: &[u8], out: &mut [u8]) -> u64 {
+    // SAFETY: the function reads one slice and writes inside the other.
+    unsafe { linked::jidlekuvo_write_back(bytes.as_ptr(), bytes.len(), out.as_mut_ptr(), out.len()) }
+}
+
+/// Reading and the activities: 0, or number * 2^32 + place.
+#[cfg(feature = "rattle_activities")]
+pub fn activities(bytes: &[u8]) -> u64 {
+    // SAFETY: the function reads the slice it is lent and nothing else.
+    unsafe { linked::jidlekuvo_activities(bytes.as_ptr(), bytes.len()) }
+}
+
+/// The whole verdict: 0, or number * 2^32 + place.
+#[cfg(feature = "rattle_judge")]
+pub fn judge(bytes: &[u8]) -> u64 {
+    // SAFETY: the function reads the slice it is lent and nothing else.
+    unsafe { linked::jidlekuvo_judge(bytes.as_ptr(), bytes.len()) }
+}
+
+/// An opening and its calls: how many bytes of records were written.
+#[cfg(feature = "rattle_drive")]
+pub fn drive(input: &[u8], out: &mut [u8]) -> usize {
+    // SAFETY: the function reads one slice and writes inside the other.
+    unsafe { linked::jidlekuvo_drive(input.as_ptr(), input.len(), out.as_mut_ptr(), out.len()) }
+}
+
+/// Where the Rattle side is built: the repository's target folder, or JIDLEKUVO_TARGET.
+pub fn target_folder() -> std::path::PathBuf {
+    match std::env::var_os("JIDLEKUVO_TARGET") {
+        Some(folder) => folder.into(),
+        None => std::path::Path::new(env!("CARGO_MANIFEST_DIR")).join("../target"),
+    }
+}
+
+/// Runs the program *timetable* on an input and gives what it prints.
+pub fn timetable(input: &[u8]) -> std::io::Result<Vec<u8>> {
+    use std::io::Write;
+    use std::process::{Command, Stdio};
+    let program = target_folder().join("bin/timetable");
+    let mut child = Command::new(program).stdin(Stdio::piped()).stdout(Stdio::piped()).spawn()?;
+    let mut stdin = child.stdin.take().expect("stdin is piped");
+    let lent = input.to_vec();
+    // Input and output may both be longer than a pipe holds. The program need not read its input
+    // to the end (spare outcomes are not read), so a broken pipe is no fault.
+    let feeder = std::thread::spawn(move || drop(stdin.write_all(&lent)));
+    let output = child.wait_with_output()?;
+    let _ = feeder.join();
+    Ok(output.stdout)
+}

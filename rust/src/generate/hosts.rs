@@ -1,0 +1,268 @@
+//! Call lists from hosts of every kind. A host looks at the run it drives to find the moments that
+//! matter; what it sends is then replayed on both builds.
+
+use super::Random;
+use crate::plan_file::Kind;
+use crate::run::{Call, Entry, Opening, Reply, Request, Run};
+
+#[derive(Clone, Copy, Debug, PartialEq, Eq)]
+pub enum Host {
+    /// Small steps, asks until nothing is due, reports in time: keeps its side of demand 3.
+    Careful,
+    /// Jumps from one moment that matters to the next, in time.
+    Exact,
+    /// Asks too late now and then.
+    Late,
+    /// Reports at or after the completion now and then.
+    Overdue,
+    /// Reports again what it reported.
+    Twice,
+    /// Reports nodes that are not there, not started, of the other kind, with outcomes the
+    /// event lacks.
+    Nonsense,
+    /// Sends readings below the last one.
+    Backwards,
+    /// Anything.
+    Random,
+}
+
+pub const HOSTS: [Host; 8] = [
+    Host::Careful,
+    Host::Exact,
+    Host::Late,
+    Host::Overdue,
+    Host::Twice,
+    Host::Nonsense,
+    Host::Backwards,
+    Host::Random,
+];
+
+/// No list grows longer than this.
+const MOST_CALLS: usize = 4_000;
+
+struct Driver<'a> {
+    random: &'a mut Random,
+    run: Run,
+    opening: &'a Opening,
+    calls: Vec<Call>,
+    reply: Reply,
+    /// Identity and outcome of the last accepted report.
+    reported: Option<Request>,
+}
+
+impl Driver<'_> {
+    fn send(&mut self, reading: u64, request: Request) {
+        let call = Call { reading, request };
+        self.calls.push(call);
+        let (reply, run) = std::mem::take(&mut self.run).call(call);
+        self.run = run;
+        self.reply = reply;
+        if reply == Reply::Taken {
+            self.reported = Some(request);
+        }
+    }
+
+    fn clock(&self, specified: u64) -> u64 {
+        self.opening.psi.saturating_add(specified)
+    }
+
+    /// A report of the kind the node wants; events get one of their outcomes.
+    fn report_of(&mut self, entry: &Entry) -> Request {
+        let time = entry.time;
+        let (position, node) = (time.position as u32, time.node);
+        let plan = self.run.plan();
+        match plan.activities[time.activity as usize][node as usize].kind {
+            Kind::Event(event) => {
+                let outcomes = plan.events[event as usize] as usize;
+                Request::Outcome { position, node, outcome: self.random.below(outcomes) as u8 }
+            }
+            _ => Request::Completion { position, node },
+        }
+    }
+
+    fn started(&self) -> Vec<Entry> {
+        self.run.window().into_iter().filter(|entry| entry.started).collect()
+    }
+
+    /// One round of a careful host at a reading; gives the next reading.
+    fn careful_round(&mut self, reading: u64) -> u64 {
+        loop {
+            self.send(reading, Request::Ask);
+            // The second half ends the round for a build that starts a node again and again.
+            if !matches!(self.reply, Reply::Start { .. }) || self.calls.len() > MOST_CALLS {
+                break;
+            }
+            if self.random.one_in(4) {
+                self.report_some(reading, reading);
+            }
+        }
+        let next = reading + self.random.between(1, self.opening.slack as usize) as u64;
+        let next = if self.random.one_in(2) { reading + self.opening.slack } else { next };
+        self.report_some(reading, next);
+        next
+    }
+
+    /// Reports all that would be overdue at the next reading, and some others.
+    fn report_some(&mut self, reading: u64, next: u64) {
+        let mut started = self.started();
+        self.random.shuffle(&mut started);
+        for entry in started {
+            if self.clock(entry.time.completion) <= next || self.random.one_in(4) {
+                let report = self.report_of(&entry);
+                self.send(reading, report);
+            }
+        }
+    }
+
+    /// The earliest start still to come and the earliest completion still unreported, on the clock.
+    fn moments(&self) -> (Option<u64>, Option<(u64, Entry)>) {
+        let window = self.run.window();
+        let starts = window.iter().filter(|e| !e.started).map(|e| self.clock(e.time.start));
+        let ends = window.iter().filter(|e| e.started).map(|e| (self.clock(e.time.completion), *e));
+        (starts.min(), ends.min_by_key(|(end, _)| *end))
+    }
+
+    /// One call in time: the next start is asked for, or the next completion reported before it.
+    fn exact_step(&mut self) {
+        let last = self.run.last_reading();
+        let slack = self.opening.slack as usize;
+        match self.moments() {
+            (None, None) => self.send(last, Request::Ask),
+            (Some(start), end) if end.as_ref().is_none_or(|(end, _)| start < *end) => {
+                let late = if self.random.one_in(3) { self.random.between(0, slack) as u64 } else { 0 };
+                let most = end.map_or(u64::MAX, |(end, _)| end - 1);
+                let reading = start.saturating_add(late).min(most).max(last);
+                self.send(reading, Request::Ask);
+            }
+            (_, Some((end, entry))) => {
+                let report = self.report_of(&entry);
+                let early = if self.random.one_in(2) { self.random.below(500) as u64 } else { 0 };
+                self.send((end - 1).saturating_sub(early).max(last), report);
+            }
+            (Some(_), None) => unreachable!("the guard above takes it"),
+        }
+    }
+
+    fn early_report(&mut self) {
+        let last = self.run.last_reading();
+        let started = self.started();
+        if !started.is_empty() {
+            let entry = self.random.pick(&started);
+            let report = self.report_of(&entry);
+            self.send(last, report);
+        }
+    }
+
+    fn misbehave(&mut self, host: Host) {
+        let last = self.run.last_reading();
+        let (start, end) = self.moments();
+        let slack = self.opening.slack;
+        match host {
+            Host::Late => {
+                let beyond = self.random.pick(&[0, 1, 1, 2, 5_000]);
+                let reading = start.map_or(last, |s| s.saturating_add(slack + beyond));
+                self.send(reading.max(last), Request::Ask);
+            }
+            Host::Overdue => {
+                let Some((end, entry)) = end else { return };
+                let beyond = self.random.pick(&[0, 0, 1, 5_000]);
+                let report = if self.random.one_in(3) { Request::Ask } else { self.report_of(&entry) };
+                self.send(end.saturating_add(beyond).max(last), report);
+            }
+            Host::Twice => {
+                if let Some(report) = self.reported {
+                    self.send(last, report);
+                }
+            }
+            Host::Nonsense => {
+                let report = self.nonsense();
+                self.send(last, report);
+            }
+            Host::Backwards => {
+                let back = self.random.pick(&[1, 1, 1000, u64::MAX]);
+                let request = if self.random.one_in(2) { Request::Ask } else { self.nonsense() };
+                self.send(last.saturating_sub(back), request);
+            }
+            _ => {}
+        }
+    }
+
+    /// A report that may be wrong in every way.
+    fn nonsense(&mut self) -> Request {
+        let window = self.run.window();
+        if window.is_empty() || self.random.one_in(4) {
+            let position = self.random.pick(&[0, 1, 2, 1_000_000_000, u32::MAX]);
+            let node = self.random.pick(&[0, 1, 2, 63, 64, 255]);
+            return Request::Outcome { position, node, outcome: self.random.below(9) as u8 };
+        }
+        let entry = self.random.pick(&window);
+        let report = self.report_of(&entry);
+        let (position, node) = (entry.time.position as u32, entry.time.node);
+        match self.random.below(5) {
+            0 => Request::Completion { position, node },
+            1 => Request::Outcome { position, node, outcome: self.random.pick(&[0, 1, 7, 8, 255]) },
+            2 => Request::Completion { position: position + 1, node: node ^ 1 },
+            3 => Request::Completion { position, node: self.random.below(8) as u8 },
+            _ => report,
+        }
+    }
+
+    fn random_step(&mut self) {
+        let host = self.random.pick(&HOSTS);
+        match self.random.below(6) {
+            0 => self.misbehave(host),
+            1 => {
+                let request = self.nonsense();
+                let reading = self.run.last_reading().saturating_add(self.random.below(3000) as u64);
+                self.send(reading, request);
+            }
+            2 if self.random.one_in(20) => self.send(u64::MAX, Request::Ask),
+            _ => self.exact_step(),
+        }
+    }
+
+    fn is_over(&self) -> bool {
+        self.run.has_stopped() || self.reply == Reply::Done || self.reply == Reply::Refused(50)
+    }
+
+    fn step(&mut self, host: Host) {
+        match host {
+            Host::Random => self.random_step(),
+            Host::Exact => self.exact_step(),
+            _ if self.random.one_in(8) => self.misbehave(host),
+            _ => self.exact_step(),
+        }
+        if host != Host::Careful && self.random.one_in(4) {
+            self.early_report();
+        }
+    }
+}
+
+/// The calls of a host, about as many as asked for.
+pub fn calls(random: &mut Random, opening: &Opening, host: Host, most: usize) -> Vec<Call> {
+    let (answer, run) = Run::open(opening);
+    let mut driver = Driver { random, run, opening, calls: vec![], reply: Reply::Wait, reported: None };
+    if answer.is_err() {
+        (0..2).for_each(|n| driver.send(n * 7, Request::Ask));
+        driver.send(9, Request::Completion { position: 0, node: 0 });
+        return driver.calls;
+    }
+    let far = opening.availabilities.iter().any(|&a| a > 1_000_000);
+    if host == Host::Careful && !far {
+        let mut reading = opening.psi + driver.random.below(opening.slack as usize + 1) as u64;
+        while !driver.is_over() && driver.calls.len() < most {
+            reading = driver.careful_round(reading);
+        }
+    }
+    while !driver.is_over() && driver.calls.len() < most {
+        driver.step(host);
+    }
+    // What comes after the end, or after a stop, is answered too.
+    for _ in 0..driver.random.below(4) {
+        let back = driver.random.one_in(3) as u64;
+        let reading = driver.run.last_reading().saturating_sub(back);
+        let request = if driver.random.one_in(2) { Request::Ask } else { driver.nonsense() };
+        driver.send(reading, request);
+    }
+    driver.calls
+}

@@ -1,0 +1,164 @@
+//! Ask, completion and outcome. "Order at a call: 50, kept stop, 51, 42, 41, 52 to 55."
+
+use super::{Call, Entry, Reply, Request, Run, Stop};
+use crate::plan_file::Kind;
+use crate::toggles::{broken, Broken};
+
+/// "ties go by position, then node"
+fn tie(entry: &Entry) -> (u64, u64) {
+    let (position, node) = (entry.time.position, entry.time.node as u64);
+    if broken(Broken::TiesByNodeFirst) {
+        return (node, position);
+    }
+    (position, node)
+}
+
+impl Run {
+    pub fn ask(self, reading: u64) -> (Reply, Run) {
+        self.call(Call { reading, request: Request::Ask })
+    }
+
+    pub fn completion(self, reading: u64, position: u32, node: u8) -> (Reply, Run) {
+        self.call(Call { reading, request: Request::Completion { position, node } })
+    }
+
+    pub fn outcome(self, reading: u64, position: u32, node: u8, outcome: u8) -> (Reply, Run) {
+        self.call(Call { reading, request: Request::Outcome { position, node, outcome } })
+    }
+
+    /// One call: the reply and the run after it.
+    pub fn call(self, call: Call) -> (Reply, Run) {
+        if !self.is_in_limits() {
+            return (Reply::Refused(50), self);
+        }
+        let early = call.reading < self.last_reading;
+        if broken(Broken::ReadingBeforeKeptStop) && early {
+            return (Reply::Refused(51), self);
+        }
+        if let Some(stop) = self.stop {
+            return (Reply::Stopped(stop), self);
+        }
+        if early {
+            return (Reply::Refused(51), self);
+        }
+        if let Some(stop) = self.stop_at(call.reading) {
+            return self.stopped(stop, call.reading);
+        }
+        match call.request {
+            Request::Ask => self.answer_ask(call.reading),
+            Request::Completion { position, node } => self.report(call.reading, (position, node), None),
+            Request::Outcome { position, node, outcome } => {
+                self.report(call.reading, (position, node), Some(outcome))
+            }
+        }
+    }
+
+    fn stopped(mut self, stop: Stop, reading: u64) -> (Reply, Run) {
+        self.stop = Some(stop);
+        self.last_reading = reading;
+        (Reply::Stopped(stop), self)
+    }
+
+    fn refused(mut self, number: u8, reading: u64) -> (Reply, Run) {
+        if broken(Broken::RefusalMovesReading) {
+            self.last_reading = reading;
+        }
+        (Reply::Refused(number), self)
+    }
+
+    /// 42 before 41.
+    fn stop_at(&self, reading: u64) -> Option<Stop> {
+        if broken(Broken::LateBeforeOverdue) {
+            return self.late(reading).or(self.overdue(reading));
+        }
+        self.overdue(reading).or(self.late(reading))
+    }
+
+    /// 42: "the reading is at or past Ψ + completion of a started, unreported node, naming the
+    /// one with the earliest completion".
+    fn overdue(&self, reading: u64) -> Option<Stop> {
+        let extra = broken(Broken::OverdueOneLater) as u64;
+        let over = |e: &&Entry| e.started && reading >= self.clock(e.time.completion) + extra;
+        let first = self.window.iter().filter(over).min_by_key(|e| (e.time.completion, tie(e)))?;
+        Some(Stop { number: 42, node: Some((first.time.position as u32, first.time.node)) })
+    }
+
+    /// 41: "the reading exceeds Ψ + start + slack of an unstarted node, naming the one with the
+    /// earliest start".
+    fn late(&self, reading: u64) -> Option<Stop> {
+        let extra = broken(Broken::LateAtTheSlack) as u64;
+        let late = |e: &&Entry| !e.started && reading + extra > self.clock(e.time.start) + self.slack;
+        let first = self.window.iter().filter(late).min_by_key(|e| (e.time.start, tie(e)))?;
+        Some(Stop { number: 41, node: Some((first.time.position as u32, first.time.node)) })
+    }
+
+    /// "Ask starts the due, unstarted node with the earliest specified start; ties go by
+    /// position, then node."
+    fn answer_ask(mut self, reading: u64) -> (Reply, Run) {
+        self.last_reading = reading;
+        let (psi, again) = (self.psi, broken(Broken::StartsTwice));
+        let due = |e: &&mut Entry| (!e.started || again) && reading >= psi + e.time.start;
+        let next = self.window.iter_mut().filter(due).min_by_key(|e| (e.time.start, tie(e)));
+        if let Some(entry) = next {
+            entry.started = true;
+            let time = entry.time;
+            let position = time.position as u32;
+            return (Reply::Start { position, activity: time.activity, node: time.node }, self);
+        }
+        // "It says done if the path ended in a final state and the window is empty, otherwise
+        // wait when nothing is due."
+        let ended = self.plan.automaton.is_final(self.state) && self.window.is_empty();
+        match ended && !broken(Broken::WaitInsteadOfDone) {
+            true => (Reply::Done, self),
+            false => (Reply::Wait, self),
+        }
+    }
+
+    /// Completion (no outcome) or outcome of a node, 52 to 55 looked for in order.
+    fn report(self, reading: u64, (position, node): (u32, u8), outcome: Option<u8>) -> (Reply, Run) {
+        let named = |e: &Entry| (e.time.position, e.time.node) == (position as u64, node);
+        let Some(place) = self.window.iter().position(named) else {
+            return self.refused(52, reading);
+        };
+        let entry = self.window[place];
+        let kind = self.plan.activities[entry.time.activity as usize][node as usize].kind;
+        let mismatch = matches!(kind, Kind::Event(_)) != outcome.is_some();
+        if broken(Broken::KindBeforeStarted) && mismatch {
+            return self.refused(54, reading);
+        }
+        if !entry.started {
+            return self.refused(53, reading);
+        }
+        if mismatch {
+            return self.refused(54, reading);
+        }
+        match (kind, outcome) {
+            (Kind::Event(event), Some(outcome)) if outcome >= self.plan.events[event as usize] => {
+                self.refused(55, reading)
+            }
+            _ => self.accept_report(reading, place, outcome),
+        }
+    }
+
+    /// "An accepted report is taken; if loading after it fails the answer is stopped, the report
+    /// and any path loaded before still count".
+    fn accept_report(mut self, reading: u64, place: usize, outcome: Option<u8>) -> (Reply, Run) {
+        let before = broken(Broken::FailedReportForgotten).then(|| self.clone());
+        self.last_reading = reading;
+        let entry = self.window[place];
+        if !broken(Broken::ReportedStillCounts) {
+            self.window.swap_remove(place);
+        }
+        if let Some(outcome) = outcome {
+            self.outcomes.insert((entry.time.position, entry.time.node), outcome);
+        }
+        let loading = self.load_decided_paths();
+        if broken(Broken::ReportedStillCounts) {
+            self.window.retain(|e| e.time != entry.time);
+        }
+        match loading {
+            Ok(()) => (Reply::Taken, self),
+            Err(number) => before.unwrap_or(self).stopped(Stop { number, node: None }, reading),
+        }
+    }
+}

@@ -1,0 +1,68 @@
+//! 50: "a run in which a stored count, number or time lies outside this paper's or its plan's
+//! limits". Limits, not consistency: other made-up runs get a reply.
+
+use super::{Entry, Run, Stop};
+use crate::plan_file::meets_file_rules;
+use crate::{HORIZON, LAST_POSITION};
+
+impl Run {
+    pub(super) fn is_in_limits(&self) -> bool {
+        // The slack is looked at first because a run of zeros has no plan to speak of.
+        (Run::LEAST_SLACK..=Run::MOST_SLACK).contains(&self.slack)
+            && self.psi <= HORIZON
+            && meets_file_rules(&self.plan)
+            && self.state < self.plan.automaton.states
+            // One past the last position is a good run, whose next loading is 44.
+            && self.next_position <= LAST_POSITION + 1
+            && self.moment_in_limits()
+            && self.outcomes_in_limits()
+            && self.window.len() <= Run::WINDOW
+            && self.window.iter().all(|entry| self.entry_in_limits(entry))
+            && self.stop.is_none_or(|stop| self.stop_in_limits(stop))
+    }
+
+    fn moment_in_limits(&self) -> bool {
+        let moment = &self.moment;
+        let events = self.plan.events.len();
+        moment.availabilities.len() == self.plan.resources as usize
+            && moment.availabilities.iter().all(|&time| time <= HORIZON)
+            && moment.last_completions.len() == events
+            && moment.last_completions.iter().all(|&time| time <= HORIZON)
+            && moment.pending.len() == events
+            && moment.pending.iter().all(|pending| pending.len() <= 8)
+            && moment.pending.iter().flatten().all(|instance| {
+                instance.completion <= HORIZON && self.names_a_node(instance.activity, instance.node)
+            })
+    }
+
+    fn outcomes_in_limits(&self) -> bool {
+        let pending = &self.moment.pending;
+        pending.iter().enumerate().all(|(event, instances)| {
+            instances.iter().all(|i| {
+                let outcome = self.outcomes.get(&(i.position, i.node));
+                outcome.is_none_or(|&outcome| outcome < self.plan.events[event])
+            })
+        })
+    }
+
+    fn names_a_node(&self, activity: u8, node: u8) -> bool {
+        let nodes = self.plan.activities.get(activity as usize);
+        nodes.is_some_and(|nodes| (node as usize) < nodes.len())
+    }
+
+    fn entry_in_limits(&self, entry: &Entry) -> bool {
+        let time = entry.time;
+        time.position <= LAST_POSITION
+            && self.names_a_node(time.activity, time.node)
+            && self.plan.activities[time.activity as usize][time.node as usize].is_executed()
+            && time.start <= HORIZON
+            && time.completion <= HORIZON
+    }
+
+    fn stop_in_limits(&self, stop: Stop) -> bool {
+        match stop.node {
+            Some((position, _)) => matches!(stop.number, 41 | 42) && position as u64 <= LAST_POSITION,
+            None => matches!(stop.number, 43 | 44),
+        }
+    }
+}

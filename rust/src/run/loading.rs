@@ -1,0 +1,87 @@
+//! "Paths are loaded up to a waiting or final state; the next is loaded in the call that reports
+//! the awaited outcome, and further ones while their outcomes are already reported."
+
+use super::{Entry, Run};
+use crate::plan_file::Transition;
+use crate::specified_times::incremental::Instance;
+use crate::toggles::{broken, Broken};
+use crate::{HORIZON, LAST_POSITION};
+
+impl Run {
+    /// At a waiting state the transition of the outcome reported for the event's oldest
+    /// unprocessed instance, if it is reported.
+    fn decided_transition(&self) -> Option<Transition> {
+        let event = self.plan.automaton.awaited_event(self.state)?;
+        let mut oldest = self.moment.oldest(event)?;
+        if broken(Broken::NewestOutcomeFirst) {
+            let told = |i: &&Instance| self.outcomes.contains_key(&(i.position, i.node));
+            oldest = *self.moment.pending[event as usize].iter().rfind(told)?;
+        }
+        let outcome = *self.outcomes.get(&(oldest.position, oldest.node))?;
+        let ways = self.plan.automaton.ways_out(self.state);
+        ways.into_iter().find(|t| t.input == Some((event, outcome)))
+    }
+
+    /// The only transition of a state that does not wait.
+    fn plain_transition(&self) -> Option<Transition> {
+        let ways = self.plan.automaton.ways_out(self.state);
+        ways.into_iter().find(|t| t.input.is_none())
+    }
+
+    /// Takes one transition, whatever its times are; gives the largest time.
+    fn take(&mut self, way: &Transition) -> u64 {
+        if let Some((event, _)) = way.input {
+            if let Some(oldest) = self.moment.oldest(event) {
+                self.outcomes.remove(&(oldest.position, oldest.node));
+            }
+        }
+        let passed = self.moment.pass(&self.plan, &self.shapes, way, self.next_position);
+        self.window.extend(passed.times.iter().map(|&time| Entry { time, started: false }));
+        self.moment = passed.moment;
+        self.state = way.to;
+        self.next_position += 1;
+        passed.latest
+    }
+
+    /// Loads a whole path, or refuses it by 44 or 43 and leaves the run as it was.
+    pub(super) fn load_path(&mut self, first: Option<Transition>) -> Result<(), u8> {
+        let mut loaded = self.clone();
+        let mut next = first.or_else(|| loaded.plain_transition());
+        let mut too_far = false;
+        // An accepted plan waits or ends within 64 transitions; a made-up one may turn for ever,
+        // and is cut off at the same number.
+        for _ in 0..=self.plan.automaton.states {
+            let Some(way) = next else { break };
+            too_far |= loaded.next_position > LAST_POSITION;
+            too_far |= loaded.take(&way) > HORIZON;
+            next = loaded.plain_transition();
+        }
+        // "44 a completion or availability of the next path above 10^15, or a position above
+        // 1,000,000,000; then 43 the window would pass 512", each over the whole path.
+        let number = match loaded.window.len() > Run::WINDOW {
+            _ if too_far => 44,
+            true => 43,
+            false => {
+                *self = loaded;
+                return Ok(());
+            }
+        };
+        if broken(Broken::FailingPathCounts) {
+            self.state = loaded.state;
+            self.window = loaded.window;
+        }
+        Err(number)
+    }
+
+    /// Loads every path whose outcome is reported. "if loading after it fails ... any path loaded
+    /// before still count, and the failing path adds nothing."
+    pub(super) fn load_decided_paths(&mut self) -> Result<(), u8> {
+        while let Some(way) = self.decided_transition() {
+            self.load_path(Some(way))?;
+            if broken(Broken::OnePathPerCall) {
+                break;
+            }
+        }
+        Ok(())
+    }
+}

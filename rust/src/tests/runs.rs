@@ -1,0 +1,105 @@
+//! Checks of runs: every answer is the one expected from the log alone, and demand 3 holds.
+
+use super::judge_hits;
+use crate::check::log::{from_records, record, Log};
+use crate::check::{demand_3, expected};
+use crate::compare::hits::{wanted_of_runs, Hits};
+use crate::compare::settings::{self, run_cases};
+use crate::compare::smaller::smallest_call_list;
+use crate::compare::Failure;
+use crate::drive::{decode, drive, RECORD};
+use crate::generate::hosts::{calls, Host};
+use crate::generate::openings::opening;
+use crate::generate::{inputs, Random};
+use crate::run::{Reply, Run};
+use crate::verdict::judge;
+
+/// Drives an input and checks its log; gives the log and the most paths that one call loaded.
+fn checked(input: &[u8]) -> Result<Option<(Log, usize)>, String> {
+    let Some((opening, calls)) = decode(input) else { return Ok(None) };
+    let log = record(&opening, &calls)?;
+    let paths = expected::check(&log)?;
+    if log.answer.is_ok() {
+        let plan = judge(&opening.plan).map_err(|fault| format!("opened, but {fault:?}"))?;
+        demand_3::check(&plan, &log)?;
+    }
+    drives_alike(input, &log)?;
+    Ok(Some((log, paths)))
+}
+
+/// The records of a drive say what the log says, and the rest of the buffer is left alone.
+fn drives_alike(input: &[u8], log: &Log) -> Result<(), String> {
+    let mut out = vec![0xC3; (log.calls.len() + 1) * RECORD + 7];
+    let written = drive(input, &mut out);
+    let told = from_records(input, &out[..written]).ok_or("records say nothing")?;
+    let replies = |log: &Log| log.calls.iter().map(|entry| entry.reply).collect::<Vec<_>>();
+    let same = told.answer == log.answer && replies(&told) == replies(log);
+    let untouched = out[written..].iter().all(|&byte| byte == 0xC3);
+    match same && untouched && written == (log.calls.len() + 1) * RECORD {
+        true => Ok(()),
+        false => Err("a drive's records differ from the log".into()),
+    }
+}
+
+/// Call lists of every kind of host.
+pub fn call_lists(seed: u64, cases: usize, hits: &mut Hits) -> Result<(), String> {
+    run_cases(seed, cases, |random| {
+        let input = inputs::call_list(random);
+        match checked(&input) {
+            Ok(Some((log, paths))) => {
+                hits.log(&log);
+                if paths > 0 {
+                    hits.hit(format!("lists with {paths} paths in a call"));
+                }
+                Ok(())
+            }
+            Ok(None) => Ok(()),
+            Err(what) => {
+                let smallest = smallest_call_list(&input, |tried| checked(tried).is_err());
+                let what = checked(&smallest).err().unwrap_or(what);
+                Err(Failure::new(what, &smallest))
+            }
+        }
+    })
+}
+
+/// A careful host is never stopped by 41 or 42, and ends with done if given the time.
+fn careful_hosts(seed: u64, cases: usize) -> Result<(usize, usize), String> {
+    let (mut opened, mut done) = (0, 0);
+    run_cases(seed, cases, |random: &mut Random| {
+        let opening = opening(random);
+        if Run::open(&opening).0.is_err() || opening.availabilities.iter().any(|&a| a > 1_000_000) {
+            return Ok(());
+        }
+        let calls = calls(random, &opening, Host::Careful, 150);
+        let log = record(&opening, &calls).map_err(|what| Failure::new(what, &opening.plan))?;
+        opened += 1;
+        done += log.calls.iter().any(|entry| entry.reply == Reply::Done) as usize;
+        let stopped = |number| {
+            log.calls.iter().any(|e| matches!(e.reply, Reply::Stopped(stop) if stop.number == number))
+        };
+        match stopped(41) || stopped(42) {
+            true => Err(Failure::new("a careful host was stopped", &opening.plan)),
+            false => Ok(()),
+        }
+    })?;
+    Ok((opened, done))
+}
+
+#[test]
+fn every_answer_is_the_expected_one_and_demand_3_holds() {
+    let mut hits = Hits::default();
+    let cases = settings::cases(20_000);
+    call_lists(settings::seed(), cases, &mut hits).unwrap_or_else(|what| panic!("{what}"));
+    let mut wanted = wanted_of_runs();
+    wanted.push("lists with 3 paths in a call".into());
+    judge_hits("call lists", &hits, &wanted);
+}
+
+#[test]
+fn a_careful_host_is_never_stopped() {
+    let seed = settings::seed();
+    let (opened, done) = careful_hosts(seed, settings::cases(5_000)).unwrap_or_else(|what| panic!("{what}"));
+    println!("careful hosts: {opened} opened, {done} ended with done");
+    assert!(settings::is_by_hand() || done * 2 > opened);
+}

@@ -1,0 +1,71 @@
+//! The texts of the program *timetable* from both builds: valid inputs, damaged ones, inputs cut at
+//! every byte, and words of several thousand positions.
+
+#![cfg(feature = "rattle_timetable")]
+
+use jidlekuvo_reference::compare::hits::Hits;
+use jidlekuvo_reference::compare::smaller::smallest_timetable;
+use jidlekuvo_reference::compare::threads::in_threads;
+use jidlekuvo_reference::compare::{rattle, settings, Failure};
+use jidlekuvo_reference::generate::{inputs, plan_t, Random};
+use jidlekuvo_reference::timetable::timetable;
+
+fn difference(input: &[u8]) -> Option<String> {
+    let wanted = timetable(input);
+    let printed = rattle::timetable(input).expect("the program timetable runs");
+    let printed = String::from_utf8_lossy(&printed).into_owned();
+    if wanted == printed {
+        return None;
+    }
+    let mut lines = wanted.lines().zip(printed.lines()).enumerate();
+    let at = lines.find(|(_, (ours, theirs))| ours != theirs);
+    Some(format!("line {at:?} (number, Rust, Rattle); lengths {} and {}", wanted.len(), printed.len()))
+}
+
+fn compared(input: &[u8]) -> Result<(), Failure> {
+    if difference(input).is_none() {
+        return Ok(());
+    }
+    let smallest = smallest_timetable(input, |tried| difference(tried).is_some());
+    Err(Failure::new(difference(&smallest).unwrap_or_default(), &smallest))
+}
+
+fn input_of_t(outcomes: &[u8]) -> Vec<u8> {
+    let plan = plan_t();
+    [&(plan.len() as u16).to_le_bytes()[..], &plan, outcomes].concat()
+}
+
+#[test]
+fn timetables_agree() {
+    let case = |random: &mut Random, hits: &mut Hits| {
+        let most = if random.one_in(50) { 4_000 } else { 12 };
+        let input = inputs::timetable(random, most);
+        let text = timetable(&input);
+        let last = text.lines().last().unwrap_or("");
+        hits.hit(last.split(' ').next().unwrap_or(""));
+        if text.lines().count() > 1_000 {
+            hits.hit("more than 1,000 lines");
+        }
+        compared(&input)
+    };
+    let cases = settings::cases(20_000);
+    let hits = in_threads(settings::seed(), cases, case).unwrap_or_else(|what| panic!("{what}"));
+    hits.print(&format!("{cases} timetables agree"));
+    let missing = hits.missing(&["end", "waits", "refused", "more than 1,000 lines"].map(String::from));
+    assert!(settings::is_by_hand() || missing.is_empty(), "never hit: {missing:?}");
+}
+
+#[test]
+fn inputs_cut_at_every_byte_agree() {
+    let input = input_of_t(&[0, 1, 7]);
+    for cut in 0..=input.len() {
+        compared(&input[..cut]).unwrap_or_else(|failure| panic!("{}", failure.told()));
+    }
+}
+
+#[test]
+fn a_word_of_many_thousand_positions_agrees() {
+    let mut outcomes = vec![0; 20_000];
+    outcomes.push(1);
+    compared(&input_of_t(&outcomes)).unwrap_or_else(|failure| panic!("{}", failure.told()));
+}
