@@ -1,9 +1,9 @@
 -- Demand 2, acceptance: "A plan is accepted if and only if it meets the definitions; nothing is repaired."
 use mathlib.Core.Path.{_≡_}
-use mathlib.Core.List.{List}
+use mathlib.Core.List.{List, _++_}
 use mathlib.Core.Logic.{_↔_}
 use Prim.Native.Nat.{ℕ, _≤_, _<_}
-use lib.ListN.{length, getD}
+use lib.ListN.{length, getD, drop}
 use Rattle.plan.specs.Plan.{activityOf, resourceOf}
 use Rattle.plan.specs.Limits.{FileRules}
 use Rattle.plan.specs.Encoding.{encode}
@@ -12,6 +12,8 @@ use Rattle.plan.specs.declared.Plan.{Plan}
 use Rattle.activity.specs.Rules.{Meets}
 use Rattle.automaton.specs.Rules.{MeetsAutomaton}
 use Rattle.judge.specs.Judge.{accepted, judgeOf}
+use Rattle.writing.specs.Writing.{writtenOf, bufferOf}
+use Rattle.writing.specs.declared.Written.{Written}
 
 -- a list of bytes
 abbrev pub Bytes : List ℕ → Type 0
@@ -36,3 +38,9 @@ StatementAcceptedIff = (bytes : List ℕ) (p : Plan) → Bytes bytes → (judgeO
 -- "No accepted plan exceeds 34,433 bytes."
 abbrev pub StatementLongest : Type 0
 StatementLongest = (bytes : List ℕ) (p : Plan) → Bytes bytes → judgeOf bytes ≡ accepted p → length bytes ≤ 34_433
+
+-- "Writing an accepted plan gives back its bytes", and leaves the buffer's bytes after them unchanged.
+abbrev pub StatementWrittenBack : Type 0
+StatementWrittenBack =
+    (bytes out : List ℕ) (p : Plan) → Bytes bytes → judgeOf bytes ≡ accepted p → length bytes ≤ length out
+    → (writtenOf p out ≡ Written.Bytes (length bytes)) × (bufferOf p out ≡ bytes ++ drop (length bytes) out)

@@ -1,5 +1,5 @@
 -- `accepted-iff`: judging accepts bytes as a plan iff the plan meets the definitions and the bytes are its encoding.
--- `longest`: no accepted plan exceeds 34,433 bytes. From reading both ways (roundtrip), the activities (activity) and the
+-- `longest`: no accepted plan exceeds 34,433 bytes. `written-back`: writing an accepted plan gives back its bytes. From reading both ways (roundtrip), the activities (activity) and the
 -- automaton (automaton).
 use mathlib.Core.Path.{_≡_}
 use mathlib.Core.List.{List}
@@ -8,9 +8,10 @@ use Rattle.plan.specs.declared.Plan.{Plan}
 use Rattle.roundtrip.specs.RoundTrip as R
 use Rattle.activity.specs.Activities as A
 use Rattle.automaton.specs.Decides as D
+use Rattle.writing.specs.Back as B
 use Rattle.judge.specs.Judge.{accepted, judgeOf}
 use Rattle.judge.specs.Laws.{Passes, passed, passing}
-use Rattle.demands.specs.Accepted.{Bytes, Accepts, StatementAcceptedIff, StatementLongest}
+use Rattle.demands.specs.Accepted.{Bytes, Accepts, StatementAcceptedIff, StatementLongest, StatementWrittenBack}
 
 from-passes : (b : List ℕ) (p : Plan) → Bytes b → Passes b p → Accepts b p
 from-passes b p bytes h =
@@ -35,3 +36,6 @@ accepted-iff b p bytes = (λ e. from-passes b p bytes (passed p b e), λ h. pass
 
 pub longest : StatementLongest
 longest b p bytes e = R.longest-file b bytes p (passed p b e .read)
+
+pub written-back : StatementWrittenBack
+written-back b out p bytes e room = B.written-back b out p bytes (passed p b e .read) room

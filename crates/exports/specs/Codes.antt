@@ -1,9 +1,26 @@
 -- Answers as numbers, for callers in another language.
+use mathlib.Core.List.{List}
 use Prim.Native.Nat.{ℕ, _+_, _*_, min}
 use Rattle.plan.specs.Fault.{numberOf}
 use Rattle.plan.specs.declared.Verdict.{Verdict}
+use Rattle.plan.specs.declared.PlanRead.{PlanRead}
+use Rattle.judge.specs.Judge.{onVerdict}
+use Rattle.writing.specs.Writing.{writtenOf, bufferOf, numberOf as numberOfWriter}
+use Rattle.writing.specs.declared.Written.{Written}
 
 -- 0 for an accepted plan; otherwise its number times 2^32 plus its place, or plus 2^32 - 1 where the place is larger
 unfoldable pub codeOf : Verdict → ℕ
 codeOf Verdict.Accepted = 0
 codeOf (Verdict.Refused f place) = numberOf f * 4_294_967_296 + min place 4_294_967_295
+
+-- what the writer answers: how many bytes it wrote, or its number times 2^32
+unfoldable pub writtenCode : Written → ℕ
+writtenCode (Written.Bytes n) = n
+writtenCode (Written.Refused w) = numberOfWriter w * 4_294_967_296
+
+-- the plan that was read is written back; a refused one writes nothing
+unfoldable pub backCode : PlanRead → List ℕ → ℕ
+backCode r out = onVerdict (r .verdict) (writtenCode (writtenOf (r .plan) out)) (λ f place. codeOf (Verdict.Refused f place))
+
+unfoldable pub backBuffer : PlanRead → List ℕ → List ℕ
+backBuffer r out = onVerdict (r .verdict) (bufferOf (r .plan) out) (λ f place. out)

@@ -1,12 +1,14 @@
 // What Rust and C link: functions on numbers and byte slices.
 use plan::Fault;
 use plan::Verdict;
+use writing::NotWritten;
+use writing::Written;
 ghost use mathlib.Core.Path.{_≡_};
 ghost use Prim.Native.Nat.{_≤_, _<_, min};
 ghost use Rattle.plan.specs.Fault.{numberOf};
 ghost use Rattle.plan.specs.Reading.{readPlan};
 ghost use Rattle.judge.specs.Judge.{judgeOf};
-ghost use Rattle.exports.specs.Codes.{codeOf};
+ghost use Rattle.exports.specs.Codes.{codeOf, writtenCode, backCode, backBuffer};
 
 // Document 01's number of a fault.
 fn number(f: Fault) -> u64
@@ -76,4 +78,33 @@ pub extern "C" fn jidlekuvo_judge(bytes: &[u8]) -> u64
     let judged = judge::judge(bytes);
     let v = judged.verdict;
     code(v)
+}
+
+// The writer's answer as a number.
+fn written_code(w: Written) -> u64
+    ensures { λ r. ⌜ r ≡ writtenCode w ⌝ }
+{
+    match w {
+        Written::Bytes(n) => n as u64,
+        Written::Refused(why) => match why {
+            NotWritten::BreaksRule => 214748364800,
+            NotWritten::TooShort => 154618822656,
+        },
+    }
+}
+
+// Reads a plan and writes it back: the number of bytes written, or a refusal's number and place.
+#[no_mangle]
+pub extern "C" fn jidlekuvo_write_back(bytes: &[u8], out: &mut [u8]) -> u64
+    ensures { λ r. ⌜ (r ≡ backCode (readPlan (now (bytes .entry))) (now (out .entry))) × (now (out .exit) ≡ backBuffer (readPlan (now (bytes .entry))) (now (out .entry))) ⌝ }
+{
+    let read = reading::read(bytes);
+    let v = read.verdict;
+    match v {
+        Verdict::Refused(f, place) => code(Verdict::Refused(f, place)),
+        Verdict::Accepted => {
+            let plan = read.plan;
+            written_code(writing::write(plan, out))
+        }
+    }
 }

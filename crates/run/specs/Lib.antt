@@ -4,3 +4,4 @@ pub mod Limits
 pub mod Loading
 pub mod Opening
 pub mod Calls
+pub mod Checks

@@ -1,4 +1,10 @@
-// A run of a plan against the host's clock: types. Document 01, sections "A run" and "Who can cause which number".
+// A run of a plan against the host's clock. Document 01, sections "A run" and "Who can cause which number".
+ghost use mathlib.Core.Path.{_≡_};
+ghost use Rattle.run.specs.Calls.{askOf, completionOf};
+
+mod bounds;
+mod calls;
+mod checks;
 mod told;
 
 use plan::Fault;
@@ -124,4 +130,55 @@ pub enum Failure {
 pub struct Loading {
     pub failure: Failure,
     pub run: Run,
+}
+
+// What the checks at a call object to: a refusal, the stop that the run keeps, or a stop at this reading.
+enum Objection {
+    Refuses(Refusal),
+    Keeps(Stop),
+    Stops(Stop),
+}
+
+// What the checks at a call say.
+enum Check {
+    Goes,
+    Objects(Objection),
+}
+
+// What a report names: a started node of the window, with its place.
+enum Report {
+    Refuses(Refusal),
+    Names(usize, Entry),
+}
+
+impl Run {
+    // "Ask starts the due, unstarted node with the earliest specified start"
+    pub fn ask(mut self, t: Clock) -> Answer
+        ensures { λ r. ⌜ r ≡ askOf self t ⌝ }
+    {
+        let check = checks::check_call(self, t);
+        match check {
+            Check::Goes => {
+                return calls::asked(self, t);
+            }
+            Check::Objects(o) => {
+                return calls::objected(self, t, o);
+            }
+        }
+    }
+
+    // The completion of an action.
+    pub fn completion(mut self, t: Clock, position: u32, node: u8) -> Answer
+        ensures { λ r. ⌜ r ≡ completionOf self t position node ⌝ }
+    {
+        let check = checks::check_call(self, t);
+        match check {
+            Check::Goes => {
+                return calls::completed(self, t, position, node);
+            }
+            Check::Objects(objection) => {
+                return calls::objected(self, t, objection);
+            }
+        }
+    }
 }

@@ -1,5 +1,5 @@
 -- What the run needs of one transition: the engine goes the way whose times are those of the combined activity, queues what the
--- transition emits, and stays within the limits. Stated as a record of laws, which the theorems take as given.
+-- transition emits, and stays within the limits. The record of these laws is what the proofs rest on; Laws.EngineHolds proves it.
 use mathlib.Core.Path.{_≡_}
 use mathlib.Core.Bool.{false, cond}
 use mathlib.Core.List.{List, [], _∷_, _++_, map}
@@ -83,7 +83,7 @@ abbrev pub Settles : Automaton → ℕ → ℕ → Type 0
 Settles a zero s = (t : ℕ) → nextOf a s ≡ Next.Goes t → ⊥
 Settles a (suc k) s = (t : ℕ) → nextOf a s ≡ Next.Goes t → Settles a k (move a t .to)
 
--- what is taken as given of the engine and of the automaton of an accepted plan
+-- what holds of the engine and of the automaton of an accepted plan
 pub record EngineLaws : Type 0 where
   pub advances : (p : Plan) → Lawful p → (t : ℕ) (g : Progress) → Possible p t g → takenBy p t g .beyond ≡ false → Advances p t g
   pub settles : (p : Plan) → Lawful p → MeetsAutomaton p → (s k : ℕ) → s < p .automaton .states → 63 ≤ k → Settles (p .automaton) k s

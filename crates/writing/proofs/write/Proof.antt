@@ -29,10 +29,10 @@ same-length : tie.Need-same-length
 same-length c = search needs
 
 returns : tie.Need-returns
-returns c = wrote (c .before .before .before .before .before .before .before .before .before .before .before .args .plan) (now (c .before .before .before .before .before .before .before .before .before .before .before .args .out)) (sym (c .before .before .before .before .before .before .before .before .before .file-rules .ensures) ∙ c .before .before .before .before .before .before .before .before .if1 .taken) _ _ _ (c .before .before .before .before .before .before .put-plan .ensures) (c .before .before .before .before .if2 .taken) _ _ (c .before .before .put-plan2 .ensures)
+returns c = wrote (c .before .before .before .before .before .before .before .before .before .before .before .args .plan) (now (c .before .before .before .before .before .before .before .before .before .before .before .args .out)) (sym (c .before .before .before .before .before .before .before .before .before .file-rules .ensures) ∙ c .before .before .before .before .before .before .before .before .if1 .taken) _ _ _ (c .before .before .before .before .before .before .put-plan .ensures) (omega arith) _ _ (c .before .before .put-plan2 .ensures)
 
 returns-2 : tie.Need-returns-2
-returns-2 c = too-short (c .before .before .before .before .before .before .before .args .plan) (now (c .before .before .before .before .before .before .before .args .out)) (sym (c .before .before .before .before .before .file-rules .ensures) ∙ c .before .before .before .before .if1 .taken) _ _ _ (c .before .before .put-plan .ensures) (c .if2 .left)
+returns-2 c = too-short (c .before .before .before .before .before .before .before .args .plan) (now (c .before .before .before .before .before .before .before .args .out)) (sym (c .before .before .before .before .before .file-rules .ensures) ∙ c .before .before .before .before .if1 .taken) _ _ _ (c .before .before .put-plan .ensures) (omega arith)
 
 returns-3 : tie.Need-returns-3
 returns-3 c = breaks-rule (c .before .before .before .args .plan) (now (c .before .before .before .args .out)) (sym (c .before .file-rules .ensures) ∙ c .if1 .left)

@@ -1,0 +1,61 @@
+use mathlib.Core.Path.{ap, _∙_}
+use Rattle.exports.specs.Codes.{writtenCode, backCode, backBuffer}
+use borrow.Author.Needs.{needs}
+use Rattle.exports.proofs.jidlekuvo_write_back.Statement.{statement}
+use Rattle.exports.proofs.jidlekuvo_write_back.Tie as tie
+use Rattle.exports.proofs.jidlekuvo_write_back.Reads as reads
+use Rattle.exports.proofs.jidlekuvo_write_back.Lts as lts
+use Rattle.exports.proofs.code.Reads as code-reads
+use Rattle.exports.proofs.written_code.Reads as written-code-reads
+use Rattle.reading.proofs.read.Reads as read-reads
+use Rattle.writing.proofs.write.Reads as write-reads
+
+read-requires : tie.Need-read-requires
+read-requires c κs = search needs
+
+enum-known-v : tie.Need-enum-known-v
+enum-known-v c = search needs
+
+code-requires : tie.Need-code-requires
+code-requires c κs = search needs
+
+enum-told : tie.Need-enum-told
+enum-told c = search needs
+
+write-requires : tie.Need-write-requires
+write-requires c κs = search needs
+
+written-code-requires : tie.Need-written-code-requires
+written-code-requires c κs = search needs
+
+returns : tie.Need-returns
+unfolding backCode backBuffer
+returns c = (
+  rw (← c .before .before .before .before .read .ensures, c .before .before .v .given .1) (c .code .ensures),
+  rw (← c .before .before .before .before .read .ensures, c .before .before .v .given .1),
+)
+
+same-length : tie.Need-same-length
+same-length c = search needs
+
+returns-2 : tie.Need-returns-2
+unfolding backCode backBuffer
+returns-2 c =
+    let w = c .before .before .before .write in
+    let r = c .before .before .before .before .before .before .before .before .read in
+    let e = c .before .before .before .before .before .before .enum-told .given .1 in
+    (rw (← r .ensures, e) (c .written-code .ensures ∙ ap writtenCode (w .ensures .0)), rw (← r .ensures, e) (w .ensures .1))
+
+pub jidlekuvo-write-back-spec : {M : Type 1} → statement M
+jidlekuvo-write-back-spec =
+    tie.close
+    (tie.spec
+    read-requires
+    enum-known-v
+    code-requires
+    enum-told
+    write-requires
+    written-code-requires
+    returns
+    same-length
+    returns-2)

@@ -1,0 +1,5 @@
+-- Laws about the definitions: what the functions' proofs and the crates above rest on.
+pub mod Collecting
+pub mod Emitting
+pub mod Stepping
+pub mod InTime
