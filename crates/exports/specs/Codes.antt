@@ -4,6 +4,7 @@ use Prim.Native.Nat.{ℕ, _+_, _*_, min}
 use Rattle.plan.specs.Fault.{numberOf}
 use Rattle.plan.specs.declared.Verdict.{Verdict}
 use Rattle.plan.specs.declared.PlanRead.{PlanRead}
+use Rattle.activity.specs.Number.{activitiesVerdict}
 use Rattle.judge.specs.Judge.{onVerdict}
 use Rattle.writing.specs.Writing.{writtenOf, bufferOf, numberOf as numberOfWriter}
 use Rattle.writing.specs.declared.Written.{Written}
@@ -12,6 +13,10 @@ use Rattle.writing.specs.declared.Written.{Written}
 unfoldable pub codeOf : Verdict → ℕ
 codeOf Verdict.Accepted = 0
 codeOf (Verdict.Refused f place) = numberOf f * 4_294_967_296 + min place 4_294_967_295
+
+-- reading, and the rules of the activities
+unfoldable pub activitiesCode : PlanRead → ℕ
+activitiesCode r = onVerdict (r .verdict) (codeOf (activitiesVerdict (r .plan))) (λ f place. codeOf (Verdict.Refused f place))
 
 -- what the writer answers: how many bytes it wrote, or its number times 2^32
 unfoldable pub writtenCode : Written → ℕ

@@ -1,5 +1,6 @@
 // What Rust and C link: functions on numbers and byte slices.
 use plan::Fault;
+use plan::Plan;
 use plan::Verdict;
 use writing::NotWritten;
 use writing::Written;
@@ -7,8 +8,10 @@ ghost use mathlib.Core.Path.{_≡_};
 ghost use Prim.Native.Nat.{_≤_, _<_, min};
 ghost use Rattle.plan.specs.Fault.{numberOf};
 ghost use Rattle.plan.specs.Reading.{readPlan};
+ghost use Rattle.plan.specs.Limits.{InLimits};
+ghost use Rattle.activity.specs.Number.{activitiesVerdict};
 ghost use Rattle.judge.specs.Judge.{judgeOf};
-ghost use Rattle.exports.specs.Codes.{codeOf, writtenCode, backCode, backBuffer};
+ghost use Rattle.exports.specs.Codes.{codeOf, activitiesCode, writtenCode, backCode, backBuffer};
 
 // Document 01's number of a fault.
 fn number(f: Fault) -> u64
@@ -68,6 +71,30 @@ pub extern "C" fn jidlekuvo_read(bytes: &[u8]) -> u64
     let read = reading::read(bytes);
     let v = read.verdict;
     code(v)
+}
+
+// The activities of a plan that was read.
+fn activities_of(plan: Plan) -> u64
+    requires { ⌜ InLimits plan ⌝ }
+    ensures { λ r. ⌜ r ≡ codeOf (activitiesVerdict plan) ⌝ }
+{
+    code(activity::activities(plan))
+}
+
+// Reading, and the activities' rules: 0 if the bytes meet them, otherwise number and place.
+#[no_mangle]
+pub extern "C" fn jidlekuvo_activities(bytes: &[u8]) -> u64
+    ensures { λ r. ⌜ r ≡ activitiesCode (readPlan (now (bytes .entry))) ⌝ }
+{
+    let read = reading::read(bytes);
+    let v = read.verdict;
+    match v {
+        Verdict::Refused(f, place) => code(Verdict::Refused(f, place)),
+        Verdict::Accepted => {
+            let plan = read.plan;
+            activities_of(plan)
+        }
+    }
 }
 
 // The whole verdict: 0 if the plan is accepted, otherwise number and place.

@@ -1,0 +1,21 @@
+use mathlib.Core.Path.{ap, _∙_}
+use Rattle.exports.specs.Codes.{codeOf}
+use borrow.Author.Needs.{needs}
+use Rattle.exports.proofs.activities_of.Statement.{statement}
+use Rattle.exports.proofs.activities_of.Tie as tie
+use Rattle.exports.proofs.activities_of.Reads as reads
+use Rattle.exports.proofs.activities_of.Lts as lts
+use Rattle.activity.proofs.activities.Reads as activities-reads
+use Rattle.exports.proofs.code.Reads as code-reads
+
+activities-requires : tie.Need-activities-requires
+activities-requires c κs = search needs
+
+code-requires : tie.Need-code-requires
+code-requires c κs = search needs
+
+returns : tie.Need-returns
+returns c = c .code .ensures ∙ ap codeOf (c .before .activities .ensures)
+
+pub activities-of-spec : {M : Type 1} → statement M
+activities-of-spec = tie.close (tie.spec activities-requires code-requires returns)

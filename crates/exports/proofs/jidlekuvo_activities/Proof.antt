@@ -1,0 +1,50 @@
+use native.Mathlib.Omega.{arith}
+use denote.Ref.{now}
+use Rattle.judge.specs.Laws.{read-limits}
+use Rattle.exports.specs.Codes.{activitiesCode}
+use borrow.Author.Needs.{needs}
+use Rattle.exports.proofs.jidlekuvo_activities.Statement.{statement}
+use Rattle.exports.proofs.jidlekuvo_activities.Tie as tie
+use Rattle.exports.proofs.jidlekuvo_activities.Reads as reads
+use Rattle.exports.proofs.jidlekuvo_activities.Lts as lts
+use Rattle.exports.proofs.activities_of.Reads as activities-of-reads
+use Rattle.exports.proofs.code.Reads as code-reads
+use Rattle.reading.proofs.read.Reads as read-reads
+
+read-requires : tie.Need-read-requires
+read-requires c κs = search needs
+
+enum-known-v : tie.Need-enum-known-v
+enum-known-v c = search needs
+
+code-requires : tie.Need-code-requires
+code-requires c κs = search needs
+
+enum-told : tie.Need-enum-told
+enum-told c = search needs
+
+activities-of-requires : tie.Need-activities-of-requires
+activities-of-requires c κs =
+    read-limits (now (c .before .before .before .before .before .args .bytes))
+    (λ k. omega (arith, c .before .before .before .before .shared-slice-known .given k))
+    (c .before .before .before .read .result) (c .before .before .before .read .ensures) (c .before .enum-told .given .1)
+
+returns : tie.Need-returns
+unfolding activitiesCode
+returns c = rw (← c .before .before .before .before .read .ensures, c .before .before .v .given .1) (c .code .ensures)
+
+returns-2 : tie.Need-returns-2
+unfolding activitiesCode
+returns-2 c = rw (← c .before .before .before .before .read .ensures, c .before .before .enum-told .given .1) (c .activities-of .ensures)
+
+pub jidlekuvo-activities-spec : {M : Type 1} → statement M
+jidlekuvo-activities-spec =
+    tie.close
+    (tie.spec
+    read-requires
+    enum-known-v
+    code-requires
+    enum-told
+    activities-of-requires
+    returns
+    returns-2)
