@@ -3,21 +3,18 @@ use mathlib.Core.Path.{_≡_}
 use mathlib.Core.List.{List, _++_}
 use mathlib.Core.Logic.{_↔_}
 use Prim.Native.Nat.{ℕ, _≤_, _<_}
-use lib.ListN.{length, getD, drop}
+use lib.ListN.{length, drop}
 use Rattle.plan.specs.Plan.{activityOf, resourceOf}
 use Rattle.plan.specs.Limits.{FileRules}
 use Rattle.plan.specs.Encoding.{encode}
 use Rattle.plan.specs.Spare.{zeroed}
 use Rattle.plan.specs.declared.Plan.{Plan}
+pub use Rattle.roundtrip.specs.RoundTrip.{Bytes}
 use Rattle.activity.specs.Rules.{Meets}
 use Rattle.automaton.specs.Rules.{MeetsAutomaton}
 use Rattle.judge.specs.Judge.{accepted, judgeOf}
 use Rattle.writing.specs.Writing.{writtenOf, bufferOf}
 use Rattle.writing.specs.declared.Written.{Written}
-
--- a list of bytes
-abbrev pub Bytes : List ℕ → Type 0
-Bytes b = (k : ℕ) → getD b k 0 < 256
 
 -- what a plan and its bytes must meet
 pub record Accepts (bytes : List ℕ) (p : Plan) : Type 0 where
