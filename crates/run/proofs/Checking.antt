@@ -10,7 +10,7 @@ use lib.Dec.{ltb}
 use lib.ListN.{length, getD, length-map}
 use Rattle.time.specs.Time.{horizon}
 use Rattle.time.specs.declared.Clock.{Clock}
-use Rattle.plan.specs.Limits.{InLimits}
+use Rattle.plan.specs.Limits.{InLimits, KindNames}
 use Rattle.plan.specs.Plan.{sizeOf}
 use Rattle.timing.specs.Engine.{lastPosition}
 use Rattle.timing.specs.Limits.{ProgressInLimits}
@@ -37,8 +37,9 @@ use Rattle.run.specs.declared.Objection.{Objection}
 use Rattle.run.specs.declared.Check.{Check}
 use Rattle.run.specs.declared.Report.{Report}
 use Rattle.run.specs.Limits.{haltInLimits, runInLimits}
-use Rattle.run.specs.Calls.{answer, refuse, stops, onHalt, timely, called, reported, asked}
+use Rattle.run.specs.Calls.{answer, refuse, stops, kindOf, onHalt, timely, called, reported, asked}
 use Rattle.run.specs.Checks.{Timed, lateCheck, overdueCheck, orElse, readingCheck, checkOf, objected, onCheck, startedReport, reportOf, onReport, idle, starts}
+use Rattle.run.specs.Loads.{Loads}
 
 -- the length of an array of structs
 pub unmapped : (X Y : Type 0) (f : X → Y) (l : List X) (n : ℕ) → length (map f l) ≡ n → length l ≡ n
@@ -192,10 +193,14 @@ module _ (run : Run) (good : runInLimits run ≡ true) where
   pub state-below : run .progress .state < 64
   state-below = let s = parts .1 .1 .1 .0 .2 .state in let m = parts .0 .states .1 in omega arith
 
+  -- its plan and its progress
+  pub loads-in-limits : Loads run
+  loads-in-limits = record { plan = parts .0; progress = parts .1 .1 .1 .0 .2 }
+
   -- what is known of a node that a report names
   abbrev pub Named : Report → Type 0
   Named (Report.Refuses f) = Unit {0}
-  Named (Report.Names i e) = (i < 512) × (e .activity < 32) × (e .node < 64)
+  Named (Report.Names i e) = (i < 512) × (e .activity < 32) × (e .node < 64) × KindNames (run .plan) (kindOf run e)
 
   module _ (long : length (run .window) ≡ 512) (position node : ℕ) where
     started : (i : ℕ) (e : Entry) → First (isNode position node) startsBefore (run .window) i e → isStarted (e .phase) ≡ true → Named (Report.Names i e)
@@ -205,7 +210,7 @@ module _ (run : Run) (good : runInLimits run ≡ true) where
         let z = parts .0 .sizes (e .activity) (k .1 .0 .0) .1 in
         let n = k .1 .0 .1 in
         let l = f .within in
-        (omega arith, (let b = k .1 .0 .0 in omega arith), omega arith)
+        (omega arith, (let b = k .1 .0 .0 in omega arith), omega arith, parts .0 .nodes (e .activity) (e .node) (k .1 .0 .0) n .names)
 
     pub named : Named (reportOf run position node)
     unfolding reportOf startedReport
@@ -214,7 +219,7 @@ module _ (run : Run) (good : runInLimits run ≡ true) where
         (λ i e f. by-test Named (isStarted (e .phase)) (Report.Names i e) (Report.Refuses Refusal.NotStarted) (λ s. started i e f s) (λ s. tt))
         (λ n. tt)
 
-    pub named-at : (i : ℕ) (e : Entry) → reportOf run position node ≡ Report.Names i e → (i < 512) × (e .activity < 32) × (e .node < 64)
+    pub named-at : (i : ℕ) (e : Entry) → reportOf run position node ≡ Report.Names i e → (i < 512) × (e .activity < 32) × (e .node < 64) × KindNames (run .plan) (kindOf run e)
     named-at i e q = subst Named q named
 
 -- a place that is found is one of the window

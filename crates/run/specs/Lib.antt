@@ -3,5 +3,8 @@ pub mod Numbers
 pub mod Limits
 pub mod Loading
 pub mod Opening
+pub mod Short
 pub mod Calls
 pub mod Checks
+pub mod Loads
+pub mod Inner

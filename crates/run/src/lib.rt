@@ -1,14 +1,19 @@
 // A run of a plan against the host's clock. Document 01, sections "A run" and "Who can cause which number".
 ghost use mathlib.Core.Path.{_≡_};
-ghost use Rattle.run.specs.Calls.{askOf, completionOf};
+ghost use Rattle.run.specs.Calls.{askOf, completionOf, outcomeOf, callOf};
+ghost use Rattle.run.specs.Opening.{openOf};
 
 mod bounds;
 mod calls;
 mod checks;
+mod learning;
+mod openings;
+mod paths;
 mod told;
 
 use plan::Fault;
 use plan::Plan;
+use plan::Verdict;
 use time::Clock;
 use timing::Progress;
 use window::Entry;
@@ -152,6 +157,23 @@ enum Report {
 }
 
 impl Run {
+    // "The plan comes as bytes and is judged first; the run keeps it."
+    pub fn open(bytes: &[u8], psi: Clock, slack: u64, availabilities: &[u64]) -> Opened
+        ensures { λ r. ⌜ r ≡ openOf (now (bytes .entry)) psi slack (now (availabilities .entry)) ⌝ }
+    {
+        let judged = judge::judge(bytes);
+        let verdict = judged.verdict;
+        match verdict {
+            Verdict::Refused(f, place) => {
+                return openings::unopened(Unopened::Plan(f, place));
+            }
+            Verdict::Accepted => {
+                let plan = judged.plan;
+                return openings::open_plan(plan, psi, slack, availabilities);
+            }
+        }
+    }
+
     // "Ask starts the due, unstarted node with the earliest specified start"
     pub fn ask(mut self, t: Clock) -> Answer
         ensures { λ r. ⌜ r ≡ askOf self t ⌝ }
@@ -178,6 +200,38 @@ impl Run {
             }
             Check::Objects(objection) => {
                 return calls::objected(self, t, objection);
+            }
+        }
+    }
+
+    // The outcome of an event, "which completes it".
+    pub fn outcome(mut self, t: Clock, position: u32, node: u8, o: u8) -> Answer
+        ensures { λ r. ⌜ r ≡ outcomeOf self t position node o ⌝ }
+    {
+        let check = checks::check_call(self, t);
+        match check {
+            Check::Goes => {
+                return learning::learns(self, t, position, node, o);
+            }
+            Check::Objects(objection) => {
+                return calls::objected(self, t, objection);
+            }
+        }
+    }
+
+    // "Calls carry a clock reading: ask, completion of an action, outcome of an event".
+    pub fn call(mut self, c: Call) -> Answer
+        ensures { λ r. ⌜ r ≡ callOf self c ⌝ }
+    {
+        match c {
+            Call::Ask(t) => {
+                return self.ask(t);
+            }
+            Call::Completion(t, p, n) => {
+                return self.completion(t, p, n);
+            }
+            Call::Outcome(t, p, n, o) => {
+                return self.outcome(t, p, n, o);
             }
         }
     }

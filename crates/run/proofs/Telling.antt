@@ -1,0 +1,65 @@
+-- An outcome that the event has, once it is stored with its instance, leaves where the behaviour stands within the limits.
+use mathlib.Core.Path.{_≡_, refl, sym, subst}
+use mathlib.Core.List.{List, [], _∷_}
+use Prim.Native.Nat.{ℕ, zero, suc, _+_, _*_, _≤_, _<_}
+use native.Mathlib.Omega.{arith}
+use lib.ListN.{getD, set}
+use Rattle.time.specs.declared.Clock.{Clock}
+use Rattle.plan.specs.Plan.{outcomesOf}
+use Rattle.timing.specs.declared.Instance.{Instance}
+use Rattle.timing.specs.Queues.{noInstance, pendingOf}
+use Rattle.timing.specs.Limits.{InstanceInLimits}
+use Rattle.window.specs.declared.Entry.{Entry}
+use Rattle.window.specs.Tests.{by-test}
+use Rattle.run.specs.declared.Run.{Run}
+use Rattle.run.specs.Calls.{tell, isInstance, toldFrom}
+use Rattle.run.specs.Loads.{Loads}
+use Rattle.run.specs.Inner.{toldRun}
+
+-- what holds of every place, and of one place once it is told, holds of every place once that one is told
+set-each : (Q : ℕ → Instance → Type 0) (xs : List Instance) (i : ℕ) (v : Instance) → ((j : ℕ) → Q j (getD xs j noInstance)) → Q i v → (j : ℕ) → Q j (getD (set xs i v) j noInstance)
+set-each Q [] i v f h j = f j
+set-each Q (x ∷ xs) zero v f h zero = h
+set-each Q (x ∷ xs) zero v f h (suc j) = f (suc j)
+set-each Q (x ∷ xs) (suc i) v f h zero = f zero
+set-each Q (x ∷ xs) (suc i) v f h (suc j) = set-each (λ k. Q (suc k)) xs i v (λ k. f (suc k)) h j
+
+module _ (position node o : ℕ) (Q : ℕ → Instance → Type 0) (xs : List Instance) (f : (j : ℕ) → Q j (getD xs j noInstance)) where
+  told-each : (k i : ℕ) → ((j : ℕ) → i ≤ j → j < i + k → Q j (tell (getD xs j noInstance) o)) → (j : ℕ) → Q j (getD (toldFrom position node o i k xs) j noInstance)
+  unfolding toldFrom
+  told-each zero i h = f
+  told-each (suc k) i h =
+      by-test (λ (l : List Instance). (j : ℕ) → Q j (getD l j noInstance)) (isInstance position node (getD xs i noInstance)) _ _
+      (λ b. set-each Q xs i (tell (getD xs i noInstance) o) f (h i (omega arith) (omega arith)))
+      (λ b. told-each k (i + 1) (λ j l m. h j (omega arith) (omega arith)))
+
+module _ (run : Run) (fits : Loads run) (e : ℕ) (named : e < run .plan .events) (o : ℕ) (has : o < outcomesOf (run .plan) e) where
+  -- place j, where it is place i of the queue of an event
+  abbrev Fits : ℕ → Instance → Type 0
+  Fits j y = (d i : ℕ) → j ≡ 8 * d + i → d < run .plan .events → i < pendingOf (run .progress) d → InstanceInLimits (outcomesOf (run .plan) d) y
+
+  fits-before : (j : ℕ) → Fits j (getD (run .progress .pending) j noInstance)
+  fits-before j d i q l m =
+      subst (λ (n : ℕ). InstanceInLimits (outcomesOf (run .plan) d) (getD (run .progress .pending) n noInstance)) (sym q) (fits .progress .pending d i l m)
+
+  fits-told : (j : ℕ) → 8 * e ≤ j → j < 8 * e + pendingOf (run .progress) e → Fits j (tell (getD (run .progress .pending) j noInstance) o)
+  fits-told j low high d i q l m =
+      let u = fits .progress .lengths e named in
+      let v = fits .progress .lengths d l in
+      let s : e ≡ d = omega arith in
+      let x = fits-before j d i q l m in
+      record { position = x .position; node = x .node; end = x .end; told = subst (λ (n : ℕ). o < outcomesOf (run .plan) n) s has }
+
+  pub told-loads : (t : Clock) (i : ℕ) (x : Entry) (r : Run) → r ≡ toldRun run t i x e o → Loads r
+  told-loads t i x r q =
+      subst Loads (sym q) (record {
+        plan = fits .plan;
+        progress = record {
+          available = fits .progress .available;
+          latest = fits .progress .latest;
+          lengths = fits .progress .lengths;
+          pending = λ d k l m. told-each (x .position) (x .node) o Fits (run .progress .pending) fits-before (pendingOf (run .progress) e) (8 * e) fits-told (8 * d + k) d k refl l m;
+          position = fits .progress .position;
+          state = fits .progress .state;
+        };
+      })

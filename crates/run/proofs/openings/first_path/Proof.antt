@@ -1,0 +1,78 @@
+-- `first_path` refuses a plan with a short activity (33), and else loads the first path.
+use mathlib.Core.Path.{sym, ap, _∙_, subst}
+use mathlib.Core.List.{List}
+use Prim.Native.Nat.{ℕ}
+use Rattle.time.specs.declared.Clock.{Clock}
+use Rattle.time.specs.declared.Specified.{Specified}
+use Rattle.plan.specs.declared.Plan.{Plan}
+use Rattle.run.specs.declared.Run.{Run}
+use Rattle.run.specs.declared.Unopened.{Unopened}
+use Rattle.run.specs.Loads.{Loads}
+use Rattle.run.specs.Opening.{shortFrom, availabilities, atFirst, fresh, unopened, begin}
+use Rattle.run.specs.Short.{firstPath}
+use Rattle.run.proofs.Opens.{fresh-loads, none-short, one-short}
+use borrow.Author.Needs.{needs}
+use Rattle.run.proofs.openings.first_path.Statement.{statement}
+use Rattle.run.proofs.openings.first_path.Tie as tie
+
+abbrev first : Plan → Clock → ℕ → List ℕ → Run
+first p psi slack ts = fresh p psi slack (atFirst (availabilities ts) (p .automaton .initial))
+
+short-from-requires : tie.Need-short-from-requires
+short-from-requires c κs = search needs
+
+enum-known-short : tie.Need-enum-known-short
+enum-known-short c = search needs
+
+unopened-requires : tie.Need-unopened-requires
+unopened-requires c κs = search needs
+
+returns : tie.Need-returns
+unfolding firstPath
+returns c =
+    let s = c .before .before .before .before .before .before .args in
+    let q = c .before .before .before .before .short-from in
+    c .unopened .ensures
+    ∙ sym (one-short (shortFrom (s .plan) (s .slack) 0 (s .plan .activities)) (λ a. unopened (Unopened.Short a)) (begin (first (s .plan) (s .psi) (s .slack) (s .ts .now))) (q .result) (q .ensures) _ (c .before .before .short .given .1))
+
+enum-told : tie.Need-enum-told
+enum-told c = search needs
+
+given-requires : tie.Need-given-requires
+given-requires c κs = search needs
+
+at-first-requires : tie.Need-at-first-requires
+at-first-requires c κs = search needs
+
+fresh-requires : tie.Need-fresh-requires
+fresh-requires c κs = search needs
+
+begin-requires : tie.Need-begin-requires
+begin-requires c κs =
+    let s = c .before .before .before .before .before .before .before in
+    subst Loads (sym (c .fresh .ensures ∙ ap (fresh (s .args .plan) (s .args .psi) (s .args .slack)) (c .before .at-first .ensures ∙ ap (λ (x : List Specified). atFirst x (s .args .plan .automaton .initial)) (c .before .before .given .ensures))))
+    (fresh-loads (s .args .plan) (s .pre .0) (s .args .psi) (s .args .slack) (s .args .ts .now) (s .pre .1 .1))
+
+returns-2 : tie.Need-returns-2
+unfolding firstPath
+returns-2 c =
+    let s = c .before .before .before .before .before .before .before .before .args in
+    let q = c .before .before .before .before .before .before .short-from in
+    c .begin .ensures
+    ∙ ap begin (c .before .fresh .ensures ∙ ap (fresh (s .plan) (s .psi) (s .slack)) (c .before .before .at-first .ensures ∙ ap (λ (x : List Specified). atFirst x (s .plan .automaton .initial)) (c .before .before .before .given .ensures)))
+    ∙ sym (none-short (shortFrom (s .plan) (s .slack) 0 (s .plan .activities)) (λ a. unopened (Unopened.Short a)) (begin (first (s .plan) (s .psi) (s .slack) (s .ts .now))) (q .result) (q .ensures) (c .before .before .before .before .enum-told .given .1))
+
+pub first-path-spec : {M : Type 1} → statement M
+first-path-spec =
+    tie.close
+    (tie.spec
+    short-from-requires
+    enum-known-short
+    unopened-requires
+    returns
+    enum-told
+    given-requires
+    at-first-requires
+    fresh-requires
+    begin-requires
+    returns-2)
