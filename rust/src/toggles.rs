@@ -35,14 +35,17 @@ toggles! {
     EventOrderDropped: "nodes of one event in successive activities are not ordered",
     UnnamedNotRaised: "an outcome does not hold back resources the activity leaves unnamed",
     EmptyNotRaised: "an outcome processed with the empty activity holds back nothing",
+    NothingRaised: "an outcome holds back nothing",
     InstancesByNumber: "instances inside one activity go by node number",
     LateAtTheSlack: "41 at exactly start plus slack",
+    LateWithoutSlack: "41 as soon as the start is past",
     OverdueOneLater: "42 one microsecond later",
     TiesByNodeFirst: "ties go by node, then position",
     RefusalMovesReading: "a refused call moves the last reading",
     LateBeforeOverdue: "41 is looked for before 42",
     ReadingBeforeKeptStop: "51 is looked for on a stopped run",
     SlackOfUsedActivities: "33 looks only at activities that a transition uses",
+    SlackNeverChecked: "33 is never looked for",
     StartsTwice: "a started node can be started again",
     WaitInsteadOfDone: "wait where done is due",
     ReportedStillCounts: "43 counts the node just reported",
@@ -51,10 +54,20 @@ toggles! {
     FailingPathCounts: "a failing path moves the state",
     FailedReportForgotten: "a report whose loading fails does not count",
     KindBeforeStarted: "54 is looked for before 53",
+    BareEntryIs50: "a made-up entry that names a claim or a release gives 50",
+    EndlessOneLonger: "a made-up path that never waits is ended one transition later",
+    NinthKept: "a made-up plan's ninth pending instance is kept",
     RowsByTime: "rows of a position are printed by start",
     FreeHeldBackAtWaits: "the awaited event holds back what free prints",
     RowsAtTheHorizon: "rows of the position that gives 44 are printed",
     OutcomeIndexFromOne: "the place of 55 counts outcomes from 1",
+}
+
+/// The toggles of the specified times and of the run.
+#[cfg(test)]
+pub fn of_the_run() -> impl Iterator<Item = (Broken, &'static str)> {
+    let parts = Broken::OnlyTheSensedResource as usize..=Broken::KindBeforeStarted as usize;
+    ALL.iter().copied().filter(move |(toggle, _)| parts.contains(&(*toggle as usize)))
 }
 
 #[cfg(test)]

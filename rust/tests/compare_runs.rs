@@ -56,7 +56,12 @@ fn demand_3_holds(input: &[u8], hits: &mut Hits) -> Result<(), Failure> {
         return Ok(());
     }
     let plan = judge(&log.opening.plan).map_err(|_| Failure::new("opened a refused plan", input))?;
-    demand_3::check(&plan, &log).map_err(|what| Failure::new(what, input))
+    let judged = demand_3::judged(&plan, &log);
+    hits.host_side(&log, judged.host);
+    match judged.breaches.first() {
+        Some(breach) => Err(Failure::new(breach.told(), input)),
+        None => Ok(()),
+    }
 }
 
 #[test]

@@ -23,11 +23,16 @@ use Rattle.window.specs.Placed.{freePlace}
 use Rattle.path.specs.Path.{entriesFrom, pathFrom}
 use Rattle.judge.specs.Judge.{judgeOf}
 use Rattle.run.specs.Limits.{runInLimits}
-use Rattle.run.specs.Loading.{load, wayOn, further}
-use Rattle.run.specs.Opening.{anyAbove, anyShort, shortFrom, openPlan, openOf}
-use Rattle.run.specs.Calls.{asked, completed, isInstance, toldFrom, learns, timely, askOf, completionOf, outcomeOf, callOf}
-use Rattle.table.specs.Text.{digits, line}
-use Rattle.table.specs.Timetable.{rows, free, tableFrom, timetableOf}
+use Rattle.outcomes.specs.Way.{wayOn}
+use Rattle.run.specs.Loading.{load, further}
+use Rattle.opening.specs.Given.{anyAbove}
+use Rattle.opening.specs.Short.{anyShort, shortFrom}
+use Rattle.run.specs.Opening.{openPlan, openOf}
+use Rattle.outcomes.specs.Told.{isInstance, toldFrom}
+use Rattle.run.specs.Calls.{asked, completed, learns, timely, askOf, completionOf, outcomeOf, callOf}
+use Rattle.text.specs.Text.{digits, line}
+use Rattle.lines.specs.Lines.{rows, free}
+use Rattle.table.specs.Timetable.{tableFrom, timetableOf}
 use Rattle.demands.specs.Cases.{theCases, AllHold}
 
 pub cases : AllHold theCases

@@ -1,17 +1,17 @@
 -- "every number of an opening or a call, and done, occurs in its stated condition and order and in no other": the
--- condition of each reply to a call.
+-- condition of each reply to a call. The run is any run, a made-up one too.
 use mathlib.Core.Path.{_≡_}
 use mathlib.Core.Bool.{Bool, true, false}
-use mathlib.Core.Logic.{_⊎_, _↔_}
+use mathlib.Core.Logic.{_↔_}
 use Prim.Native.Nat.{ℕ, _+_, _≤_, _<_}
-use lib.ListN.{length, getD}
+use lib.ListN.{getD}
 use Rattle.time.specs.Time.{toClock}
 use Rattle.time.specs.declared.Clock.{Clock}
 use Rattle.plan.specs.Plan.{isFinal, outcomesOf}
 use Rattle.plan.specs.declared.Kind.{Kind}
 use Rattle.window.specs.declared.Entry.{Entry}
 use Rattle.window.specs.declared.Phase.{Phase}
-use Rattle.window.specs.Window.{vacant, isHeld, isLoaded, isStarted, startsBefore, endsBefore}
+use Rattle.window.specs.Window.{vacant, isHeld, startsBefore, endsBefore}
 use Rattle.run.specs.declared.Run.{Run}
 use Rattle.run.specs.declared.Halt.{Halt}
 use Rattle.run.specs.declared.Stop.{Stop}
@@ -21,35 +21,47 @@ use Rattle.run.specs.declared.Refusal.{Refusal}
 use Rattle.run.specs.declared.Failure.{Failure}
 use Rattle.run.specs.Limits.{runInLimits}
 use Rattle.run.specs.Loading.{further, mostPending}
-use Rattle.run.specs.Calls.{callOf, kindOf, cleared, toldOf}
-use Rattle.log.specs.Log.{reading}
+use Rattle.outcomes.specs.Told.{toldOf}
+use Rattle.run.specs.Calls.{callOf, readingOf, kindOf, cleared}
 
 -- ---- places of the window
 
 abbrev pub entryAt : Run → ℕ → Entry
 entryAt run i = getD (run .window) i vacant
 
--- place i holds a started node that is overdue at the reading t
-pub record OverdueAt (run : Run) (t i : ℕ) : Type 0 where
-  pub started : isStarted (entryAt run i .phase) ≡ true
-  pub past : toClock (run .psi) (entryAt run i .end) .0 ≤ t
+-- "the reading is at or past Ψ + completion of a started, unreported node"
+pub record OverdueAt (run : Run) (t : Clock) (i : ℕ) : Type 0 where
+  pub started : entryAt run i .phase ≡ Phase.Started
+  pub past : toClock (run .psi) (entryAt run i .end) .0 ≤ t .0
 
--- place i holds an unstarted node that is late
-pub record LateAt (run : Run) (t i : ℕ) : Type 0 where
-  pub unstarted : isLoaded (entryAt run i .phase) ≡ true
-  pub past : toClock (run .psi) (entryAt run i .start) .0 + run .slack < t
+-- "the reading exceeds Ψ + start + slack of an unstarted node"
+pub record LateAt (run : Run) (t : Clock) (i : ℕ) : Type 0 where
+  pub unstarted : entryAt run i .phase ≡ Phase.Loaded
+  pub past : toClock (run .psi) (entryAt run i .start) .0 + run .slack < t .0
 
--- place i holds an unstarted node that is due
-pub record DueAt (run : Run) (t i : ℕ) : Type 0 where
-  pub unstarted : isLoaded (entryAt run i .phase) ≡ true
-  pub come : toClock (run .psi) (entryAt run i .start) .0 ≤ t
+-- "the due, unstarted node"
+pub record DueAt (run : Run) (t : Clock) (i : ℕ) : Type 0 where
+  pub unstarted : entryAt run i .phase ≡ Phase.Loaded
+  pub due : toClock (run .psi) (entryAt run i .start) .0 ≤ t .0
 
--- place i has P, and no place that has it goes before it
-pub record FirstOf (run : Run) (P : ℕ → Type 0) (sooner : Entry → Entry → Bool) (i : ℕ) : Type 0 where
-  pub here : P i
-  pub first : (j : ℕ) → P j → sooner (entryAt run j) (entryAt run i) ≡ false
+-- "A node's identity is its position .. and its node number."
+pub record NodeAt (run : Run) (p n i : ℕ) : Type 0 where
+  pub held : isHeld (entryAt run i .phase) ≡ true
+  pub position : entryAt run i .position ≡ p
+  pub node : entryAt run i .node ≡ n
 
--- ---- the order at a call
+-- no place has P
+abbrev pub Nowhere : (ℕ → Type 0) → Type 0
+Nowhere P = (i : ℕ) → P i → ⊥
+
+-- Place i has P, and none that has P goes before it. Entries with one time, position and node go alike: only a made-up run
+-- holds such, and of them the lowest place is taken.
+pub record FirstOf (run : Run) (P : ℕ → Type 0) (goes : Entry → Entry → Bool) (i : ℕ) : Type 0 where
+  pub has : P i
+  pub first : (j : ℕ) → P j → goes (entryAt run j) (entryAt run i) ≡ false
+  pub lowest : (j : ℕ) → P j → j < i → goes (entryAt run i) (entryAt run j) ≡ true
+
+-- ---- "Order at a call: 50, kept stop, 51, 42, 41, 52 to 55."
 
 -- neither 50 nor a kept stop
 pub record Going (run : Run) : Type 0 where
@@ -57,32 +69,38 @@ pub record Going (run : Run) : Type 0 where
   pub going : run .halt ≡ Halt.Going
 
 -- nor 51
-pub record Rises (run : Run) (t : ℕ) : Type 0 where
+pub record Rises (run : Run) (t : Clock) : Type 0 where
   pub going : Going run
-  pub rises : run .last .0 ≤ t
+  pub rises : run .last .0 ≤ t .0
 
 -- nor 42
-pub record NotOverdue (run : Run) (t : ℕ) : Type 0 where
+pub record NotOverdue (run : Run) (t : Clock) : Type 0 where
   pub rises : Rises run t
-  pub none : (i : ℕ) → OverdueAt run t i → ⊥
+  pub none : Nowhere (OverdueAt run t)
 
 -- nor 41
-pub record Timely (run : Run) (t : ℕ) : Type 0 where
-  pub calm : NotOverdue run t
-  pub none : (i : ℕ) → LateAt run t i → ⊥
+pub record Timely (run : Run) (t : Clock) : Type 0 where
+  pub not-overdue : NotOverdue run t
+  pub none : Nowhere (LateAt run t)
 
 -- ---- what a report names
 
-abbrev pub Names : Call → ℕ → ℕ → Type 0
-Names (Call.Ask t) p n = ⊥
-Names (Call.Completion t q m) p n = (q ≡ p) × (m ≡ n)
-Names (Call.Outcome t q m o) p n = (q ≡ p) × (m ≡ n)
+abbrev pub IsReport : Call → Type 0
+IsReport (Call.Ask t) = ⊥
+IsReport (Call.Completion t p n) = Unit {0}
+IsReport (Call.Outcome t p n o) = Unit {0}
 
--- place i holds the node (p, n)
-pub record NodeAt (run : Run) (p n i : ℕ) : Type 0 where
-  pub held : isHeld (entryAt run i .phase) ≡ true
-  pub position : entryAt run i .position ≡ p
-  pub node : entryAt run i .node ≡ n
+-- place i holds the node that the call names
+abbrev pub NamedAt : Run → Call → ℕ → Type 0
+NamedAt run (Call.Ask t) = λ i. ⊥
+NamedAt run (Call.Completion t p n) = NodeAt run p n
+NamedAt run (Call.Outcome t p n o) = NodeAt run p n
+
+-- a timely report of a started node, at place i
+pub record Reports (run : Run) (c : Call) (i : ℕ) : Type 0 where
+  pub timely : Timely run (readingOf c)
+  pub named : FirstOf run (NamedAt run c) startsBefore i
+  pub started : entryAt run i .phase ≡ Phase.Started
 
 abbrev pub IsAction : Kind → Type 0
 IsAction (Kind.Action a x) = Unit {0}
@@ -96,38 +114,91 @@ IsEvent (Kind.Claim r) = ⊥
 IsEvent (Kind.Release r) = ⊥
 IsEvent (Kind.Event e) = Unit {0}
 
--- the call reports a node of the kind that it is for
+-- "completion of an action, outcome of an event"
 abbrev pub RightKind : Call → Kind → Type 0
 RightKind (Call.Ask t) k = ⊥
 RightKind (Call.Completion t p n) k = IsAction k
 RightKind (Call.Outcome t p n o) k = IsEvent k
 
-abbrev pub Lacks : Run → Call → Kind → Type 0
-Lacks run (Call.Ask t) k = ⊥
-Lacks run (Call.Completion t p n) k = ⊥
-Lacks run (Call.Outcome t p n o) k = (e : ℕ) × (k ≡ Kind.Event e) × (outcomesOf (run .plan) e ≤ o)
+-- an outcome that is accepted: place i holds a node of event e, which has outcome o
+pub record Learns (run : Run) (t : Clock) (p n o i e : ℕ) : Type 0 where
+  pub reports : Reports run (Call.Outcome t p n o) i
+  pub event : kindOf run (entryAt run i) ≡ Kind.Event e
+  pub has : o < outcomesOf (run .plan) e
 
--- ---- refusals and stops before loading
+-- how loading after that outcome ends
+abbrev pub loadingAfter : Run → Clock → ℕ → ℕ → ℕ → Failure
+loadingAfter run t o i e = further mostPending (cleared run t i (toldOf (run .progress) e (entryAt run i) o)) .failure
 
--- "Order at a call: 50, kept stop, 51, 42, 41, 52 to 55."
-pub data Refuses (run : Run) (c : Call) : Refusal → Type 0 where
-  number50 : runInLimits run ≡ false → Refuses run c Refusal.OutOfLimits
-  number51 : Going run → reading c < run .last .0 → Refuses run c Refusal.ReadingBelow
-  number52 : Timely run (reading c) → (p n : ℕ) → Names c p n → ((i : ℕ) → NodeAt run p n i → ⊥) → Refuses run c Refusal.NoSuchNode
-  number53 : Timely run (reading c) → (p n i : ℕ) → Names c p n → FirstOf run (NodeAt run p n) startsBefore i → isStarted (entryAt run i .phase) ≡ false → Refuses run c Refusal.NotStarted
-  number54 : Timely run (reading c) → (p n i : ℕ) → Names c p n → FirstOf run (NodeAt run p n) startsBefore i → isStarted (entryAt run i .phase) ≡ true
-      → (RightKind c (kindOf run (entryAt run i)) → ⊥) → Refuses run c Refusal.OtherKind
-  number55 : Timely run (reading c) → (p n i : ℕ) → Names c p n → FirstOf run (NodeAt run p n) startsBefore i → isStarted (entryAt run i .phase) ≡ true
-      → Lacks run c (kindOf run (entryAt run i)) → Refuses run c Refusal.OutcomeLacking
+-- ---- refused
+
+pub data Refuses (run : Run) : Call → Refusal → Type 0 where
+  -- "a run in which a stored count, number or time lies outside this paper's or its plan's limits"
+  number50 : {c : Call} → runInLimits run ≡ false → Refuses run c Refusal.OutOfLimits
+  -- "reading below the last one"
+  number51 : {c : Call} → Going run → readingOf c .0 < run .last .0 → Refuses run c Refusal.ReadingBelow
+  -- "no such node in the window"
+  number52 : {c : Call} → Timely run (readingOf c) → IsReport c → Nowhere (NamedAt run c) → Refuses run c Refusal.NoSuchNode
+  -- "node not started"
+  number53 : {c : Call} (i : ℕ) → Timely run (readingOf c) → FirstOf run (NamedAt run c) startsBefore i → entryAt run i .phase ≡ Phase.Loaded → Refuses run c Refusal.NotStarted
+  -- "completion of an event or outcome of an action"
+  number54 : {c : Call} (i : ℕ) → Reports run c i → (RightKind c (kindOf run (entryAt run i)) → ⊥) → Refuses run c Refusal.OtherKind
+  -- "outcome the event lacks"
+  number55 : {t : Clock} {p n o : ℕ} (i e : ℕ) → Reports run (Call.Outcome t p n o) i → kindOf run (entryAt run i) ≡ Kind.Event e → outcomesOf (run .plan) e ≤ o
+      → Refuses run (Call.Outcome t p n o) Refusal.OutcomeLacking
+
+-- ---- stopped
+
+pub data Halts (run : Run) : Call → Stop → Type 0 where
+  -- "A call to a stopped run .. answers the stop."
+  kept : {c : Call} {s : Stop} → runInLimits run ≡ true → run .halt ≡ Halt.Stopped s → Halts run c s
+  -- "naming the one with the earliest completion"
+  number42 : {c : Call} (i : ℕ) → Rises run (readingOf c) → FirstOf run (OverdueAt run (readingOf c)) endsBefore i
+      → Halts run c (Stop.Overdue (entryAt run i .position) (entryAt run i .node))
+  -- "naming the one with the earliest start"
+  number41 : {c : Call} (i : ℕ) → NotOverdue run (readingOf c) → FirstOf run (LateAt run (readingOf c)) startsBefore i
+      → Halts run c (Stop.Late (entryAt run i .position) (entryAt run i .node))
+  -- "if loading after it fails the answer is stopped"
+  number43 : {t : Clock} {p n o : ℕ} (i e : ℕ) → Learns run t p n o i e → loadingAfter run t o i e ≡ Failure.Full → Halts run (Call.Outcome t p n o) Stop.Full
+  number44 : {t : Clock} {p n o : ℕ} (i e : ℕ) → Learns run t p n o i e → loadingAfter run t o i e ≡ Failure.Beyond → Halts run (Call.Outcome t p n o) Stop.Beyond
+
+-- ---- ask
+
+-- "the path ended in a final state and the window is empty"
+pub record Ended (run : Run) : Type 0 where
+  pub final : isFinal (run .plan .automaton) (run .progress .state) ≡ true
+  pub empty : (i : ℕ) → entryAt run i .phase ≡ Phase.Free
+
+pub data Asks (run : Run) : Call → Reply → Type 0 where
+  -- "Ask starts the due, unstarted node with the earliest specified start"
+  starts : {t : Clock} (i : ℕ) → Timely run t → FirstOf run (DueAt run t) startsBefore i
+      → Asks run (Call.Ask t) (Reply.Start (entryAt run i .position) (entryAt run i .activity) (entryAt run i .node))
+  -- "It says done if the path ended in a final state and the window is empty"
+  done : {t : Clock} → Timely run t → Ended run → Asks run (Call.Ask t) Reply.Done
+  -- "otherwise wait when nothing is due"
+  waits : {t : Clock} → Timely run t → Nowhere (DueAt run t) → (Ended run → ⊥) → Asks run (Call.Ask t) Reply.Wait
+
+-- ---- taken: "An accepted report is taken"
+
+pub data Takes (run : Run) : Call → Type 0 where
+  completion : {t : Clock} {p n : ℕ} (i : ℕ) → Reports run (Call.Completion t p n) i → IsAction (kindOf run (entryAt run i)) → Takes run (Call.Completion t p n)
+  outcome : {t : Clock} {p n o : ℕ} (i e : ℕ) → Learns run t p n o i e → loadingAfter run t o i e ≡ Failure.None → Takes run (Call.Outcome t p n o)
+
+-- ---- each reply occurs in its condition and in no other
+
+abbrev pub Condition : Run → Call → Reply → Type 0
+Condition run c (Reply.Start p a n) = Asks run c (Reply.Start p a n)
+Condition run c Reply.Wait = Asks run c Reply.Wait
+Condition run c Reply.Done = Asks run c Reply.Done
+Condition run c Reply.Taken = Takes run c
+Condition run c (Reply.Refused f) = Refuses run c f
+Condition run c (Reply.Stopped s) = Halts run c s
+
+abbrev pub StatementReplies : Type 0
+StatementReplies = (run : Run) (c : Call) (r : Reply) → (callOf run c .reply ≡ r) ↔ Condition run c r
 
 abbrev pub StatementRefusals : Type 0
 StatementRefusals = (run : Run) (c : Call) (f : Refusal) → (callOf run c .reply ≡ Reply.Refused f) ↔ Refuses run c f
-
--- "stop 41 (late) .., naming the one with the earliest start"; "stop 42 (overdue) .., naming the one with the earliest completion"
-pub data Halts (run : Run) (c : Call) : Stop → Type 0 where
-  kept : {s : Stop} → runInLimits run ≡ true → run .halt ≡ Halt.Stopped s → Halts run c s
-  number42 : Rises run (reading c) → (i : ℕ) → FirstOf run (OverdueAt run (reading c)) endsBefore i → Halts run c (Stop.Overdue (entryAt run i .position) (entryAt run i .node))
-  number41 : NotOverdue run (reading c) → (i : ℕ) → FirstOf run (LateAt run (reading c)) startsBefore i → Halts run c (Stop.Late (entryAt run i .position) (entryAt run i .node))
 
 abbrev pub StatementLate : Type 0
 StatementLate = (run : Run) (c : Call) (p n : ℕ) → (callOf run c .reply ≡ Reply.Stopped (Stop.Late p n)) ↔ Halts run c (Stop.Late p n)
@@ -135,24 +206,20 @@ StatementLate = (run : Run) (c : Call) (p n : ℕ) → (callOf run c .reply ≡ 
 abbrev pub StatementOverdue : Type 0
 StatementOverdue = (run : Run) (c : Call) (p n : ℕ) → (callOf run c .reply ≡ Reply.Stopped (Stop.Overdue p n)) ↔ Halts run c (Stop.Overdue p n)
 
--- ---- ask
+abbrev pub StatementFull : Type 0
+StatementFull = (run : Run) (c : Call) → (callOf run c .reply ≡ Reply.Stopped Stop.Full) ↔ Halts run c Stop.Full
 
--- "Ask starts the due, unstarted node with the earliest specified start; .. It says done if the path ended in a final state
--- and the window is empty, otherwise wait when nothing is due."
-pub record Empty (run : Run) : Type 0 where
-  pub final : isFinal (run .plan .automaton) (run .progress .state) ≡ true
-  pub none : (i : ℕ) → isHeld (entryAt run i .phase) ≡ false
-
-pub data Asks (run : Run) (t : Clock) : Reply → Type 0 where
-  starts : Timely run (t .0) → (i : ℕ) → FirstOf run (DueAt run (t .0)) startsBefore i → Asks run t (Reply.Start (entryAt run i .position) (entryAt run i .activity) (entryAt run i .node))
-  done : Timely run (t .0) → ((i : ℕ) → DueAt run (t .0) i → ⊥) → Empty run → Asks run t Reply.Done
-  waits : Timely run (t .0) → ((i : ℕ) → DueAt run (t .0) i → ⊥) → (Empty run → ⊥) → Asks run t Reply.Wait
-
-abbrev pub StatementDone : Type 0
-StatementDone = (run : Run) (c : Call) → (callOf run c .reply ≡ Reply.Done) ↔ ((t : Clock) × (c ≡ Call.Ask t) × Asks run t Reply.Done)
-
-abbrev pub StatementWait : Type 0
-StatementWait = (run : Run) (c : Call) → (callOf run c .reply ≡ Reply.Wait) ↔ ((t : Clock) × (c ≡ Call.Ask t) × Asks run t Reply.Wait)
+abbrev pub StatementBeyond : Type 0
+StatementBeyond = (run : Run) (c : Call) → (callOf run c .reply ≡ Reply.Stopped Stop.Beyond) ↔ Halts run c Stop.Beyond
 
 abbrev pub StatementStart : Type 0
-StatementStart = (run : Run) (c : Call) (p a n : ℕ) → (callOf run c .reply ≡ Reply.Start p a n) ↔ ((t : Clock) × (c ≡ Call.Ask t) × Asks run t (Reply.Start p a n))
+StatementStart = (run : Run) (c : Call) (p a n : ℕ) → (callOf run c .reply ≡ Reply.Start p a n) ↔ Asks run c (Reply.Start p a n)
+
+abbrev pub StatementDone : Type 0
+StatementDone = (run : Run) (c : Call) → (callOf run c .reply ≡ Reply.Done) ↔ Asks run c Reply.Done
+
+abbrev pub StatementWait : Type 0
+StatementWait = (run : Run) (c : Call) → (callOf run c .reply ≡ Reply.Wait) ↔ Asks run c Reply.Wait
+
+abbrev pub StatementTaken : Type 0
+StatementTaken = (run : Run) (c : Call) → (callOf run c .reply ≡ Reply.Taken) ↔ Takes run c

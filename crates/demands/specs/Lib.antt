@@ -10,7 +10,17 @@ pub mod Demand3Holds
 -- Promise 1 and the strength of the contracts
 pub mod Promises
 pub mod Unchanged
+-- Each answer of an opening, in its condition and in no other
+pub mod Openings
+pub mod OpeningTests
+pub mod OpeningsHold
+-- Each reply of a call, in its condition and in no other
 pub mod Conditions
+pub mod FirstPlaces
+pub mod ConditionsMet
+pub mod ConditionsGive
+pub mod ConditionsHold
+pub mod LoadingFails
 -- K1 to K12
 pub mod Inputs
 pub mod Cases

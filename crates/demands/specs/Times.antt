@@ -13,7 +13,7 @@ use Rattle.behaviour.specs.Combined as C
 use Rattle.behaviour.specs.Times.{Timing}
 use Rattle.behaviour.specs.Paths.{Follows}
 use Rattle.specified.specs.Plans.{progressAfter, scheduleAt}
-use Rattle.run.specs.Opening.{atFirst, availabilities}
+use Rattle.opening.specs.Given.{atFirst, availabilities}
 use Rattle.log.specs.Log.{Id}
 use Rattle.demand.specs.TheWord.{stateAfter, wholeOf}
 use Rattle.demand.specs.Nodes.{whose, Work}

@@ -33,8 +33,12 @@ use Rattle.automaton.specs.Next.{nextOf}
 use Rattle.activity.specs.Tests.{every}
 use Rattle.limits.specs.Limits.{inLimits, partsInLimits, within, nodesInLimits, automatonInLimits}
 use Rattle.run.specs.Loading.{load, further, mostPending}
-use Rattle.run.specs.Calls.{answer, refuse, asked, reported, completedBy, completed, afterLoading, learnt, cleared, toldOf, learnsBy, learns, onHalt, timely, called, askOf, completionOf, outcomeOf, callOf, isDone, kindOf}
-use Rattle.run.specs.Opening.{openOf, openJudged, openPlan, afterFirst, zeroRun, Shortest, onShortest, shortFrom, anyAbove, fresh, atFirst, availabilities}
+use Rattle.outcomes.specs.Told.{toldOf}
+use Rattle.run.specs.Calls.{answer, refuse, asked, reported, completedBy, completed, afterLoading, learnt, cleared, learnsBy, learns, onHalt, timely, called, askOf, completionOf, outcomeOf, callOf, isDone, kindOf}
+use Rattle.opening.specs.declared.Short.{Short}
+use Rattle.opening.specs.Short.{onShort, shortFrom}
+use Rattle.opening.specs.Given.{anyAbove, atFirst, availabilities}
+use Rattle.run.specs.Opening.{openOf, openJudged, openPlan, afterFirst, zeroRun, fresh}
 use Rattle.demands.specs.Promises.{StatementRefusedUnchanged, StatementStopKept, StatementStopsStay, StatementRefusedOpening, StatementZerosGet50}
 
 -- ---- by cases
@@ -158,9 +162,9 @@ zeros-first Failure.None run = record { zeros = tt }
 zeros-first Failure.Full run = record { zeros = refl }
 zeros-first Failure.Beyond run = record { zeros = refl }
 
-zeros-short : (r : Shortest) (f : ℕ → Opened) (z : Opened) → ((a : ℕ) → ZerosOf (f a)) → ZerosOf z → ZerosOf (onShortest r f z)
-zeros-short Shortest.Nothing f z p q = q
-zeros-short (Shortest.Activity a) f z p q = p a
+zeros-short : (r : Short) (f : ℕ → Opened) (z : Opened) → ((a : ℕ) → ZerosOf (f a)) → ZerosOf z → ZerosOf (onShort r f z)
+zeros-short Short.Nothing f z p q = q
+zeros-short (Short.Activity a) f z p q = p a
 
 zeros-plan : (p : Plan) (psi : Clock) (slack : ℕ) (ts : List ℕ) → ZerosOf (openPlan p psi slack ts)
 unfolding openPlan

@@ -11,36 +11,15 @@ ghost use Rattle.plan.specs.Reading.{readPlan};
 ghost use Rattle.plan.specs.Limits.{InLimits};
 ghost use Rattle.activity.specs.Number.{activitiesVerdict};
 ghost use Rattle.judge.specs.Judge.{judgeOf};
+ghost use lib.ListN.{length};
+ghost use Rattle.drive.specs.Drive.{writtenInto, bufferAfter};
 ghost use Rattle.exports.specs.Codes.{codeOf, activitiesCode, writtenCode, backCode, backBuffer};
 
 // Document 01's number of a fault.
 fn number(f: Fault) -> u64
-    ensures { λ r. ⌜ (r ≡ numberOf f) × (r < 32) ⌝ }
+    ensures { λ r. ⌜ (r ≡ numberOf f) × (r < 256) ⌝ }
 {
-    match f {
-        Fault::Ends => 1,
-        Fault::Map => 2,
-        Fault::NoAutomaton => 7,
-        Fault::Count => 3,
-        Fault::Names => 4,
-        Fault::Duration => 8,
-        Fault::NotRising => 5,
-        Fault::LeftOver => 6,
-        Fault::Cycle => 11,
-        Fault::ActionsUnordered => 12,
-        Fault::NamedTwice => 13,
-        Fault::ActionUnheld => 14,
-        Fault::ClaimUnpaired => 15,
-        Fault::ArrowPastEnd => 16,
-        Fault::EventFirst => 17,
-        Fault::EventsUnordered => 18,
-        Fault::WayOutOfFinal => 21,
-        Fault::ForbiddenBranch => 22,
-        Fault::OutcomeMissing => 23,
-        Fault::NoWayToFinal => 24,
-        Fault::Unbalanced => 25,
-        Fault::TooManyPending => 26,
-    }
+    faults::number_of(f) as u64
 }
 
 // The place, or 2^32 - 1 where it is larger.
@@ -134,4 +113,12 @@ pub extern "C" fn jidlekuvo_write_back(bytes: &[u8], out: &mut [u8]) -> u64
             written_code(writing::write(plan, out))
         }
     }
+}
+
+// Drives a list of calls through a run, and writes a record for the opening and for each call: how many bytes it wrote.
+#[no_mangle]
+pub extern "C" fn jidlekuvo_drive(input: &[u8], out: &mut [u8]) -> usize
+    ensures { λ r. ⌜ (r ≡ length (writtenInto (now (out .entry)) (now (input .entry)))) × (now (out .exit) ≡ bufferAfter (now (out .entry)) (now (input .entry))) ⌝ }
+{
+    drive::drive(input, out)
 }

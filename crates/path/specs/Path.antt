@@ -10,10 +10,9 @@ use Rattle.plan.specs.declared.Plan.{Plan}
 use Rattle.automaton.specs.Next.{nextOf}
 use Rattle.automaton.specs.declared.Next.{Next}
 use Rattle.timing.specs.Times.{specified, at}
-use Rattle.timing.specs.Engine.{advanceOf}
+pub use Rattle.timing.specs.Engine.{takenBy}
 use Rattle.timing.specs.declared.Progress.{Progress}
 use Rattle.timing.specs.declared.Schedule.{Schedule}
-use Rattle.timing.specs.declared.Advanced.{Advanced}
 use Rattle.window.specs.declared.Phase.{Phase}
 use Rattle.window.specs.declared.Entry.{Entry}
 
@@ -43,11 +42,6 @@ activityNumber Output.Empty = 0
 activityNumber (Output.Activity a) = a
 
 -- ---- one transition and one path
-
--- transition t taken
-abbrev pub takenBy : Plan → ℕ → Progress → Advanced
-takenBy p t g =
-    advanceOf (p .resources) (emittedBy p (move (p .automaton) t .output)) (move (p .automaton) t .input) (move (p .automaton) t .to) g
 
 abbrev pub entriesBy : Plan → ℕ → Progress → List Entry
 entriesBy p t g =

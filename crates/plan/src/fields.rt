@@ -1,5 +1,4 @@
 // What reading a part of the plan file answers: the part and the offset past it, or a fault and its place.
-use crate::Activity;
 use crate::Automaton;
 use crate::Fault;
 use crate::Kind;

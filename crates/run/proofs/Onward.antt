@@ -1,15 +1,12 @@
 -- Further paths: each turn of `further` is the turn that the definition takes, and keeps the numbers within the limits.
 use mathlib.Core.Path.{_≡_, refl, sym, _∙_, ap, subst}
 use mathlib.Core.Bool.{true, false, true≢false}
-use Prim.Native.Nat.{ℕ, suc, _<_}
-use native.Mathlib.Omega.{arith}
+use Prim.Native.Nat.{ℕ, suc}
 use lib.Dec.{ltb}
 use lib.ListN.{length}
-use Rattle.plan.specs.Limits.{InLimits, InputNames}
 use Rattle.plan.specs.declared.Automaton.{Automaton}
-use Rattle.plan.specs.declared.Plan.{Plan}
-use Rattle.automaton.specs.Next.{nextOf, chosenOf}
-use Rattle.automaton.specs.States.{NextIs, next-is, ChosenIs, chosen-is}
+use Rattle.automaton.specs.Next.{chosenOf}
+use Rattle.automaton.specs.States.{ChosenIs, chosen-is}
 use Rattle.automaton.specs.declared.Next.{Next}
 use Rattle.automaton.specs.declared.Chosen.{Chosen}
 use Rattle.timing.specs.declared.Told.{Told}
@@ -22,21 +19,13 @@ use Rattle.path.specs.Laws.InTime.{loads}
 use Rattle.run.specs.declared.Run.{Run}
 use Rattle.run.specs.declared.Failure.{Failure}
 use Rattle.run.specs.declared.Loading.{Loading}
-use Rattle.run.specs.Loading.{loading, load, oldestTold, wayOn, onWay, onLoading, further}
+use Rattle.outcomes.specs.Told.{oldestTold}
+use Rattle.outcomes.specs.Way.{byChoice, byTold, wayOn}
+use Rattle.run.specs.Loading.{loading, load, onWay, onLoading, further}
 use Rattle.run.specs.Loads.{Loads, Loadable}
-use Rattle.run.specs.Inner.{byChoice, byTold, wayOf, hasFailed}
+use Rattle.run.specs.Inner.{wayOf, hasFailed}
 
 -- ---- the way on
-
--- the event that a state awaits is one of the plan's
-pub awaited-below : (p : Plan) → InLimits p → (s e : ℕ) → nextOf (p .automaton) s ≡ Next.Waits e → e < 16
-awaited-below p limits s e q = go (subst (NextIs (p .automaton) s) q (next-is (p .automaton) s))
-  where
-    go : NextIs (p .automaton) s (Next.Waits e) → e < 16
-    go (NextIs.waits o x) =
-        let h = subst (InputNames p) (x .input) (limits .moves (x .index) (x .leaves .low) .input) .0 in
-        let m = limits .events in
-        omega arith
 
 module _ (a : Automaton) (g : Progress) where
   choice-leads : (e o : ℕ) (c : Chosen) → ChosenIs a (g .state) e o c → Leads (a .count) (byChoice c e)
@@ -53,18 +42,6 @@ module _ (a : Automaton) (g : Progress) where
   way-leads Next.Ended = tt
   way-leads (Next.Goes t) = tt
   way-leads (Next.Waits e) = told-leads e (oldestTold g e)
-
-  pub way-ended : (n : Next) → n ≡ Next.Ended → Next.Ended ≡ wayOn a g n
-  unfolding wayOn
-  way-ended n q = rw q
-
-  pub way-goes : (n : Next) (t : ℕ) → n ≡ Next.Goes t → Next.Ended ≡ wayOn a g n
-  unfolding wayOn
-  way-goes n t q = rw q
-
-  pub way-waits : (n : Next) (e : ℕ) → n ≡ Next.Waits e → byTold a (g .state) e (oldestTold g e) ≡ wayOn a g n
-  unfolding wayOn
-  way-waits n e q = rw q
 
 pub way-loads : (run : Run) → Loads run → (w : Next) → w ≡ wayOf run → Loadable run w
 way-loads run fits w q = record { loads = fits; leads = subst (Leads (run .plan .automaton .count)) (sym q) (way-leads (run .plan .automaton) (run .progress) _) }

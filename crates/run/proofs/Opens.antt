@@ -1,15 +1,12 @@
 -- An opening, check by check; its first run can be loaded; and a judged plan is within the limits.
 use mathlib.Core.Path.{_≡_, refl, sym, ap, _∙_}
-use mathlib.Core.Bool.{Bool, true, false, _||_}
-use mathlib.Core.List.{List, [], _∷_, _++_, map}
-use Prim.Native.Nat.{ℕ, zero, suc, _-_, _<_, _≤_}
-use native.Mathlib.Omega.{arith}
-use borrow.Author.Tests.{ltb-false, lt-ltb, le-ltb, eq-eqb, ne-eqb}
-use lib.Dec.{ltb}
-use lib.ListN.{length, getD, replicate}
+use mathlib.Core.Bool.{true, false}
+use mathlib.Core.List.{List}
+use Prim.Native.Nat.{ℕ, _<_, _≤_}
+use borrow.Author.Tests.{lt-ltb, le-ltb, eq-eqb, ne-eqb}
+use lib.ListN.{length, getD}
 use Rattle.time.specs.Time.{horizon}
 use Rattle.time.specs.declared.Clock.{Clock}
-use Rattle.time.specs.declared.Specified.{Specified}
 use Rattle.plan.specs.Limits.{InLimits}
 use Rattle.plan.specs.declared.Plan.{Plan}
 use Rattle.plan.specs.declared.Fault.{Fault}
@@ -17,66 +14,30 @@ use Rattle.plan.specs.declared.Verdict.{Verdict}
 use Rattle.plan.specs.declared.PlanRead.{PlanRead}
 use Rattle.judge.specs.Judge.{accepted, judgeOf}
 use Rattle.judge.specs.Laws.{passed, read-limits}
-use Rattle.timing.specs.Times.{specified, at}
 use Rattle.run.specs.declared.Unopened.{Unopened}
-use Rattle.run.specs.declared.openings.Short.{Short}
+use Rattle.opening.specs.declared.Short.{Short}
+use Rattle.opening.specs.Given.{atFirst, availabilities, anyAbove}
+use Rattle.opening.specs.Short.{onShort}
+use Rattle.opening.specs.Laws.{first-in}
 use Rattle.run.specs.Limits.{slackInLimits}
 use Rattle.run.specs.Loads.{Loads}
-use Rattle.run.specs.Opening.{atFirst, availabilities, fresh, anyAbove, Shortest, onShortest, unopened, openPlan, openJudged, openOf}
-use Rattle.run.specs.Short.{shortOf, firstPath}
+use Rattle.run.specs.Opening.{fresh, unopened, openPlan, openJudged, openOf}
+use Rattle.run.specs.Inner.{firstPath}
 
 -- ---- the run at its opening
 
-all-same : {A : Type 0} (n j : ℕ) (x : A) → getD (replicate n x) j x ≡ x
-all-same zero j x = refl
-all-same (suc n) zero x = refl
-all-same (suc n) (suc j) x = all-same n j x
-
-given-at : (ts : List ℕ) (n r : ℕ) → at (map specified ts ++ replicate n (specified 0)) r ≡ getD ts r 0
-given-at [] n r = ap (λ (s : Specified). s .0) (all-same n r (specified 0))
-given-at (t ∷ ts) n zero = refl
-given-at (t ∷ ts) n (suc r) = given-at ts n r
-
-or-false : (a b : Bool) → a || b ≡ false → (a ≡ false) × (b ≡ false)
-or-false true b e = absurd (let z : _≡_ {A = ℕ} 0 1 = cc in omega arith)
-or-false false b e = (refl, e)
-
-none-above : (ts : List ℕ) → anyAbove ts ≡ false → (r : ℕ) → getD ts r 0 ≤ horizon
-unfolding anyAbove
-none-above [] e r = omega arith
-none-above (t ∷ ts) e zero = ltb-false horizon t (or-false (ltb horizon t) (anyAbove ts) e .0)
-none-above (t ∷ ts) e (suc r) = none-above ts (or-false (ltb horizon t) (anyAbove ts) e .1) r
-
 pub fresh-loads : (p : Plan) → InLimits p → (psi : Clock) (slack : ℕ) (ts : List ℕ) → anyAbove ts ≡ false
     → Loads (fresh p psi slack (atFirst (availabilities ts) (p .automaton .initial)))
-fresh-loads p limits psi slack ts early = record {
-  plan = limits;
-  progress = record {
-    available = λ r l. (let u = given-at ts (16 - length ts) r in let x = none-above ts early r in omega arith);
-    latest = λ e l. (let u = ap (λ (s : Specified). s .0) (all-same 16 e (specified 0)) in omega arith);
-    lengths = λ e l. (let u = all-same {A = ℕ} 16 e 0 in omega arith);
-    pending = λ e i l m. absurd (let u = all-same {A = ℕ} 16 e 0 in omega arith);
-    position = omega arith;
-    state = limits .initial;
-  };
-}
+fresh-loads p limits psi slack ts early = record { plan = limits; progress = first-in p limits ts early }
 
 -- ---- 33
 
-abbrev onShort : {A : Type 0} → Short → (ℕ → A) → A → A
-onShort Short.Nothing f z = z
-onShort (Short.Activity a) f z = f a
+module _ {A : Type 0} (x : Short) (f : ℕ → A) (z : A) (s : Short) (e : s ≡ x) where
+  pub none-short : s ≡ Short.Nothing → onShort x f z ≡ z
+  none-short g = ap (λ (y : Short). onShort y f z) (sym e ∙ g)
 
-on-shortest : {A : Type 0} (x : Shortest) (f : ℕ → A) (z : A) → onShort (shortOf x) f z ≡ onShortest x f z
-on-shortest Shortest.Nothing f z = refl
-on-shortest (Shortest.Activity a) f z = refl
-
-module _ {A : Type 0} (x : Shortest) (f : ℕ → A) (z : A) (s : Short) (e : s ≡ shortOf x) where
-  pub none-short : s ≡ Short.Nothing → onShortest x f z ≡ z
-  none-short g = sym (on-shortest x f z) ∙ ap (λ (y : Short). onShort y f z) (sym e ∙ g)
-
-  pub one-short : (a : ℕ) → s ≡ Short.Activity a → onShortest x f z ≡ f a
-  one-short a g = sym (on-shortest x f z) ∙ ap (λ (y : Short). onShort y f z) (sym e ∙ g)
+  pub one-short : (a : ℕ) → s ≡ Short.Activity a → onShort x f z ≡ f a
+  one-short a g = ap (λ (y : Short). onShort y f z) (sym e ∙ g)
 
 -- ---- 30 to 32
 

@@ -12,7 +12,7 @@ use Rattle.timing.specs.Limits.{InstanceInLimits}
 use Rattle.window.specs.declared.Entry.{Entry}
 use Rattle.window.specs.Tests.{by-test}
 use Rattle.run.specs.declared.Run.{Run}
-use Rattle.run.specs.Calls.{tell, isInstance, toldFrom}
+use Rattle.outcomes.specs.Told.{tell, isInstance, toldFrom}
 use Rattle.run.specs.Loads.{Loads}
 use Rattle.run.specs.Inner.{toldRun}
 

@@ -9,8 +9,6 @@ use Rattle.time.specs.declared.Clock.{Clock}
 use Rattle.plan.specs.Plan.{isFinal, outcomesOf}
 use Rattle.plan.specs.Limits.{nodeAt}
 use Rattle.plan.specs.declared.Kind.{Kind}
-use Rattle.timing.specs.declared.Told.{Told}
-use Rattle.timing.specs.declared.Instance.{Instance}
 use Rattle.timing.specs.declared.Progress.{Progress}
 use Rattle.window.specs.declared.Entry.{Entry}
 use Rattle.run.specs.declared.Stop.{Stop}
@@ -23,7 +21,7 @@ use Rattle.run.specs.declared.Call.{Call}
 use Rattle.run.specs.declared.Failure.{Failure}
 use Rattle.run.specs.declared.Loading.{Loading}
 use Rattle.window.specs.Window.{vacant, isStarted, startedOf, isOverdue, isLate, isDue, isNode, startsBefore, endsBefore, onFound, first, isEmpty}
-use Rattle.timing.specs.Queues.{noInstance, pendingOf}
+use Rattle.outcomes.specs.Told.{toldOf}
 use Rattle.run.specs.Loading.{further, mostPending}
 use Rattle.run.specs.Limits.{runInLimits}
 
@@ -83,31 +81,6 @@ unfoldable pub completed : Run → Clock → ℕ → ℕ → Answer
 completed run t position node = reported run position node (λ i e. completedBy run t i (kindOf run e))
 
 -- ---- outcomes
-
-abbrev pub tell : Instance → ℕ → Instance
-tell x o = record { position = x .position; node = x .node; end = x .end; told = Told.Outcome o }
-
--- the instance of the node (position, node)
-unfoldable pub isInstance : ℕ → ℕ → Instance → Bool
-isInstance position node x = eqb (x .position) position && eqb (x .node) node
-
--- the outcome o of the instance (position, node), among the k pending ones from place i on
-unfoldable pub toldFrom : ℕ → ℕ → ℕ → ℕ → ℕ → List Instance → List Instance
-toldFrom position node o i zero xs = xs
-toldFrom position node o i (suc k) xs =
-    cond (isInstance position node (getD xs i noInstance))
-    (set xs i (tell (getD xs i noInstance) o))
-    (toldFrom position node o (i + 1) k xs)
-
-abbrev pub toldOf : Progress → ℕ → Entry → ℕ → Progress
-toldOf g e x o = record {
-  available = g .available;
-  latest = g .latest;
-  lengths = g .lengths;
-  pending = toldFrom (x .position) (x .node) o (8 * e) (pendingOf g e) (g .pending);
-  position = g .position;
-  state = g .state;
-}
 
 abbrev pub haltedBy : Run → Stop → Run
 haltedBy run s =

@@ -1,28 +1,31 @@
--- What the inner functions of loading and of an outcome answer.
+-- What the inner functions of an opening, of loading and of an outcome answer.
 use mathlib.Core.Bool.{Bool, true, false}
+use mathlib.Core.List.{List}
 use Prim.Native.Nat.{ℕ}
 use Rattle.time.specs.declared.Clock.{Clock}
 use Rattle.plan.specs.declared.Kind.{Kind}
-use Rattle.plan.specs.declared.Automaton.{Automaton}
-use Rattle.automaton.specs.Next.{nextOf, chosenOf}
+use Rattle.plan.specs.declared.Plan.{Plan}
+use Rattle.automaton.specs.Next.{nextOf}
 use Rattle.automaton.specs.declared.Next.{Next}
-use Rattle.automaton.specs.declared.Chosen.{Chosen}
-use Rattle.timing.specs.declared.Told.{Told}
 use Rattle.window.specs.declared.Entry.{Entry}
 use Rattle.run.specs.declared.Run.{Run}
 use Rattle.run.specs.declared.Answer.{Answer}
+use Rattle.run.specs.declared.Unopened.{Unopened}
+use Rattle.run.specs.declared.Opened.{Opened}
 use Rattle.run.specs.declared.Failure.{Failure}
 use Rattle.run.specs.declared.Loading.{Loading}
-use Rattle.run.specs.Loading.{onTold, onChosen, wayOn}
-use Rattle.run.specs.Calls.{toldOf, cleared, afterLoading, learnsBy}
+use Rattle.outcomes.specs.Way.{wayOn}
+use Rattle.outcomes.specs.Told.{toldOf}
+use Rattle.opening.specs.Given.{atFirst, availabilities}
+use Rattle.opening.specs.Short.{shortFrom, onShort}
+use Rattle.run.specs.Opening.{unopened, begin, fresh}
+use Rattle.run.specs.Calls.{cleared, afterLoading, learnsBy}
 
--- the transition of an outcome of event e, if the state has one
-abbrev pub byChoice : Chosen → ℕ → Next
-byChoice c e = onChosen c Next.Goes (Next.Waits e)
-
--- the way on by what was reported of the oldest instance of event e
-abbrev pub byTold : Automaton → ℕ → ℕ → Told → Next
-byTold a s e t = onTold t (λ o. byChoice (chosenOf a s e o) e) (Next.Waits e)
+-- "Opening checks run 30 to 33, then 44, 43 as refusals": from 33 on
+unfoldable pub firstPath : Plan → Clock → ℕ → List ℕ → Opened
+firstPath p psi slack ts =
+    onShort (shortFrom p slack 0 (p .activities)) (λ a. unopened (Unopened.Short a))
+    (begin (fresh p psi slack (atFirst (availabilities ts) (p .automaton .initial))))
 
 -- the way on of a run
 abbrev pub wayOf : Run → Next

@@ -3,7 +3,6 @@ pub mod Numbers
 pub mod Limits
 pub mod Loading
 pub mod Opening
-pub mod Short
 pub mod Calls
 pub mod Checks
 pub mod Loads

@@ -4,18 +4,14 @@ use mathlib.Core.Bool.{cond}
 use Prim.Native.Nat.{ℕ, zero, suc}
 use lib.Dec.{ltb}
 use lib.ListN.{length}
-use Rattle.plan.specs.declared.Automaton.{Automaton}
-use Rattle.automaton.specs.Next.{nextOf, chosenOf}
+use Rattle.automaton.specs.Next.{nextOf}
 use Rattle.automaton.specs.declared.Next.{Next}
-use Rattle.automaton.specs.declared.Chosen.{Chosen}
-use Rattle.timing.specs.Queues.{pendingOf, instanceOf}
-use Rattle.timing.specs.declared.Told.{Told}
-use Rattle.timing.specs.declared.Progress.{Progress}
 use Rattle.run.specs.declared.Run.{Run}
 use Rattle.run.specs.declared.Failure.{Failure}
 use Rattle.run.specs.declared.Loading.{Loading}
 use Rattle.window.specs.Window.{placed, vacancies}
 use Rattle.path.specs.Path.{Path, pathFrom, longestPath}
+use Rattle.outcomes.specs.Way.{wayOn}
 
 -- ---- loading
 
@@ -44,25 +40,6 @@ unfoldable pub load : Run → Next → Loading
 load run next = loadPath run (pathFrom (run .plan) longestPath next (run .progress))
 
 -- ---- further paths
-
--- what was reported of the oldest pending instance of event e
-abbrev pub oldestTold : Progress → ℕ → Told
-oldestTold g e = cond (ltb 0 (pendingOf g e)) (instanceOf g e 0 .told) Told.Nothing
-
-abbrev pub onTold : {A : Type 0} → Told → (ℕ → A) → A → A
-onTold Told.Nothing f z = z
-onTold (Told.Outcome o) f z = f o
-
-abbrev pub onChosen : {A : Type 0} → Chosen → (ℕ → A) → A → A
-onChosen Chosen.Nothing f z = z
-onChosen (Chosen.Move t) f z = f t
-
--- the way on: at a waiting state the transition of the outcome that was reported of the oldest instance
-unfoldable pub wayOn : Automaton → Progress → Next → Next
-wayOn a g Next.Ended = Next.Ended
-wayOn a g (Next.Goes t) = Next.Ended
-wayOn a g (Next.Waits e) =
-    onTold (oldestTold g e) (λ o. onChosen (chosenOf a (g .state) e o) Next.Goes (Next.Waits e)) (Next.Waits e)
 
 abbrev pub onWay : {A : Type 0} → Next → (ℕ → A) → A → A
 onWay Next.Ended f z = z

@@ -8,9 +8,6 @@ use lib.ListN.{length, replicate}
 use Rattle.time.specs.Time.{horizon}
 use Rattle.time.specs.declared.Specified.{Specified}
 use Rattle.time.specs.declared.Clock.{Clock}
-use Rattle.plan.specs.Plan.{activityOf}
-use Rattle.plan.specs.declared.Kind.{Kind}
-use Rattle.plan.specs.declared.Node.{Node}
 use Rattle.plan.specs.declared.Plan.{Plan}
 use Rattle.plan.specs.declared.Verdict.{Verdict}
 use Rattle.plan.specs.declared.PlanRead.{PlanRead}
@@ -27,27 +24,12 @@ use Rattle.run.specs.declared.Failure.{Failure}
 use Rattle.run.specs.declared.Loading.{Loading}
 use Rattle.window.specs.Window.{vacant}
 use Rattle.timing.specs.Times.{specified}
-use Rattle.timing.specs.Queues.{noInstance}
 use Rattle.run.specs.Limits.{slackInLimits}
-use Rattle.path.specs.Path.{isWork}
+use Rattle.opening.specs.Given.{atFirst, availabilities, anyAbove}
+use Rattle.opening.specs.Short.{shortFrom, onShort}
 use Rattle.run.specs.Loading.{load}
 
 -- ---- the run at its opening
-
--- a behaviour that stands at a state before its first transition
-abbrev pub atFirst : List Specified → ℕ → Progress
-atFirst available s = record {
-  available = available;
-  latest = replicate 16 (specified 0);
-  lengths = replicate 16 0;
-  pending = replicate 128 noInstance;
-  position = 0;
-  state = s;
-}
-
--- availabilities in an array of 16, zeros past them
-abbrev pub availabilities : List ℕ → List Specified
-availabilities ts = map specified ts ++ replicate (16 - length ts) (specified 0)
 
 -- "0 at opening" is the last reading
 abbrev pub fresh : Plan → Clock → ℕ → Progress → Run
@@ -60,31 +42,6 @@ zeroRun = fresh zeroPlan (record { 0 = 0 }) 0 (atFirst (replicate 16 (specified 
 
 abbrev pub unopened : Unopened → Opened
 unopened u = record { opening = Opening.Refused u; run = zeroRun }
-
--- ---- the checks, 30 to 33
-
--- some availability is above 10^15
-unfoldable pub anyAbove : List ℕ → Bool
-anyAbove [] = false
-anyAbove (t ∷ ts) = ltb horizon t || anyAbove ts
-
--- "an action or event with duration not above the slack"
-unfoldable pub anyShort : ℕ → List Node → Bool
-anyShort slack [] = false
-anyShort slack (n ∷ ns) = (isWork (n .kind) && leb (n .duration) slack) || anyShort slack ns
-
--- "the lowest such activity": among k activities from a on
-pub data Shortest : Type 0 where
-  Nothing : Shortest
-  Activity : ℕ → Shortest
-
-unfoldable pub shortFrom : Plan → ℕ → ℕ → ℕ → Shortest
-shortFrom p slack a zero = Nothing
-shortFrom p slack a (suc k) = cond (anyShort slack (activityOf p a)) (Activity a) (shortFrom p slack (a + 1) k)
-
-abbrev pub onShortest : {A : Type 0} → Shortest → (ℕ → A) → A → A
-onShortest Nothing f z = z
-onShortest (Activity a) f z = f a
 
 -- ---- the opening
 
@@ -106,7 +63,7 @@ openPlan p psi slack ts =
     cond (eqb (length ts) (p .resources))
     (cond (ltb horizon (psi .0) || anyAbove ts) (unopened Unopened.Time)
     (cond (slackInLimits slack)
-    (onShortest (shortFrom p slack 0 (p .activities)) (λ a. unopened (Unopened.Short a))
+    (onShort (shortFrom p slack 0 (p .activities)) (λ a. unopened (Unopened.Short a))
     (begin (fresh p psi slack (atFirst (availabilities ts) (p .automaton .initial)))))
     (unopened Unopened.Slack)))
     (unopened Unopened.Availabilities)

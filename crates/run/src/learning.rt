@@ -11,7 +11,6 @@ use crate::Stop;
 use crate::calls;
 use crate::checks;
 use crate::paths;
-use crate::told;
 use plan::Kind;
 use time::Clock;
 use window::Entry;
@@ -80,7 +79,7 @@ fn told_run(run: Run, t: Clock, i: usize, x: Entry, e: u8, o: u8) -> Run
     ensures { λ r. ⌜ r ≡ toldRun run t i x e o ⌝ }
 {
     let g = run.progress;
-    let progress = told::told_of(g, e, x, o);
+    let progress = outcomes::told_of(g, e, x, o);
     let mut window = run.window;
     let free = window::vacant();
     window[i] = free;

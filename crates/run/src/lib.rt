@@ -9,7 +9,6 @@ mod checks;
 mod learning;
 mod openings;
 mod paths;
-mod told;
 
 use plan::Fault;
 use plan::Plan;

@@ -3,18 +3,11 @@ use crate::Failure;
 use crate::Loading;
 use crate::Run;
 use crate::calls;
-use crate::told;
-use automaton::Chosen;
 use automaton::Next;
-use automaton::chosen_of;
-use automaton::next_of;
-use plan::Automaton;
-use timing::Told;
 ghost use mathlib.Core.Path.{_≡_};
-ghost use Prim.Native.Nat.{_≤_};
 ghost use Rattle.run.specs.Loading.{load, further, mostPending};
 ghost use Rattle.run.specs.Loads.{Loads, Loadable};
-ghost use Rattle.run.specs.Inner.{byChoice, byTold, wayOf, hasFailed};
+ghost use Rattle.run.specs.Inner.{wayOf, hasFailed};
 
 // One path: "44 ..; then 43 the window would pass 512"; "the failing path adds nothing".
 pub fn load(run: Run, next: Next) -> Loading
@@ -49,53 +42,14 @@ pub fn load(run: Run, next: Next) -> Loading
     }
 }
 
-// The transition of an outcome of event e, if the state has one.
-fn by_choice(chosen: Chosen, e: u8) -> Next
-    ensures { λ r. ⌜ r ≡ byChoice chosen e ⌝ }
-{
-    match chosen {
-        Chosen::Nothing => Next::Waits(e),
-        Chosen::Move(t) => Next::Goes(t),
-    }
-}
-
-// By what was reported of the oldest instance of event e.
-fn by_told(a: Automaton, s: u8, e: u8, told: Told) -> Next
-    requires { ⌜ a .count ≤ 256 ⌝ }
-    ensures { λ r. ⌜ r ≡ byTold a s e told ⌝ }
-{
-    match told {
-        Told::Nothing => {
-            return Next::Waits(e);
-        }
-        Told::Outcome(o) => {
-            let chosen = chosen_of(a, s, e, o);
-            return by_choice(chosen, e);
-        }
-    }
-}
-
 // "further ones while their outcomes are already reported": the way on, if there is one.
 fn way_of(run: Run) -> Next
     requires { ⌜ Loads run ⌝ }
     ensures { λ r. ⌜ r ≡ wayOf run ⌝ }
 {
     let plan = run.plan;
-    let automaton = plan.automaton;
-    let g = run.progress;
-    let next = next_of(automaton, g.state);
-    match next {
-        Next::Ended => {
-            return Next::Ended;
-        }
-        Next::Goes(_) => {
-            return Next::Ended;
-        }
-        Next::Waits(e) => {
-            let told = told::oldest_told(g, e);
-            return by_told(automaton, g.state, e, told);
-        }
-    }
+    let progress = run.progress;
+    outcomes::way_on(plan, progress)
 }
 
 fn has_failed(failure: Failure) -> bool

@@ -1,2 +1,3 @@
--- A limit that every answer of a section keeps.
+-- A limit that every answer of a section keeps, and the parts of the section of activities.
 pub mod Counts
+pub mod Parts

@@ -1,4 +1,6 @@
 // Reading the sections of the plan file before the automaton.
+use crate::parts::Part;
+use crate::parts::part_at;
 use plan::Fault;
 use plan::Node;
 use plan::fields::ActivitiesRead;
@@ -11,6 +13,9 @@ ghost use Prim.Native.Nat.{_≤_};
 ghost use lib.ListN.{replicate};
 ghost use Rattle.plan.specs.Nodes.{zeroNode};
 ghost use Rattle.plan.specs.Sections.{noPeripherals, belongsAt, peripheralsAt, noEvents, outcomesAt, eventsAt, noActivities, activitiesLoop, activitiesAt};
+ghost use Rattle.sections.specs.Parts.{allActivities};
+
+mod parts;
 
 fn no_peripherals(fault: Fault, place: usize) -> PeripheralsRead
     ensures { λ r. ⌜ r ≡ noPeripherals fault place ⌝ }
@@ -124,6 +129,17 @@ fn no_activities(fault: Fault, place: usize) -> ActivitiesRead
     }
 }
 
+fn all_activities(off: usize, count: u8, sizes: [u8; 32], nodes: [Node; 2048]) -> ActivitiesRead
+    ensures { λ r. ⌜ r ≡ allActivities off count sizes nodes ⌝ }
+{
+    ActivitiesRead {
+        step: Step::Read(off),
+        count,
+        sizes,
+        nodes,
+    }
+}
+
 // The activities, one after the other: `left` nodes of the last activity begun are still to be read, the next to place i.
 fn activities_loop(
     bytes: &[u8],
@@ -145,37 +161,24 @@ fn activities_loop(
     let mut size: u8 = 0;
     let mut left: u8 = 0;
     loop {
-        if left > 0 {
-            let r = nodes::node_at(bytes, off, peripherals, resources, events, size);
-            let v = r.step;
-            match v {
-                Step::Refused(f, p) => {
-                    return no_activities(f, p);
-                }
-                Step::Read(next) => {
-                    let node = r.node;
-                    all[i] = node;
-                    off = next;
-                    i += 1;
-                    left -= 1;
-                    continue;
-                }
-            }
-        }
-        if a == count {
-            return ActivitiesRead {
-                step: Step::Read(off),
-                count,
-                sizes,
-                nodes: all,
-            };
-        }
-        let f = fields::count_at(bytes, off, 64);
-        match f {
-            Field::Refused(f, p) => {
+        let more = count - a;
+        let r = part_at(bytes, off, peripherals, resources, events, more, size, left);
+        let v = r.part;
+        match v {
+            Part::Refused(f, p) => {
                 return no_activities(f, p);
             }
-            Field::Value(x, next) => {
+            Part::End => {
+                return all_activities(off, count, sizes, all);
+            }
+            Part::Node(next) => {
+                let node = r.node;
+                all[i] = node;
+                off = next;
+                i += 1;
+                left -= 1;
+            }
+            Part::Activity(x, next) => {
                 let w = a as usize;
                 sizes[w] = x;
                 off = next;

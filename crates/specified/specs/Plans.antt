@@ -26,9 +26,8 @@ use Rattle.behaviour.specs.Laws.TimesEqual.{Equal}
 use Rattle.behaviour.specs.Laws.Plans.{good-path, counted-path}
 use Rattle.timing.specs.declared.Progress.{Progress}
 use Rattle.timing.specs.declared.Schedule.{Schedule}
-use Rattle.timing.specs.declared.Advanced.{Advanced}
 use Rattle.timing.specs.Times.{at, unscheduled}
-use Rattle.timing.specs.Engine.{advanceOf}
+use Rattle.timing.specs.Engine.{takenBy}
 use Rattle.specified.specs.Words.{Engine, opened, advanced, Opening, Fitting, Few, traceBy, engine-equal}
 use Rattle.behaviour.specs.Combined as Combined
 
@@ -37,11 +36,6 @@ abbrev pub AtMostEight : Plan → Type 0
 AtMostEight p = (is : List ℕ) (q e : ℕ) → Follows p (p .automaton .initial) is q → emissions e (wordOf p is) ≤ times e (wordOf p is) + 8
 
 -- ---- the engine along some transitions; the latest stands first
-
--- transition i
-abbrev pub takenBy : Plan → ℕ → Progress → Advanced
-takenBy p i g =
-    advanceOf (p .resources) (emittedBy p (move (p .automaton) i .output)) (move (p .automaton) i .input) (move (p .automaton) i .to) g
 
 -- what is stored after all of them
 abbrev pub progressAfter : Plan → Progress → List ℕ → Progress

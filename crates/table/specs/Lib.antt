@@ -1,3 +1,6 @@
 -- The lines of the program timetable, as text for an input.
-pub mod Text
 pub mod Timetable
+-- the same, one turn at a time
+pub mod Turn
+pub mod Answers
+pub mod Laws

@@ -6,10 +6,11 @@ use lib.ListN.{length, getD, set}
 use lib.Dec.{ltb}
 use Rattle.time.specs.Time.{horizon}
 use Rattle.time.specs.declared.Specified.{Specified}
-use Rattle.plan.specs.Plan.{pastNode}
+use Rattle.plan.specs.Plan.{pastNode, move, emittedBy}
 use Rattle.plan.specs.declared.Kind.{Kind}
 use Rattle.plan.specs.declared.Node.{Node}
 use Rattle.plan.specs.declared.Input.{Input}
+use Rattle.plan.specs.declared.Plan.{Plan}
 use Rattle.timing.specs.declared.Progress.{Progress}
 use Rattle.timing.specs.declared.Schedule.{Schedule}
 use Rattle.timing.specs.declared.Advanced.{Advanced}
@@ -112,3 +113,8 @@ timedOf resources a to g = emitsOf resources a to (scheduleOf (g .available) (g 
 abbrev pub advanceOf : ℕ → List Node → Input → ℕ → Progress → Advanced
 advanceOf resources a input to g =
     timedOf resources a to (heldOf resources (floorOf input g) (processedOf input g))
+
+-- transition t of a plan, taken
+abbrev pub takenBy : Plan → ℕ → Progress → Advanced
+takenBy p t g =
+    advanceOf (p .resources) (emittedBy p (move (p .automaton) t .output)) (move (p .automaton) t .input) (move (p .automaton) t .to) g

@@ -3,11 +3,16 @@ use time::Clock;
 use time::Specified;
 ghost use mathlib.Core.Path.{_≡_};
 ghost use Prim.Native.Nat.{_≤_, _<_};
-ghost use lib.ListN.{take};
 ghost use Rattle.time.specs.Time.{horizon};
-ghost use Rattle.window.specs.Window.{vacant, isFree, startedOf, isOverdue, isLate, isDue, isNode, before, startsBefore, endsBefore, better, first, isEmpty, placed, vacancies};
+ghost use Rattle.window.specs.Window.{vacant, isFree, startedOf, isOverdue, isLate, isDue, isNode, before, startsBefore, endsBefore, better, first};
 ghost use Rattle.window.specs.Times.{InTime, AllInTime};
 ghost use Rattle.window.specs.Search.{timeOf, sooner};
+
+mod places; // the whole window
+
+pub use places::is_empty;
+pub use places::place;
+pub use places::vacancies;
 
 // What a place of the window holds: nothing, a loaded node, or a started one.
 pub enum Phase {
@@ -77,7 +82,7 @@ pub fn is_free(e: Entry) -> bool
     match phase {
         Phase::Free => true,
         Phase::Loaded => false,
-        Phase::Started => false,
+        Phase::Started => false, // it keeps its place until it is reported
     }
 }
 
@@ -248,60 +253,4 @@ pub fn first_node(window: [Entry; 512], position: u32, node: u8) -> Found
         }
     }
     best
-}
-
-// ---- the whole window
-
-pub fn is_empty(window: [Entry; 512]) -> bool
-    ensures { λ r. ⌜ r ≡ isEmpty window ⌝ }
-{
-    let mut i: usize = 0;
-    while i < 512 {
-        let e = window[i];
-        if is_free(e) {
-            i += 1;
-        } else {
-            return false;
-        }
-    }
-    true
-}
-
-// How many places are free.
-pub fn vacancies(window: [Entry; 512]) -> usize
-    ensures { λ r. ⌜ r ≡ vacancies window ⌝ }
-{
-    let mut n: usize = 0;
-    let mut i: usize = 512;
-    while 0 < i {
-        i -= 1;
-        let e = window[i];
-        if is_free(e) {
-            n += 1;
-        }
-    }
-    n
-}
-
-// The first `count` of the entries, in order, in the lowest free places.
-pub fn place(mut window: [Entry; 512], entries: [Entry; 512], count: usize) -> [Entry; 512]
-    ensures { λ r. ⌜ r ≡ placed window (take count entries) ⌝ }
-{
-    let mut at: usize = 0;
-    let mut next: usize = 0;
-    while at < 512 {
-        if count <= next {
-            return window;
-        }
-        let w = window[at];
-        if is_free(w) {
-            let e = entries[next];
-            window[at] = e;
-            next += 1;
-            at += 1;
-        } else {
-            at += 1;
-        }
-    }
-    window
 }

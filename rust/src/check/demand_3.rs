@@ -1,27 +1,40 @@
 //! Demand 3: "a single claim about the whole list, not one per call". The claims are read off the
 //! log; the word and its combined activity come from the log alone.
 
+use super::claims::{Breach, Claim};
+use super::host::{HostSide, StartedNode};
 use super::log::{Answered, Log};
 use super::told::{Identity, Told};
 use crate::plan_file::{Kind, Plan};
 use crate::run::{Reply, Request};
 use crate::specified_times::combined::Member;
 use crate::specified_times::NodeTime;
-use std::collections::{BTreeMap, BTreeSet};
+use std::collections::BTreeMap;
+
+/// What a log says about demand 3.
+pub struct Judged {
+    /// Every breach, in the order of the calls.
+    pub breaches: Vec<Breach>,
+    /// The host's side over the whole list.
+    pub host: HostSide,
+}
 
 struct Reader<'a> {
     log: &'a Log,
     told: Told<'a>,
     executed: Vec<NodeTime>,
-    /// Started nodes with the reading of the ask.
-    started: BTreeMap<Identity, u64>,
+    /// Started nodes with the index of the ask.
+    started: BTreeMap<Identity, usize>,
     /// Reported nodes with the index of the call.
     reported: BTreeMap<Identity, usize>,
     loading_failed: bool,
+    /// The call being read; None at the opening.
+    call: Option<usize>,
+    breaches: Vec<Breach>,
 }
 
-/// Checks every claim on a log whose opening was accepted.
-pub fn check(plan: &Plan, log: &Log) -> Result<(), String> {
+/// Reads a log whose opening was accepted.
+pub fn judged(plan: &Plan, log: &Log) -> Judged {
     let mut reader = Reader {
         log,
         told: Told::nothing(plan),
@@ -29,13 +42,25 @@ pub fn check(plan: &Plan, log: &Log) -> Result<(), String> {
         started: BTreeMap::new(),
         reported: BTreeMap::new(),
         loading_failed: false,
+        call: None,
+        breaches: Vec::new(),
     };
     reader.word_grows();
-    reader.window_is_what_is_unreported(&log.window)?;
+    reader.window_is_what_is_unreported(&log.window);
     for (index, entry) in log.calls.iter().enumerate() {
-        reader.read(index, entry).map_err(|what| format!("call {index} {entry:?}: {what}"))?;
+        reader.call = Some(index);
+        reader.read(index, entry);
     }
-    reader.host_side()
+    reader.no_stop_if_the_host_keeps_its_side();
+    Judged { host: reader.host_side(&log.calls), breaches: reader.breaches }
+}
+
+/// Checks every claim on a log whose opening was accepted.
+pub fn check(plan: &Plan, log: &Log) -> Result<(), String> {
+    match judged(plan, log).breaches.first() {
+        Some(breach) => Err(breach.told()),
+        None => Ok(()),
+    }
 }
 
 impl Reader<'_> {
@@ -49,12 +74,16 @@ impl Reader<'_> {
         self.executed.iter().copied().find(|n| (n.position, n.node) == of)
     }
 
-    fn read(&mut self, index: usize, entry: &Answered) -> Result<(), String> {
+    fn breaks(&mut self, claim: Claim, detail: impl Into<String>) {
+        self.breaches.push(Breach { claim, call: self.call, detail: detail.into() });
+    }
+
+    fn read(&mut self, index: usize, entry: &Answered) {
         match entry.reply {
             // "no call in a list as in demand 3 gets 50 after an accepted opening"
-            Reply::Refused(50) => return Err("50 after an accepted opening".into()),
+            Reply::Refused(50) => self.breaks(Claim::Never50, format!("{:?}", entry.call)),
             Reply::Start { position, activity, node } => {
-                self.read_start(entry.call.reading, (position as u64, node), activity)?
+                self.read_start(index, entry, (position as u64, node), activity)
             }
             Reply::Taken => self.read_report(index, entry),
             Reply::Stopped(stop) if stop.node.is_none() && !self.loading_failed => {
@@ -63,11 +92,10 @@ impl Reader<'_> {
             }
             _ => {}
         }
-        self.done_exactly_at_the_end(entry)?;
+        self.done_exactly_at_the_end(entry);
         if !self.loading_failed {
-            self.window_is_what_is_unreported(&entry.window)?;
+            self.window_is_what_is_unreported(&entry.window);
         }
-        Ok(())
     }
 
     /// "It is reported by its completion or outcome that is answered taken, or answered stopped
@@ -86,101 +114,92 @@ impl Reader<'_> {
         }
     }
 
-    /// Started once, of the word, within its slack, and after everything before it was reported.
-    fn read_start(&mut self, reading: u64, of: Identity, activity: u8) -> Result<(), String> {
-        if self.started.insert(of, reading).is_some() {
-            return Err("started twice".into());
+    /// Started by an ask, once, of the word, within its slack, and after everything before it was
+    /// reported.
+    fn read_start(&mut self, index: usize, entry: &Answered, of: Identity, activity: u8) {
+        if entry.call.request != Request::Ask {
+            self.breaks(Claim::StartedByAnAsk, format!("{:?}", entry.call));
         }
-        let Some(time) = self.find(of) else { return Err("started, but not of the word".into()) };
-        let due = self.log.opening.psi + time.start;
-        if time.activity != activity || reading < due || reading > due + self.log.opening.slack {
-            return Err(format!("started outside its time {time:?}"));
-        }
-        let node = self.told.combined.find(of.0, of.1).ok_or("not in the combined activity")?;
-        let before = self.told.combined.all_before(node);
-        for (member, _) in before.iter().enumerate().filter(|(_, &is_before)| is_before) {
-            let member = &self.told.combined.members[member];
-            let (true, Some((position, _, n))) = (is_executed(member), member.origin) else { continue };
-            if !self.reported.contains_key(&(position, n)) {
-                return Err(format!("started before node {n} of position {position} was reported"));
+        match self.started.get(&of) {
+            Some(earlier) => self.breaks(Claim::StartedOnce, format!("{of:?}, also in call {earlier}")),
+            None => {
+                self.started.insert(of, index);
             }
         }
-        Ok(())
+        let Some(time) = self.find(of) else {
+            return self.breaks(Claim::OfTheWord, format!("{of:?}"));
+        };
+        if time.activity != activity {
+            self.breaks(Claim::OfItsActivity, format!("{activity}, {time:?}"));
+        }
+        let (reading, due) = (entry.call.reading, self.log.opening.psi + time.start);
+        if reading < due {
+            self.breaks(Claim::NotEarly, format!("at {reading}, {time:?}"));
+        }
+        if reading > due + self.log.opening.slack {
+            self.breaks(Claim::NotLate, format!("at {reading}, {time:?}"));
+        }
+        if let Some((position, node)) = self.unreported_before(of) {
+            let detail = format!("{of:?} before node {node} of position {position}");
+            self.breaks(Claim::AfterReports, detail);
+        }
+    }
+
+    /// "a node depends on those before it": one of them that no earlier call reported.
+    fn unreported_before(&self, of: Identity) -> Option<Identity> {
+        let combined = &self.told.combined;
+        let before = combined.all_before(combined.find(of.0, of.1)?);
+        let members = combined.members.iter().zip(before);
+        let executed = members.filter(|(member, is_before)| *is_before && is_executed(member));
+        let mut identities = executed.filter_map(|(member, _)| member.origin).map(|(p, _, n)| (p, n));
+        identities.find(|identity| !self.reported.contains_key(identity))
     }
 
     /// "unless a loading has failed, the window holds exactly those of them not yet reported"
-    fn window_is_what_is_unreported(&self, window: &Option<Vec<NodeTime>>) -> Result<(), String> {
-        let Some(window) = window else { return Ok(()) };
-        let unreported: Vec<NodeTime> = self
-            .executed
-            .iter()
-            .copied()
-            .filter(|n| !self.reported.contains_key(&(n.position, n.node)))
-            .collect();
-        match *window == unreported {
-            true => Ok(()),
-            false => Err(format!("window {window:?}, unreported {unreported:?}")),
+    fn window_is_what_is_unreported(&mut self, window: &Option<Vec<NodeTime>>) {
+        let Some(window) = window else { return };
+        let is_unreported = |n: &&NodeTime| !self.reported.contains_key(&(n.position, n.node));
+        let unreported: Vec<NodeTime> = self.executed.iter().filter(is_unreported).copied().collect();
+        if *window != unreported {
+            self.breaks(Claim::Window, format!("window {window:?}, unreported {unreported:?}"));
         }
     }
 
     /// "done if the path ended in a final state and the window is empty"
-    fn done_exactly_at_the_end(&self, entry: &Answered) -> Result<(), String> {
+    fn done_exactly_at_the_end(&mut self, entry: &Answered) {
         let asked = entry.call.request == Request::Ask;
         let answered = matches!(entry.reply, Reply::Start { .. } | Reply::Wait | Reply::Done);
         let all = self.executed.iter().all(|n| self.reported.contains_key(&(n.position, n.node)));
         let due = asked && answered && self.told.has_ended() && all;
-        match due == (entry.reply == Reply::Done) {
-            true => Ok(()),
-            false => Err("done is not answered exactly at the end".into()),
+        if due != (entry.reply == Reply::Done) {
+            self.breaks(Claim::Done, format!("{:?} answered {:?}", entry.call, entry.reply));
         }
+    }
+
+    /// The host's side on the first calls of the list.
+    fn host_side(&self, calls: &[Answered]) -> HostSide {
+        let among_them = self.started.iter().filter(|(_, &index)| index < calls.len());
+        let node = |(of, _): (&Identity, &usize)| {
+            let reported = self.reported.get(of).copied();
+            self.find(*of).map(|time| StartedNode { completion: time.completion, reported })
+        };
+        let started: Vec<StartedNode> = among_them.filter_map(node).collect();
+        HostSide::of(&self.log.opening, calls, &started)
     }
 
     /// If the host keeps its side, no answer is stop 41 or 42. The side is looked at up to the
     /// first such stop, which makes the claim stronger than over the whole list.
-    fn host_side(&self) -> Result<(), String> {
+    fn no_stop_if_the_host_keeps_its_side(&mut self) {
+        let log = self.log;
         let is_stop = |e: &Answered| matches!(e.reply, Reply::Stopped(stop) if stop.node.is_some());
-        let Some(end) = self.log.calls.iter().position(is_stop) else { return Ok(()) };
-        match self.host_kept_its_side(end) {
-            true => Err("stopped by 41 or 42 although the host kept its side".into()),
-            false => Ok(()),
+        let Some(stop) = log.calls.iter().position(is_stop) else { return };
+        if self.host_side(&log.calls[..=stop]).is_kept() {
+            self.call = Some(stop);
+            self.breaks(Claim::HostSide, format!("{:?}", log.calls[stop].reply));
         }
-    }
-
-    /// Among the calls not refused, up to call `end`: the first reading is at most Ψ + slack, no
-    /// reading more than the slack above the one before, before each rise some ask at the old
-    /// reading has started nothing, and each started node is reported before any reading reaches
-    /// its completion.
-    pub fn host_kept_its_side(&self, end: usize) -> bool {
-        let (psi, slack) = (self.log.opening.psi, self.log.opening.slack);
-        let unrefused = |e: &&Answered| !matches!(e.reply, Reply::Refused(_));
-        let calls: Vec<&Answered> = self.log.calls[..=end].iter().filter(unrefused).collect();
-        let first_in_time = calls.first().is_none_or(|e| e.call.reading <= psi + slack);
-        let quiet: BTreeSet<u64> =
-            calls.iter().filter(|e| started_nothing(e)).map(|e| e.call.reading).collect();
-        let rises_well = calls.windows(2).all(|pair| {
-            let (old, new) = (pair[0].call.reading, pair[1].call.reading);
-            new <= old || new - old <= slack && quiet.contains(&old)
-        });
-        first_in_time && rises_well && self.reports_in_time(end)
-    }
-
-    fn reports_in_time(&self, end: usize) -> bool {
-        let reaches = |clock: u64| {
-            let calls = self.log.calls[..=end].iter();
-            calls.enumerate().find(|(_, e)| !matches!(e.reply, Reply::Refused(_)) && e.call.reading >= clock)
-        };
-        self.started.keys().all(|&of| {
-            let Some(time) = self.find(of) else { return false };
-            let Some((reached, _)) = reaches(self.log.opening.psi + time.completion) else { return true };
-            self.reported.get(&of).is_some_and(|&at| at < reached)
-        })
     }
 }
 
 fn is_executed(member: &Member) -> bool {
     matches!(member.kind, Kind::Action { .. } | Kind::Event(_))
-}
-
-fn started_nothing(entry: &Answered) -> bool {
-    entry.call.request == Request::Ask && matches!(entry.reply, Reply::Wait | Reply::Done)
 }

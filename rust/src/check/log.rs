@@ -29,19 +29,30 @@ fn window_of(run: &Run) -> Option<Vec<NodeTime>> {
 /// The log of this build. A refused or kept answer must hand back the run as it came in, which
 /// is checked on the way.
 pub fn record(opening: &Opening, calls: &[Call]) -> Result<Log, String> {
+    let (log, changed) = played(opening, calls);
+    match changed {
+        Some(entry) => Err(format!("{:?} answered {:?} and changed the run", entry.call, entry.reply)),
+        None => Ok(log),
+    }
+}
+
+/// The log of this build, and the first call that changed a run it should have handed back.
+pub fn played(opening: &Opening, calls: &[Call]) -> (Log, Option<Answered>) {
     let (answer, mut run) = Run::open(opening);
     let mut log = Log { opening: opening.clone(), answer, window: window_of(&run), calls: vec![] };
+    let mut changed = None;
     for &call in calls {
         let before = run.clone();
         let (reply, after) = run.call(call);
         let kept = matches!(reply, Reply::Refused(_)) || before.has_stopped();
-        if kept && before != after {
-            return Err(format!("{call:?} answered {reply:?} and changed the run"));
+        let entry = Answered { call, reply, window: window_of(&after) };
+        if kept && before != after && changed.is_none() {
+            changed = Some(entry.clone());
         }
         run = after;
-        log.calls.push(Answered { call, reply, window: window_of(&run) });
+        log.calls.push(entry);
     }
-    Ok(log)
+    (log, changed)
 }
 
 /// The log that records of a drive tell; None where a record says nothing known.

@@ -1,6 +1,7 @@
 //! How often each number and each reply was hit.
 
-use crate::check::log::Log;
+use crate::check::host::HostSide;
+use crate::check::log::{Answered, Log};
 use crate::run::Reply;
 use std::collections::BTreeMap;
 
@@ -38,6 +39,23 @@ impl Hits {
         }
     }
 
+    /// Whether the host of a log kept its side of demand 3, and how the list ended if it did.
+    pub fn host_side(&mut self, log: &Log, side: HostSide) {
+        if side.is_kept() {
+            self.hit(KEPT);
+            self.hit(format!("{KEPT}, {}", end(log)));
+            if log.calls.iter().any(is_start) {
+                self.hit(format!("{KEPT}, something started"));
+            }
+            if log.calls.iter().any(|entry| matches!(entry.reply, Reply::Refused(_))) {
+                self.hit(format!("{KEPT}, with refused calls"));
+            }
+        }
+        if let (Some(condition), Some(41 | 42)) = (side.only_broken(), stopped(log)) {
+            self.hit(format!("41 or 42, host broke only: {condition}"));
+        }
+    }
+
     pub fn add(&mut self, other: &Hits) {
         for (what, count) in &other.counts {
             *self.counts.entry(what.clone()).or_default() += count;
@@ -47,13 +65,42 @@ impl Hits {
     pub fn print(&self, title: &str) {
         println!("{title}");
         for (what, count) in &self.counts {
-            println!("  {what:<34} {count:>9}");
+            println!("  {what:<48} {count:>9}");
         }
+    }
+
+    pub fn count(&self, what: &str) -> usize {
+        self.counts.get(what).copied().unwrap_or(0)
     }
 
     /// What was never hit of a list.
     pub fn missing(&self, wanted: &[String]) -> Vec<String> {
         wanted.iter().filter(|what| !self.counts.contains_key(*what)).cloned().collect()
+    }
+}
+
+/// The line of the lists whose host kept its side of demand 3.
+pub const KEPT: &str = "host kept its side";
+
+fn is_start(entry: &Answered) -> bool {
+    matches!(entry.reply, Reply::Start { .. })
+}
+
+fn stopped(log: &Log) -> Option<u8> {
+    log.calls.iter().find_map(|entry| match entry.reply {
+        Reply::Stopped(stop) => Some(stop.number),
+        _ => None,
+    })
+}
+
+/// How a list ends. Those that start nothing are told apart, since 41 and 42 are far from them.
+pub fn end(log: &Log) -> String {
+    let is_done = log.calls.iter().any(|entry| entry.reply == Reply::Done);
+    match stopped(log) {
+        _ if !log.calls.iter().any(is_start) => "nothing started".into(),
+        Some(number) => format!("stop {number}"),
+        None if is_done => "done".into(),
+        None => "cut short".into(),
     }
 }
 
@@ -83,5 +130,6 @@ pub fn wanted_of_runs() -> Vec<String> {
     let refusals = (50..=55).map(|n| format!("refused {n}"));
     let stops = (41..=44).map(|n| format!("stopped {n}"));
     let rest = ["opened", "start", "wait", "done", "taken", "kept stop"].map(String::from);
-    openings.into_iter().chain(refusals).chain(stops).chain(rest).collect()
+    let kept = ["done", "stop 43", "stop 44", "with refused calls"].map(|end| format!("{KEPT}, {end}"));
+    openings.into_iter().chain(refusals).chain(stops).chain(rest).chain(kept).collect()
 }

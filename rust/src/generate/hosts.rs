@@ -1,6 +1,8 @@
 //! Call lists from hosts of every kind. A host looks at the run it drives to find the moments that
 //! matter; what it sends is then replayed on both builds.
 
+mod paced;
+
 use super::Random;
 use crate::plan_file::Kind;
 use crate::run::{Call, Entry, Opening, Reply, Request, Run};
@@ -11,7 +13,7 @@ pub enum Host {
     Careful,
     /// Jumps from one moment that matters to the next, in time.
     Exact,
-    /// Asks too late now and then.
+    /// Asks too late now and then: begins late, steps too far, or moves on while a node is due.
     Late,
     /// Reports at or after the completion now and then.
     Overdue,
@@ -82,36 +84,6 @@ impl Driver<'_> {
 
     fn started(&self) -> Vec<Entry> {
         self.run.window().into_iter().filter(|entry| entry.started).collect()
-    }
-
-    /// One round of a careful host at a reading; gives the next reading.
-    fn careful_round(&mut self, reading: u64) -> u64 {
-        loop {
-            self.send(reading, Request::Ask);
-            // The second half ends the round for a build that starts a node again and again.
-            if !matches!(self.reply, Reply::Start { .. }) || self.calls.len() > MOST_CALLS {
-                break;
-            }
-            if self.random.one_in(4) {
-                self.report_some(reading, reading);
-            }
-        }
-        let next = reading + self.random.between(1, self.opening.slack as usize) as u64;
-        let next = if self.random.one_in(2) { reading + self.opening.slack } else { next };
-        self.report_some(reading, next);
-        next
-    }
-
-    /// Reports all that would be overdue at the next reading, and some others.
-    fn report_some(&mut self, reading: u64, next: u64) {
-        let mut started = self.started();
-        self.random.shuffle(&mut started);
-        for entry in started {
-            if self.clock(entry.time.completion) <= next || self.random.one_in(4) {
-                let report = self.report_of(&entry);
-                self.send(reading, report);
-            }
-        }
     }
 
     /// The earliest start still to come and the earliest completion still unreported, on the clock.
@@ -247,12 +219,8 @@ pub fn calls(random: &mut Random, opening: &Opening, host: Host, most: usize) ->
         driver.send(9, Request::Completion { position: 0, node: 0 });
         return driver.calls;
     }
-    let far = opening.availabilities.iter().any(|&a| a > 1_000_000);
-    if host == Host::Careful && !far {
-        let mut reading = opening.psi + driver.random.below(opening.slack as usize + 1) as u64;
-        while !driver.is_over() && driver.calls.len() < most {
-            reading = driver.careful_round(reading);
-        }
+    if driver.is_paced(host) {
+        driver.walk(host, most);
     }
     while !driver.is_over() && driver.calls.len() < most {
         driver.step(host);

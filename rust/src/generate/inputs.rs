@@ -1,6 +1,6 @@
 //! Whole inputs for the comparisons: plan files, timetable inputs, openings with their calls.
 
-use super::hosts::{calls, HOSTS};
+use super::hosts::{calls, Host, HOSTS};
 use super::layout::Layout;
 use super::openings::opening;
 use super::{damage, plans, templates, Random};
@@ -104,8 +104,13 @@ pub fn timetable(random: &mut Random, most: usize) -> Vec<u8> {
 
 /// An opening and the calls of some host, as bytes. A few inputs end inside a call.
 pub fn call_list(random: &mut Random) -> Vec<u8> {
-    let opening = opening(random);
     let host = random.pick(&HOSTS);
+    call_list_of(random, host)
+}
+
+/// The same for one kind of host.
+pub fn call_list_of(random: &mut Random, host: Host) -> Vec<u8> {
+    let opening = opening(random);
     let most = random.pick(&[20, 60, 60, 120]);
     let calls = calls(random, &opening, host, most);
     let mut input = drive::encode(&opening, &calls);

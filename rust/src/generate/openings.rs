@@ -22,7 +22,10 @@ fn plan_to_open(random: &mut Random) -> Plan {
             wide_plan(first, 512 - first + random.below(5) - 2)
         }
         2 => wide_plan(random.between(509, 514), 3),
-        3 => plan(random, Style::small(Durations::Any)),
+        3 => {
+            let durations = random.pick(&[Durations::Any, Durations::WithZeros]);
+            plan(random, Style::small(durations))
+        }
         4..=9 => plan(random, Style::typical(Durations::Tying)),
         10..=17 => plan(random, Style::pending(Durations::Tying)),
         _ => plan(random, Style::small(Durations::Tying)),
@@ -50,8 +53,14 @@ pub fn opening(random: &mut Random) -> Opening {
         _ => 0,
     };
     let spread = random.pick(&[1, 1, 1, 3_000]);
-    let availability = |random: &mut Random| (base + random.below(spread) as u64).min(HORIZON);
-    let availabilities = (0..plan.resources).map(|_| availability(random)).collect();
+    let near = |random: &mut Random| (base + random.below(spread) as u64).min(HORIZON);
+    let mut availabilities: Vec<u64> = (0..plan.resources).map(|_| near(random)).collect();
+    // One resource far away from the others: a later path may need it, and 44 comes within the
+    // steps of a careful host.
+    if plan.resources > 1 && random.one_in(4) {
+        let far = random.below(plan.resources as usize);
+        availabilities[far] = HORIZON - random.pick(&[0, 3_000, 20_000]);
+    }
     let mut opening = Opening { plan: encode(&plan), psi, slack, availabilities };
     while random.one_in(12) {
         spoil(random, &mut opening);

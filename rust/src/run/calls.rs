@@ -87,7 +87,8 @@ impl Run {
     /// earliest start".
     fn late(&self, reading: u64) -> Option<Stop> {
         let extra = broken(Broken::LateAtTheSlack) as u64;
-        let late = |e: &&Entry| !e.started && reading + extra > self.clock(e.time.start) + self.slack;
+        let slack = if broken(Broken::LateWithoutSlack) { 0 } else { self.slack };
+        let late = |e: &&Entry| !e.started && reading + extra > self.clock(e.time.start) + slack;
         let first = self.window.iter().filter(late).min_by_key(|e| (e.time.start, tie(e)))?;
         Some(Stop { number: 41, node: Some((first.time.position as u32, first.time.node)) })
     }
@@ -122,7 +123,9 @@ impl Run {
         };
         let entry = self.window[place];
         let kind = self.plan.activities[entry.time.activity as usize][node as usize].kind;
-        let mismatch = matches!(kind, Kind::Event(_)) != outcome.is_some();
+        // A made-up entry may name a claim or a release, which neither report fits.
+        let fits = matches!((kind, outcome), (Kind::Action { .. }, None) | (Kind::Event(_), Some(_)));
+        let mismatch = !fits;
         if broken(Broken::KindBeforeStarted) && mismatch {
             return self.refused(54, reading);
         }

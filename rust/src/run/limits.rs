@@ -2,7 +2,9 @@
 //! limits". Limits, not consistency: other made-up runs get a reply.
 
 use super::{Entry, Run, Stop};
-use crate::plan_file::meets_file_rules;
+use crate::plan_file::{meets_file_rules, MOST_NODES};
+use crate::specified_times::incremental::MOST_PENDING;
+use crate::toggles::{broken, Broken};
 use crate::{HORIZON, LAST_POSITION};
 
 impl Run {
@@ -29,7 +31,7 @@ impl Run {
             && moment.last_completions.len() == events
             && moment.last_completions.iter().all(|&time| time <= HORIZON)
             && moment.pending.len() == events
-            && moment.pending.iter().all(|pending| pending.len() <= 8)
+            && moment.pending.iter().all(|pending| pending.len() <= MOST_PENDING)
             && moment.pending.iter().flatten().all(|instance| {
                 instance.completion <= HORIZON && self.names_a_node(instance.activity, instance.node)
             })
@@ -50,18 +52,28 @@ impl Run {
         nodes.is_some_and(|nodes| (node as usize) < nodes.len())
     }
 
+    fn is_bare(&self, activity: u8, node: u8) -> bool {
+        !self.plan.activities[activity as usize][node as usize].is_executed()
+    }
+
     fn entry_in_limits(&self, entry: &Entry) -> bool {
         let time = entry.time;
         time.position <= LAST_POSITION
+            // A claim or release is a node too: its numbers lie within the plan's limits.
             && self.names_a_node(time.activity, time.node)
-            && self.plan.activities[time.activity as usize][time.node as usize].is_executed()
+            && !(broken(Broken::BareEntryIs50) && self.is_bare(time.activity, time.node))
             && time.start <= HORIZON
             && time.completion <= HORIZON
     }
 
     fn stop_in_limits(&self, stop: Stop) -> bool {
         match stop.node {
-            Some((position, _)) => matches!(stop.number, 41 | 42) && position as u64 <= LAST_POSITION,
+            // The stop does not say which activity, so the node's limit is the paper's.
+            Some((position, node)) => {
+                matches!(stop.number, 41 | 42)
+                    && position as u64 <= LAST_POSITION
+                    && (node as u64) < MOST_NODES
+            }
             None => matches!(stop.number, 43 | 44),
         }
     }

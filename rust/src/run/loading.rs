@@ -48,9 +48,7 @@ impl Run {
         let mut loaded = self.clone();
         let mut next = first.or_else(|| loaded.plain_transition());
         let mut too_far = false;
-        // An accepted plan waits or ends within 64 transitions; a made-up one may turn for ever,
-        // and is cut off at the same number.
-        for _ in 0..=self.plan.automaton.states {
+        for _ in 0..Run::LONGEST_PATH + broken(Broken::EndlessOneLonger) as u64 {
             let Some(way) = next else { break };
             too_far |= loaded.next_position > LAST_POSITION;
             too_far |= loaded.take(&way) > HORIZON;

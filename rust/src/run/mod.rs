@@ -6,7 +6,7 @@ mod limits;
 mod loading;
 mod opening;
 
-use crate::plan_file::Plan;
+use crate::plan_file::{Plan, MOST_STATES};
 use crate::specified_times::incremental::Shape;
 use crate::specified_times::{Moment, NodeTime};
 use std::collections::BTreeMap;
@@ -83,6 +83,9 @@ impl Run {
     pub const WINDOW: usize = 512;
     pub const LEAST_SLACK: u64 = 1;
     pub const MOST_SLACK: u64 = 1_000_000;
+    /// An accepted plan waits or ends within as many transitions as it may have states. A made-up
+    /// one may turn for ever; its path is ended there.
+    const LONGEST_PATH: u64 = MOST_STATES;
 
     /// "A refused opening hands back a run of zeros, which gets 50."
     pub fn zeros() -> Run {

@@ -49,7 +49,7 @@ fn check_opening(plan: &Plan, opening: &Opening) -> Result<(), Fault> {
     }
     let used = |a: usize| plan.automaton.transitions.iter().any(|t| t.activity == Some(a as u8));
     for (place, activity) in plan.activities.iter().enumerate() {
-        if broken(Broken::SlackOfUsedActivities) && !used(place) {
+        if broken(Broken::SlackNeverChecked) || broken(Broken::SlackOfUsedActivities) && !used(place) {
             continue;
         }
         if activity.iter().any(|n| n.is_executed() && n.duration as u64 <= opening.slack) {

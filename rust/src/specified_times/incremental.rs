@@ -7,6 +7,9 @@ use crate::plan_file::{Activity, Kind, Plan, Transition};
 use crate::toggles::{broken, Broken};
 use std::collections::VecDeque;
 
+/// "at most 8 of one event are pending at a state"
+pub const MOST_PENDING: usize = 8;
+
 /// An emitted, not yet processed instance of an event.
 #[derive(Clone, Copy, Debug, PartialEq, Eq)]
 pub struct Instance {
@@ -136,9 +139,7 @@ impl Moment {
             }
         }
         for &(event, n) in &shape.emissions {
-            let instance = Instance { position, activity, node: n as u8, completion: times[n].1 };
-            self.last_completions[event as usize] = instance.completion;
-            self.pending[event as usize].push_back(instance);
+            self.emit(event, Instance { position, activity, node: n as u8, completion: times[n].1 });
         }
         let executed = (0..nodes.len()).filter(|&n| nodes[n].is_executed());
         executed
@@ -150,6 +151,15 @@ impl Moment {
                 completion: times[n].1,
             })
             .collect()
+    }
+
+    /// Only a made-up plan has a ninth pending instance (26); it is dropped.
+    fn emit(&mut self, event: u8, instance: Instance) {
+        self.last_completions[event as usize] = instance.completion;
+        let pending = &mut self.pending[event as usize];
+        if pending.len() < MOST_PENDING || broken(Broken::NinthKept) {
+            pending.push_back(instance);
+        }
     }
 }
 
@@ -165,6 +175,9 @@ fn left_out(plan: &Plan, instance: &Instance, way: &Transition, resource: u8) ->
     };
     if broken(Broken::OnlyTheSensedResource) {
         return !sensed();
+    }
+    if broken(Broken::NothingRaised) {
+        return true;
     }
     match way.activity {
         None => broken(Broken::EmptyNotRaised),

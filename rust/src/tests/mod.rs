@@ -2,8 +2,11 @@
 //! check can run the same checks on the build broken on purpose.
 
 mod cases;
+mod damaged_logs;
+mod demand_3_alone;
 mod files;
 mod graph_timetable;
+mod host_side;
 mod made_up;
 mod mutations;
 mod runs;

@@ -26,7 +26,7 @@ fn noticed(toggle: Broken) -> Option<(&'static str, usize)> {
 }
 
 /// Keeps the panics of broken builds off the screen; other threads print as ever.
-fn hush_broken_builds() {
+pub fn hush_broken_builds() {
     let usual = take_hook();
     set_hook(Box::new(move |info| {
         if std::thread::current().name() != Some("broken on purpose") {

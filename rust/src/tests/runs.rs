@@ -1,6 +1,7 @@
 //! Checks of runs: every answer is the one expected from the log alone, and demand 3 holds.
 
-use super::judge_hits;
+use super::{host_side, judge_hits};
+use crate::check::host::HostSide;
 use crate::check::log::{from_records, record, Log};
 use crate::check::{demand_3, expected};
 use crate::compare::hits::{wanted_of_runs, Hits};
@@ -8,23 +9,42 @@ use crate::compare::settings::{self, run_cases};
 use crate::compare::smaller::smallest_call_list;
 use crate::compare::Failure;
 use crate::drive::{decode, drive, RECORD};
-use crate::generate::hosts::{calls, Host};
+use crate::generate::hosts::{calls, Host, HOSTS};
 use crate::generate::openings::opening;
 use crate::generate::{inputs, Random};
 use crate::run::{Reply, Run};
 use crate::verdict::judge;
 
-/// Drives an input and checks its log; gives the log and the most paths that one call loaded.
-fn checked(input: &[u8]) -> Result<Option<(Log, usize)>, String> {
+/// What a checked input tells.
+struct Checked {
+    log: Log,
+    /// The most paths that one call loaded.
+    paths: usize,
+    /// None if the opening was refused.
+    host: Option<HostSide>,
+}
+
+/// Drives an input and checks its log.
+fn checked(input: &[u8]) -> Result<Option<Checked>, String> {
     let Some((opening, calls)) = decode(input) else { return Ok(None) };
     let log = record(&opening, &calls)?;
     let paths = expected::check(&log)?;
-    if log.answer.is_ok() {
-        let plan = judge(&opening.plan).map_err(|fault| format!("opened, but {fault:?}"))?;
-        demand_3::check(&plan, &log)?;
-    }
+    let host = match log.answer {
+        Ok(()) => Some(demand_3_holds(&log)?),
+        Err(_) => None,
+    };
     drives_alike(input, &log)?;
-    Ok(Some((log, paths)))
+    Ok(Some(Checked { log, paths, host }))
+}
+
+/// Demand 3 on the log of an accepted opening; gives what its host kept.
+fn demand_3_holds(log: &Log) -> Result<HostSide, String> {
+    let plan = judge(&log.opening.plan).map_err(|fault| format!("opened, but {fault:?}"))?;
+    let judged = demand_3::judged(&plan, log);
+    match judged.breaches.first() {
+        Some(breach) => Err(breach.told()),
+        None => Ok(judged.host),
+    }
 }
 
 /// The records of a drive say what the log says, and the rest of the buffer is left alone.
@@ -44,23 +64,31 @@ fn drives_alike(input: &[u8], log: &Log) -> Result<(), String> {
 /// Call lists of every kind of host.
 pub fn call_lists(seed: u64, cases: usize, hits: &mut Hits) -> Result<(), String> {
     run_cases(seed, cases, |random| {
-        let input = inputs::call_list(random);
+        let host = random.pick(&HOSTS);
+        let input = inputs::call_list_of(random, host);
         match checked(&input) {
-            Ok(Some((log, paths))) => {
-                hits.log(&log);
-                if paths > 0 {
-                    hits.hit(format!("lists with {paths} paths in a call"));
-                }
+            Ok(Some(checked)) => {
+                count(hits, host, &checked);
                 Ok(())
             }
             Ok(None) => Ok(()),
             Err(what) => {
-                let smallest = smallest_call_list(&input, |tried| checked(tried).is_err());
-                let what = checked(&smallest).err().unwrap_or(what);
+                let smallest = smallest_call_list(&input, |tried| self::checked(tried).is_err());
+                let what = self::checked(&smallest).err().unwrap_or(what);
                 Err(Failure::new(what, &smallest))
             }
         }
     })
+}
+
+fn count(hits: &mut Hits, host: Host, checked: &Checked) {
+    hits.log(&checked.log);
+    if checked.paths > 0 {
+        hits.hit(format!("lists with {} paths in a call", checked.paths));
+    }
+    if let Some(side) = checked.host {
+        host_side::count(hits, host, &checked.log, side);
+    }
 }
 
 /// A careful host is never stopped by 41 or 42, and ends with done if given the time.
@@ -94,6 +122,7 @@ fn every_answer_is_the_expected_one_and_demand_3_holds() {
     let mut wanted = wanted_of_runs();
     wanted.push("lists with 3 paths in a call".into());
     judge_hits("call lists", &hits, &wanted);
+    host_side::judge_counts(&hits);
 }
 
 #[test]

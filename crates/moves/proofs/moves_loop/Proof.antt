@@ -13,7 +13,7 @@ use Rattle.moves.proofs.moves_loop.Statement.{statement}
 use Rattle.moves.proofs.moves_loop.Tie as tie
 use Rattle.moves.proofs.moves_loop.Reads as reads
 use Rattle.moves.proofs.moves_loop.Lts as lts
-use Rattle.moves.proofs.move_at.Reads as move-at-reads
+use Rattle.moves.proofs.transitions.move_at.Reads as move-at-reads
 use Rattle.moves.proofs.no_automaton.Reads as no-automaton-reads
 use Rattle.moves.proofs.zero_move.Reads as zero-move-reads
 

@@ -3,21 +3,20 @@ use native.Mathlib.Omega.{arith}
 use mathlib.Core.Path.{_≡_, refl, sym, _∙_, ap}
 use denote.Ref.{now}
 use Prim.Native.Nat.{ℕ, _+_, _*_, _-_, _≤_, _<_}
-use lib.ListN.{length, replicate, length-set, length-replicate}
+use lib.ListN.{length, replicate, length-set}
 use native.Mathlib.Nat.{sub-zero}
-use Rattle.sections.proofs.Loops.{rest, nodes-refused, nodes-next, activities-done, activities-refused, activities-next}
+use Rattle.sections.proofs.Loops.{rest, turned}
 use Rattle.plan.specs.Nodes.{zeroNode}
 use Rattle.plan.specs.Sections.{activitiesLoop, nodesThen}
-use Rattle.fields.specs.Read.{byte-most, count-most}
 use borrow.Author.Needs.{needs}
 use Rattle.sections.proofs.activities_loop.Statement.{statement}
 use Rattle.sections.proofs.activities_loop.Tie as tie
 use Rattle.sections.proofs.activities_loop.Reads as reads
 use Rattle.sections.proofs.activities_loop.Lts as lts
-use Rattle.fields.proofs.count_at.Reads as count-at-reads
-use Rattle.nodes.proofs.node_at.Reads as node-at-reads
 use Rattle.nodes.proofs.zero_node.Reads as zero-node-reads
+use Rattle.sections.proofs.all_activities.Reads as all-activities-reads
 use Rattle.sections.proofs.no_activities.Reads as no-activities-reads
+use Rattle.sections.proofs.parts.part_at.Reads as part-at-reads
 
 abbrev Inv-loop : tie.InvT-loop
 Inv-loop bytes at peripherals resources events count all₀ sizes₀ off₀ i₀ a₀ size₀ left₀ all sizes off i a size left =
@@ -34,8 +33,11 @@ loop-holds : tie.Need-loop-holds Inv-loop μ-loop
 unfolding nodesThen
 loop-holds c = (search needs, search needs, search needs, search needs, search needs, search needs, rw (c .zero-node .ensures, sub-zero))
 
-node-at-requires : tie.Need-node-at-requires Inv-loop μ-loop
-node-at-requires c κs = search needs
+sub-more : tie.Need-sub-more Inv-loop μ-loop
+sub-more c = search needs
+
+part-at-requires : tie.Need-part-at-requires Inv-loop μ-loop
+part-at-requires c κs = search needs
 
 enum-known-v : tie.Need-enum-known-v Inv-loop μ-loop
 enum-known-v c = search needs
@@ -44,7 +46,16 @@ no-activities-requires : tie.Need-no-activities-requires Inv-loop μ-loop
 no-activities-requires c κs = search needs
 
 returns : tie.Need-returns Inv-loop μ-loop
-returns c = c .no-activities .ensures ∙ nodes-refused (c .before .before .before .before .before .before .before .before .before .args .peripherals) (c .before .before .before .before .before .before .before .before .before .args .resources) (c .before .before .before .before .before .before .before .before .before .args .events) (now (c .before .before .before .before .before .before .before .before .before .args .bytes)) _ (c .before .before .before .before .before .before .loop .size) (c .before .before .before .before .before .before .loop .left) (c .before .before .before .before .before .before .loop .left - 1) (c .before .before .before .before .before .before .loop .off) (c .before .before .before .before .before .before .loop .i) (c .before .before .before .before .before .before .loop .all) (omega arith) _ (c .before .before .before .before .node-at .ensures) _ _ (c .before .before .v .given .1) ∙ sym (c .before .before .before .before .before .before .loop .inv .6)
+returns c = c .no-activities .ensures ∙ turned (c .before .before .before .before .before .before .before .before .args .peripherals) (c .before .before .before .before .before .before .before .before .args .resources) (c .before .before .before .before .before .before .before .before .args .events) (now (c .before .before .before .before .before .before .before .before .args .bytes)) (c .before .before .before .before .before .before .before .before .args .count) (c .before .before .before .before .before .loop .a) (c .before .before .before .before .before .loop .sizes) (c .before .before .before .before .before .loop .size) (c .before .before .before .before .before .loop .left) (c .before .before .before .before .before .loop .off) (c .before .before .before .before .before .loop .i) (c .before .before .before .before .before .loop .all) _ (c .before .before .before .before .part-at .ensures) _ (c .before .before .v .given .1) ∙ sym (c .before .before .before .before .before .loop .inv .6)
+
+enum-told : tie.Need-enum-told Inv-loop μ-loop
+enum-told c = search needs
+
+all-activities-requires : tie.Need-all-activities-requires Inv-loop μ-loop
+all-activities-requires c κs = search needs
+
+returns-2 : tie.Need-returns-2 Inv-loop μ-loop
+returns-2 c = c .all-activities .ensures ∙ turned (c .before .before .before .before .before .before .before .args .peripherals) (c .before .before .before .before .before .before .before .args .resources) (c .before .before .before .before .before .before .before .args .events) (now (c .before .before .before .before .before .before .before .args .bytes)) (c .before .before .before .before .before .before .before .args .count) (c .before .before .before .before .loop .a) (c .before .before .before .before .loop .sizes) (c .before .before .before .before .loop .size) (c .before .before .before .before .loop .left) (c .before .before .before .before .loop .off) (c .before .before .before .before .loop .i) (c .before .before .before .before .loop .all) _ (c .before .before .before .part-at .ensures) _ (c .before .enum-told .given .1) ∙ sym (c .before .before .before .before .loop .inv .6)
 
 enum-known-v-2 : tie.Need-enum-known-v-2 Inv-loop μ-loop
 enum-known-v-2 c = search needs
@@ -53,70 +64,55 @@ mul-all : tie.Need-mul-all Inv-loop μ-loop
 mul-all c = search needs
 
 array-set-from-all : tie.Need-array-set-from-all Inv-loop μ-loop
-array-set-from-all c = search needs
+array-set-from-all c = let t = turned (c .before .before .before .before .before .before .before .before .args .peripherals) (c .before .before .before .before .before .before .before .before .args .resources) (c .before .before .before .before .before .before .before .before .args .events) (now (c .before .before .before .before .before .before .before .before .args .bytes)) (c .before .before .before .before .before .before .before .before .args .count) (c .before .before .before .before .before .loop .a) (c .before .before .before .before .before .loop .sizes) (c .before .before .before .before .before .loop .size) (c .before .before .before .before .before .loop .left) (c .before .before .before .before .before .loop .off) (c .before .before .before .before .before .loop .i) (c .before .before .before .before .before .loop .all) _ (c .before .before .before .before .part-at .ensures) _ (c .before .before .v2 .given .1) .0 in omega arith
 
 add-i : tie.Need-add-i Inv-loop μ-loop
 add-i c = search needs
 
 sub-left : tie.Need-sub-left Inv-loop μ-loop
-sub-left c = search needs
+sub-left c = let t = turned (c .before .before .before .before .before .before .before .before .args .peripherals) (c .before .before .before .before .before .before .before .before .args .resources) (c .before .before .before .before .before .before .before .before .args .events) (now (c .before .before .before .before .before .before .before .before .args .bytes)) (c .before .before .before .before .before .before .before .before .args .count) (c .before .before .before .before .before .loop .a) (c .before .before .before .before .before .loop .sizes) (c .before .before .before .before .before .loop .size) (c .before .before .before .before .before .loop .left) (c .before .before .before .before .before .loop .off) (c .before .before .before .before .before .loop .i) (c .before .before .before .before .before .loop .all) _ (c .before .before .before .before .part-at .ensures) _ (c .before .before .v2 .given .1) .0 in omega arith
 
 loop-less : tie.Need-loop-less Inv-loop μ-loop
-loop-less c = search needs
+loop-less c = let t = turned (c .before .before .before .before .before .before .before .before .args .peripherals) (c .before .before .before .before .before .before .before .before .args .resources) (c .before .before .before .before .before .before .before .before .args .events) (now (c .before .before .before .before .before .before .before .before .args .bytes)) (c .before .before .before .before .before .before .before .before .args .count) (c .before .before .before .before .before .loop .a) (c .before .before .before .before .before .loop .sizes) (c .before .before .before .before .before .loop .size) (c .before .before .before .before .before .loop .left) (c .before .before .before .before .before .loop .off) (c .before .before .before .before .before .loop .i) (c .before .before .before .before .before .loop .all) _ (c .before .before .before .before .part-at .ensures) _ (c .before .before .v2 .given .1) .0 in omega arith
 
 loop-again : tie.Need-loop-again Inv-loop μ-loop
-loop-again c = (
+loop-again c = let t = turned (c .before .before .before .before .before .before .before .before .args .peripherals) (c .before .before .before .before .before .before .before .before .args .resources) (c .before .before .before .before .before .before .before .before .args .events) (now (c .before .before .before .before .before .before .before .before .args .bytes)) (c .before .before .before .before .before .before .before .before .args .count) (c .before .before .before .before .before .loop .a) (c .before .before .before .before .before .loop .sizes) (c .before .before .before .before .before .loop .size) (c .before .before .before .before .before .loop .left) (c .before .before .before .before .before .loop .off) (c .before .before .before .before .before .loop .i) (c .before .before .before .before .before .loop .all) _ (c .before .before .before .before .part-at .ensures) _ (c .before .before .v2 .given .1) in (
   search needs,
   search needs,
   omega arith,
-  omega arith,
+  omega (arith, t .0),
   search needs,
-  simp length-set (c .before .before .before .before .before .before .loop .inv .5),
-  c .before .before .before .before .before .before .loop .inv .6 ∙ nodes-next (c .before .before .before .before .before .before .before .before .before .args .peripherals) (c .before .before .before .before .before .before .before .before .before .args .resources) (c .before .before .before .before .before .before .before .before .before .args .events) (now (c .before .before .before .before .before .before .before .before .before .args .bytes)) _ (c .before .before .before .before .before .before .loop .size) (c .before .before .before .before .before .before .loop .left) (c .before .before .before .before .before .before .loop .left - 1) (c .before .before .before .before .before .before .loop .off) (c .before .before .before .before .before .before .loop .i) (c .before .before .before .before .before .before .loop .all) (omega arith) _ (c .before .before .before .before .node-at .ensures) _ (c .before .before .v2 .given .1),
+  simp length-set (c .before .before .before .before .before .loop .inv .5),
+  c .before .before .before .before .before .loop .inv .6 ∙ t .1,
 )
 
-returns-2 : tie.Need-returns-2 Inv-loop μ-loop
-returns-2 c = activities-done (c .before .before .before .before .before .args .peripherals) (c .before .before .before .before .before .args .resources) (c .before .before .before .before .before .args .events) (now (c .before .before .before .before .before .args .bytes)) (c .before .before .before .before .before .args .count) (c .before .before .loop .a) (c .before .before .loop .sizes) (c .before .before .loop .size) (c .before .before .loop .left) (c .before .before .loop .off) (c .before .before .loop .i) (c .before .before .loop .all) (omega arith) (omega arith) ∙ sym (c .before .before .loop .inv .6)
-
-count-at-requires : tie.Need-count-at-requires Inv-loop μ-loop
-count-at-requires c κs = search needs
-
-enum-known-f : tie.Need-enum-known-f Inv-loop μ-loop
-enum-known-f c = search needs
-
-no-activities-requires-2 : tie.Need-no-activities-requires-2 Inv-loop μ-loop
-no-activities-requires-2 c κs = search needs
-
-returns-3 : tie.Need-returns-3 Inv-loop μ-loop
-returns-3 c = c .no-activities2 .ensures ∙ activities-refused (c .before .before .before .before .before .before .before .before .before .before .args .peripherals) (c .before .before .before .before .before .before .before .before .before .before .args .resources) (c .before .before .before .before .before .before .before .before .before .before .args .events) (now (c .before .before .before .before .before .before .before .before .before .before .args .bytes)) (c .before .before .before .before .before .before .before .before .before .before .args .count) (c .before .before .before .before .before .before .before .loop .a) (c .before .before .before .before .before .before .before .loop .sizes) (c .before .before .before .before .before .before .before .loop .size) (c .before .before .before .before .before .before .before .loop .left) (c .before .before .before .before .before .before .before .loop .off) (c .before .before .before .before .before .before .before .loop .i) (c .before .before .before .before .before .before .before .loop .all) (omega arith) (omega arith) _ _ (sym (c .before .before .before .before .count-at .ensures) ∙ c .before .before .f .given .1) ∙ sym (c .before .before .before .before .before .before .before .loop .inv .6)
-
-enum-known-f-2 : tie.Need-enum-known-f-2 Inv-loop μ-loop
-enum-known-f-2 c = search needs
+enum-known-v-3 : tie.Need-enum-known-v-3 Inv-loop μ-loop
+enum-known-v-3 c = search needs
 
 cast-w : tie.Need-cast-w Inv-loop μ-loop
 cast-w c = search needs
 
 array-write-sizes : tie.Need-array-write-sizes Inv-loop μ-loop
-array-write-sizes c = search needs
+array-write-sizes c = let t = turned (c .before .before .before .before .before .before .before .args .peripherals) (c .before .before .before .before .before .before .before .args .resources) (c .before .before .before .before .before .before .before .args .events) (now (c .before .before .before .before .before .before .before .args .bytes)) (c .before .before .before .before .before .before .before .args .count) (c .before .before .before .before .loop .a) (c .before .before .before .before .loop .sizes) (c .before .before .before .before .loop .size) (c .before .before .before .before .loop .left) (c .before .before .before .before .loop .off) (c .before .before .before .before .loop .i) (c .before .before .before .before .loop .all) _ (c .before .before .before .part-at .ensures) _ (c .before .v3 .given .1) in omega (arith, t .0, t .1, t .2)
 
 mul-i : tie.Need-mul-i Inv-loop μ-loop
 mul-i c = search needs
 
 add-a : tie.Need-add-a Inv-loop μ-loop
-add-a c = search needs
+add-a c = let t = turned (c .before .before .before .before .before .before .before .args .peripherals) (c .before .before .before .before .before .before .before .args .resources) (c .before .before .before .before .before .before .before .args .events) (now (c .before .before .before .before .before .before .before .args .bytes)) (c .before .before .before .before .before .before .before .args .count) (c .before .before .before .before .loop .a) (c .before .before .before .before .loop .sizes) (c .before .before .before .before .loop .size) (c .before .before .before .before .loop .left) (c .before .before .before .before .loop .off) (c .before .before .before .before .loop .i) (c .before .before .before .before .loop .all) _ (c .before .before .before .part-at .ensures) _ (c .before .v3 .given .1) in omega (arith, t .0, t .1, t .2)
 
 loop-less-2 : tie.Need-loop-less-2 Inv-loop μ-loop
-loop-less-2 c = let m = byte-most 1 65 _ _ _ _ _ (sym (c .before .before .before .count-at .ensures) ∙ c .before .f2 .given .1) in omega arith
+loop-less-2 c = let t = turned (c .before .before .before .before .before .before .before .args .peripherals) (c .before .before .before .before .before .before .before .args .resources) (c .before .before .before .before .before .before .before .args .events) (now (c .before .before .before .before .before .before .before .args .bytes)) (c .before .before .before .before .before .before .before .args .count) (c .before .before .before .before .loop .a) (c .before .before .before .before .loop .sizes) (c .before .before .before .before .loop .size) (c .before .before .before .before .loop .left) (c .before .before .before .before .loop .off) (c .before .before .before .before .loop .i) (c .before .before .before .before .loop .all) _ (c .before .before .before .part-at .ensures) _ (c .before .v3 .given .1) in omega (arith, t .0, t .1, t .2)
 
 loop-again-2 : tie.Need-loop-again-2 Inv-loop μ-loop
-loop-again-2 c = let m = byte-most 1 65 _ _ _ _ _ (sym (c .before .before .before .count-at .ensures) ∙ c .before .f2 .given .1) in (
-  omega arith,
+loop-again-2 c = let t = turned (c .before .before .before .before .before .before .before .args .peripherals) (c .before .before .before .before .before .before .before .args .resources) (c .before .before .before .before .before .before .before .args .events) (now (c .before .before .before .before .before .before .before .args .bytes)) (c .before .before .before .before .before .before .before .args .count) (c .before .before .before .before .loop .a) (c .before .before .before .before .loop .sizes) (c .before .before .before .before .loop .size) (c .before .before .before .before .loop .left) (c .before .before .before .before .loop .off) (c .before .before .before .before .loop .i) (c .before .before .before .before .loop .all) _ (c .before .before .before .part-at .ensures) _ (c .before .v3 .given .1) in (
+  omega (arith, t .1),
   search needs,
-  omega arith,
-  omega arith,
-  simp length-set (c .before .before .before .before .before .before .loop .inv .4),
+  omega (arith, t .2),
+  omega (arith, t .2),
+  simp length-set (c .before .before .before .before .loop .inv .4),
   search needs,
-  c .before .before .before .before .before .before .loop .inv .6 ∙ activities-next (c .before .before .before .before .before .before .before .before .before .args .peripherals) (c .before .before .before .before .before .before .before .before .before .args .resources) (c .before .before .before .before .before .before .before .before .before .args .events) (now (c .before .before .before .before .before .before .before .before .before .args .bytes)) (c .before .before .before .before .before .before .before .before .before .args .count) (c .before .before .before .before .before .before .loop .a) (c .before .before .before .before .before .before .loop .sizes) (c .before .before .before .before .before .before .loop .size) (c .before .before .before .before .before .before .loop .left) (c .before .before .before .before .before .before .loop .off) (c .before .before .before .before .before .before .loop .i) (c .before .before .before .before .before .before .loop .all) (omega arith) (omega arith) _ _ (sym (c .before .before .before .count-at .ensures) ∙ c .before .f2 .given .1),
+  c .before .before .before .before .loop .inv .6 ∙ t .3,
 )
 
 pub activities-loop-spec : {M : Type 1} → statement M
@@ -127,10 +123,14 @@ activities-loop-spec =
     μ-loop
     zero-node-requires
     loop-holds
-    node-at-requires
+    sub-more
+    part-at-requires
     enum-known-v
     no-activities-requires
     returns
+    enum-told
+    all-activities-requires
+    returns-2
     enum-known-v-2
     mul-all
     array-set-from-all
@@ -138,12 +138,7 @@ activities-loop-spec =
     sub-left
     loop-less
     loop-again
-    returns-2
-    count-at-requires
-    enum-known-f
-    no-activities-requires-2
-    returns-3
-    enum-known-f-2
+    enum-known-v-3
     cast-w
     array-write-sizes
     mul-i

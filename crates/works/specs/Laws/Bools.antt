@@ -1,6 +1,6 @@
 -- What two tests at once tell.
 use mathlib.Core.Path.{_≡_, refl, sym}
-use mathlib.Core.Bool.{Bool, true, false, _&&_, _||_, true≢false}
+use mathlib.Core.Bool.{Bool, true, false, _&&_, true≢false}
 
 pub and-left : (a b : Bool) → a && b ≡ true → a ≡ true
 and-left true b e = refl
@@ -12,7 +12,3 @@ and-right false b e = absurd (true≢false (sym e))
 
 pub and-false : (a b : Bool) → a && b ≡ false → a ≡ true → b ≡ false
 and-false a b e f = rw f at e
-
-pub or-false : (a b : Bool) → a || b ≡ false → (a ≡ false) × (b ≡ false)
-or-false true b e = absurd (true≢false e)
-or-false false b e = (refl, e)

@@ -1,5 +1,5 @@
 -- A transition that the log takes can be taken where the run stands: what it processes is pending, and no queue overflows.
-use mathlib.Core.Path.{_≡_, refl, ap₂, subst}
+use mathlib.Core.Path.{_≡_, refl, subst}
 use mathlib.Core.Bool.{Bool, true, false, cond}
 use mathlib.Core.List.{List, [], _∷_, _++_, map}
 use Prim.Native.Nat.{ℕ, _+_, _*_, _≤_, _<_}
@@ -10,12 +10,9 @@ use lib.ListN.{length, length-append, length-map}
 use Rattle.lists.specs.Parts.{length-part}
 use Rattle.plan.specs.Plan.{move, emittedBy, resourceOf}
 use Rattle.plan.specs.declared.Input.{Input}
-use Rattle.plan.specs.declared.Kind.{Kind}
-use Rattle.plan.specs.declared.Node.{Node}
 use Rattle.plan.specs.declared.Plan.{Plan}
-use Rattle.automaton.specs.Rules.{Path, none, more, takes, ofEvent, eventsIn, emits, processed, emitted, MeetsAutomaton}
-use Rattle.automaton.specs.Rules as Rules
-use Rattle.behaviour.specs.Word.{once, times, isEvent, emittedIn, emissions}
+use Rattle.automaton.specs.Rules.{MeetsAutomaton}
+use Rattle.behaviour.specs.Word.{once, times, emittedIn, emissions}
 use Rattle.behaviour.specs.Combined.{Ident, Graph}
 use Rattle.behaviour.specs.Paths.{wordOf, Follows, Lawful}
 use Rattle.behaviour.specs.Laws.Instances.{Listing}
@@ -28,43 +25,9 @@ use Rattle.timing.specs.declared.Progress.{Progress}
 use Rattle.log.specs.Log.{Log}
 use Rattle.demand.specs.TheWord.{stateAfter, wholeOf, Takes}
 use Rattle.demand.specs.Laws.TheWord.{takes-follows}
+use Rattle.demand.specs.Laws.Next.{few-pending}
 use Rattle.works.specs.Engine.{rest, remaining, Pending, Possible}
 use Rattle.works.specs.Stands.{identOf, Stands}
-
--- ---- along a path an event is processed and emitted as often as in its word
-
-one-cond : (b : Bool) → Rules.one b ≡ cond b 1 0
-one-cond true = refl
-one-cond false = refl
-
-takes-once : (x : Input) (e : ℕ) → takes x e ≡ once e x
-takes-once Input.Nothing e = refl
-takes-once (Input.Outcome f o) e = one-cond (eqb f e)
-
-event-of : (k : Kind) (e : ℕ) → ofEvent e k ≡ cond (isEvent k e) 1 0
-event-of (Kind.Action a x) e = refl
-event-of (Kind.Claim r) e = refl
-event-of (Kind.Release r) e = refl
-event-of (Kind.Event f) e = one-cond (eqb f e)
-
-events-in : (e : ℕ) (ns : List Node) → eventsIn e ns ≡ emittedIn e ns
-events-in e [] = refl
-events-in e (n ∷ ns) = ap₂ _+_ (event-of (n .kind) e) (events-in e ns)
-
-record Along (p : Plan) (s e : ℕ) (is : List ℕ) (q : ℕ) : Type 0 where
-  path : Path (p .automaton) s q
-  takes-same : processed (p .automaton) e path ≡ times e (wordOf p is)
-  emits-same : emitted (p .automaton) (emits p) e path ≡ emissions e (wordOf p is)
-
-along : (p : Plan) (s e : ℕ) (is : List ℕ) (q : ℕ) → Follows p s is q → Along p s e is q
-along p s e [] q h = subst (Along p s e []) h (record { path = none; takes-same = refl; emits-same = refl })
-along p s e (i ∷ is) q h =
-    let w = along p s e is (move (p .automaton) i .from) (h .0) in
-    record {
-      path = more (w .path) i (record { low = h .1 .0; from = refl }) (h .1 .1);
-      takes-same = ap₂ _+_ (w .takes-same) (takes-once (move (p .automaton) i .input) e);
-      emits-same = ap₂ _+_ (w .emits-same) (events-in e (emittedBy p (move (p .automaton) i .output)));
-    }
 
 -- ---- the queues
 
@@ -97,10 +60,7 @@ module _ (p : Plan) (lawful : Lawful p) (automaton : MeetsAutomaton p) (availabl
   -- "at most 8 of one event are pending at a state"
   pub pending-few : (e : ℕ) → pendingOf g e ≤ 8
   pending-few e =
-      let w = along p (p .automaton .initial) e is (stateAfter p is) (takes-follows p log is (s .taken)) in
-      let u = automaton .few (stateAfter p is) (w .path) e in
-      let x = w .takes-same in
-      let y = w .emits-same in
+      let u = few-pending p (automaton .few) is (stateAfter p is) e (takes-follows p log is (s .taken)) in
       let v = queue-length e in
       let m = pending-length e in
       omega arith
@@ -134,12 +94,7 @@ module _ (p : Plan) (lawful : Lawful p) (automaton : MeetsAutomaton p) (availabl
         go false q l = let v = queue-length e in omega arith
 
     few : (e : ℕ) → emissions e (wordOf p (t ∷ is)) ≤ 8 + times e (wordOf p (t ∷ is))
-    few e =
-        let w = along p (p .automaton .initial) e (t ∷ is) (stateAfter p (t ∷ is)) follows in
-        let u = automaton .few (stateAfter p (t ∷ is)) (w .path) e in
-        let x = w .takes-same in
-        let y = w .emits-same in
-        omega arith
+    few e = let u = few-pending p (automaton .few) (t ∷ is) (stateAfter p (t ∷ is)) e follows in omega arith
 
     pub possible : Possible p t g
     possible = record {

@@ -21,7 +21,8 @@ use Rattle.path.specs.Path.{pathFrom, longestPath}
 use Rattle.window.specs.Window.{placed, vacancies}
 use Rattle.window.specs.Tests.{by-test}
 use Rattle.window.specs.declared.Entry.{Entry}
-use Rattle.run.specs.Loading.{loading, load, wayOn, onWay, onLoading, further}
+use Rattle.outcomes.specs.Way.{wayOn}
+use Rattle.run.specs.Loading.{loading, load, onWay, onLoading, further}
 use Rattle.run.specs.declared.Run.{Run}
 use Rattle.run.specs.declared.Halt.{Halt}
 use Rattle.run.specs.declared.Failure.{Failure}

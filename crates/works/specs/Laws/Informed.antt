@@ -28,7 +28,7 @@ use Rattle.timing.specs.declared.Instance.{Instance}
 use Rattle.timing.specs.declared.Progress.{Progress}
 use Rattle.window.specs.Tests.{by-test}
 use Rattle.window.specs.declared.Entry.{Entry}
-use Rattle.run.specs.Calls.{tell, isInstance, toldOf}
+use Rattle.outcomes.specs.Told.{tell, isInstance, toldOf}
 use Rattle.run.specs.declared.Call.{Call}
 use Rattle.run.specs.declared.Reply.{Reply}
 use Rattle.log.specs.Log.{Id, id, Log, said, Accepts}

@@ -25,7 +25,8 @@ use Rattle.window.specs.Window.{vacant, isStarted}
 use Rattle.window.specs.Places.{Holds, stored-kept, stored-each, cleared-only, cleared-once}
 use Rattle.window.specs.declared.Entry.{Entry}
 use Rattle.limits.specs.Window.{entryInLimits}
-use Rattle.run.specs.Calls.{cleared, kindOf, toldOf, afterLoading}
+use Rattle.outcomes.specs.Told.{toldOf}
+use Rattle.run.specs.Calls.{cleared, kindOf, afterLoading}
 use Rattle.run.specs.Loading.{further, mostPending}
 use Rattle.run.specs.declared.Run.{Run}
 use Rattle.run.specs.declared.Halt.{Halt}

@@ -30,6 +30,7 @@ use Rattle.behaviour.specs.Laws.Shape.{node-place, sort}
 use Rattle.behaviour.specs.Engine.{startAt, endAt}
 use Rattle.timing.specs.Times.{at}
 use Rattle.timing.specs.Engine.{lastPosition, aboveOf, beyondOf, heldOf, closedOf, emitsOf, timedOf}
+use Rattle.timing.specs.Laws.Fits.{processed-position, left-position}
 use Rattle.timing.specs.declared.Progress.{Progress}
 use Rattle.timing.specs.declared.Schedule.{Schedule}
 use Rattle.path.specs.Path.{isWork, loaded, activityNumber, takenBy, entriesBy}
@@ -51,7 +52,7 @@ use Rattle.works.specs.Engine.{Advances, Possible, EngineLaws}
 use Rattle.works.specs.Stands.{Stands}
 use Rattle.works.specs.Laws.Bounds.{EntryWithin, entry-passes}
 use Rattle.works.specs.Laws.Counts.{possible, pending-length}
-use Rattle.works.specs.Laws.Taken.{left-position, processed-position, size-is, stands-on, trace-start, trace-end}
+use Rattle.works.specs.Laws.Taken.{size-is, stands-on, trace-start, trace-end}
 use Rattle.works.specs.Laws.Entries.{among-at, at-among, Brought, brought, brings, different}
 
 -- ---- kinds

@@ -30,7 +30,7 @@ use Rattle.timing.specs.Limits.{ToldNames}
 use Rattle.timing.specs.declared.Told.{Told}
 use Rattle.timing.specs.declared.Instance.{Instance as Pending}
 use Rattle.timing.specs.declared.Progress.{Progress}
-use Rattle.run.specs.Loading.{onTold, onChosen, wayOn}
+use Rattle.outcomes.specs.Way.{onTold, onChosen, wayOn}
 use Rattle.log.specs.Log.{Id, Log}
 use Rattle.log.specs.Log as Log
 use Rattle.demand.specs.Nodes.{whose}

@@ -40,7 +40,11 @@ use Rattle.window.specs.declared.Entry.{Entry}
 use Rattle.limits.specs.Window.{entryInLimits}
 use Rattle.run.specs.Limits.{slackInLimits}
 use Rattle.run.specs.Loading.{load}
-use Rattle.run.specs.Opening.{atFirst, availabilities, fresh, anyAbove, anyShort, shortFrom, Shortest, onShortest, firstLoaded, begin, openPlan, openJudged, openOf}
+use Rattle.opening.specs.Given.{atFirst, availabilities, anyAbove}
+use Rattle.opening.specs.Short.{anyShort, shortFrom, onShort}
+use Rattle.opening.specs.declared.Short.{Short}
+use Rattle.opening.specs.Laws.{all-same, given-at, or-false, none-above}
+use Rattle.run.specs.Opening.{fresh, firstLoaded, begin, openPlan, openJudged, openOf}
 use Rattle.run.specs.Opening as Opening
 use Rattle.run.specs.declared.Loading.{Loading}
 use Rattle.run.specs.declared.Unopened.{Unopened}
@@ -56,7 +60,7 @@ use Rattle.demand.specs.Laws.World.{old-position}
 use Rattle.works.specs.Machine.{machine}
 use Rattle.works.specs.Engine.{stateOf, EngineLaws}
 use Rattle.works.specs.Stands.{identOf, Stands, Accepted, Good}
-use Rattle.works.specs.Laws.Bools.{and-false, or-false}
+use Rattle.works.specs.Laws.Bools.{and-false}
 use Rattle.works.specs.Laws.Bounds.{vacant-passes}
 use Rattle.works.specs.Laws.Loaded.{Loaded, working-work}
 use Rattle.works.specs.Laws.Paths.{path-on}
@@ -72,25 +76,6 @@ pub record Judged (p : Plan) : Type 0 where
 abbrev pub AcceptedLaws : List ℕ → Type 0
 AcceptedLaws bytes = (p : Plan) → judgeOf bytes ≡ accepted p → Judged p
 
--- ---- lists
-
-all-same : {A : Type 0} (n j : ℕ) (x : A) → getD (replicate n x) j x ≡ x
-all-same zero j x = refl
-all-same (suc n) zero x = refl
-all-same (suc n) (suc j) x = all-same n j x
-
--- the availabilities, by number
-pub given-at : (ts : List ℕ) (n r : ℕ) → at (map specified ts ++ replicate n (specified 0)) r ≡ getD ts r 0
-given-at [] n r = ap (λ (s : Specified). s .0) (all-same n r (specified 0))
-given-at (t ∷ ts) n zero = refl
-given-at (t ∷ ts) n (suc r) = given-at ts n r
-
-none-above : (ts : List ℕ) → anyAbove ts ≡ false → (r : ℕ) → getD ts r 0 ≤ horizon
-unfolding anyAbove
-none-above [] e r = omega arith
-none-above (t ∷ ts) e zero = ltb-false horizon t (or-false (ltb horizon t) (anyAbove ts) e .0)
-none-above (t ∷ ts) e (suc r) = none-above ts (or-false (ltb horizon t) (anyAbove ts) e .1) r
-
 -- ---- 33
 
 none-short : (slack : ℕ) (ns : List Node) → anyShort slack ns ≡ false → Outlast slack ns
@@ -100,20 +85,20 @@ none-short slack (x ∷ ns) e zero l w =
     leb-false (x .duration) slack (and-false (isWork (x .kind)) (leb (x .duration) slack) (or-false (isWork (x .kind) && leb (x .duration) slack) (anyShort slack ns) e .0) (working-work (x .kind) w))
 none-short slack (x ∷ ns) e (suc n) l w = none-short slack ns (or-false (isWork (x .kind) && leb (x .duration) slack) (anyShort slack ns) e .1) n (omega arith) w
 
-short-none : (p : Plan) (slack k a : ℕ) → shortFrom p slack a k ≡ Shortest.Nothing → (b : ℕ) → a ≤ b → b < a + k → Outlast slack (activityOf p b)
+short-none : (p : Plan) (slack k a : ℕ) → shortFrom p slack a k ≡ Short.Nothing → (b : ℕ) → a ≤ b → b < a + k → Outlast slack (activityOf p b)
 unfolding shortFrom
 short-none p slack zero a e b h l = absurd (omega arith)
 short-none p slack (suc k) a e b h l = go (anyShort slack (activityOf p a)) refl e (ℕ-discrete b a) (λ q m. short-none p slack k (a + 1) q b m (omega arith))
   where
-    go : (c : Bool) → anyShort slack (activityOf p a) ≡ c → cond c (Shortest.Activity a) (shortFrom p slack (a + 1) k) ≡ Shortest.Nothing → Dec (b ≡ a)
-        → (shortFrom p slack (a + 1) k ≡ Shortest.Nothing → a + 1 ≤ b → Outlast slack (activityOf p b)) → Outlast slack (activityOf p b)
+    go : (c : Bool) → anyShort slack (activityOf p a) ≡ c → cond c (Short.Activity a) (shortFrom p slack (a + 1) k) ≡ Short.Nothing → Dec (b ≡ a)
+        → (shortFrom p slack (a + 1) k ≡ Short.Nothing → a + 1 ≤ b → Outlast slack (activityOf p b)) → Outlast slack (activityOf p b)
     go true f q d more = absurd (let z : _≡_ {A = ℕ} 0 1 = cc in omega arith)
     go false f q (yes z) more = subst (λ (n : ℕ). Outlast slack (activityOf p n)) (sym z) (none-short slack (activityOf p a) f)
     go false f q (no z) more = more q (omega arith)
 
-by-shortest : {A : Type 0} (P : A → Type 0) (s : Shortest) (f : ℕ → A) (z : A) → ((a : ℕ) → P (f a)) → (s ≡ Shortest.Nothing → P z) → P (onShortest s f z)
-by-shortest P Shortest.Nothing f z k g = g refl
-by-shortest P (Shortest.Activity a) f z k g = k a
+by-shortest : {A : Type 0} (P : A → Type 0) (s : Short) (f : ℕ → A) (z : A) → ((a : ℕ) → P (f a)) → (s ≡ Short.Nothing → P z) → P (onShort s f z)
+by-shortest P Short.Nothing f z k g = g refl
+by-shortest P (Short.Activity a) f z k g = k a
 
 -- ---- the run at its opening
 
@@ -236,7 +221,7 @@ module _ (laws : EngineLaws) (bytes : List ℕ) (accept : AcceptedLaws bytes) (p
       by-shortest Fine (shortFrom p slack 0 (p .activities)) _ _ (λ d. unopened (Unopened.Short d)) (λ d. well (eqb-true _ _ a) (or-false (ltb horizon (psi .0)) (anyAbove ts) b) c d))
       (λ c. unopened Unopened.Slack))) (λ a. unopened Unopened.Availabilities)
     where
-      well : length ts ≡ p .resources → (ltb horizon (psi .0) ≡ false) × (anyAbove ts ≡ false) → slackInLimits slack ≡ true → shortFrom p slack 0 (p .activities) ≡ Shortest.Nothing
+      well : length ts ≡ p .resources → (ltb horizon (psi .0) ≡ false) × (anyAbove ts ≡ false) → slackInLimits slack ≡ true → shortFrom p slack 0 (p .activities) ≡ Short.Nothing
           → Fine (begin (fresh p psi slack (atFirst (availabilities ts) (p .automaton .initial))))
       well enough in-time c d q =
           let given : Accepted p psi slack = record {

@@ -7,14 +7,11 @@ use Prim.Native.Nat.{ℕ, suc, _+_, _<_}
 use native.Mathlib.Omega.{arith}
 use native.Mathlib.Nat.{add-zero}
 use borrow.Author.Tests.{lt-leb, eqb-true, eq-eqb}
-use lib.Dec.{ltb, eqb}
-use lib.ListN.{length, length-append, getD}
+use lib.Dec.{eqb}
+use lib.ListN.{length, length-append}
 use Rattle.lists.specs.Lists.{Among}
-use Rattle.time.specs.declared.Specified.{Specified}
-use Rattle.plan.specs.Plan.{move, resourceOf, pastNode}
+use Rattle.plan.specs.Plan.{move, resourceOf}
 use Rattle.plan.specs.declared.Input.{Input}
-use Rattle.plan.specs.declared.Kind.{Kind}
-use Rattle.plan.specs.declared.Node.{Node}
 use Rattle.plan.specs.declared.Plan.{Plan}
 use Rattle.behaviour.specs.Word.{Step, Word, size, once, times, _▷_}
 use Rattle.behaviour.specs.Combined.{Ident, named, Graph, processing, combined}
@@ -28,12 +25,12 @@ use Rattle.behaviour.specs.Laws.Lists.{among-either, map-among}
 use Rattle.behaviour.specs.Laws.Unique.{shape-of}
 use Rattle.behaviour.specs.Laws.Plans.{good-path}
 use Rattle.timing.specs.Times.{at}
-use Rattle.timing.specs.Queues.{pendingOf, queueOf, floorOf, processedOf, queuedOf, emission}
-use Rattle.timing.specs.Engine.{heldOf, leftBy, leftOf, closedOf, emitsOf, timedOf}
+use Rattle.timing.specs.Queues.{pendingOf, queueOf, floorOf, emission}
+use Rattle.timing.specs.Engine.{heldOf, closedOf, emitsOf, timedOf}
+use Rattle.timing.specs.Laws.Fits.{processed-position, left-position}
 use Rattle.timing.specs.declared.Instance.{Instance}
 use Rattle.timing.specs.declared.Progress.{Progress}
 use Rattle.path.specs.Path.{takenBy}
-use Rattle.window.specs.Tests.{by-test}
 use Rattle.log.specs.Log.{Log}
 use Rattle.log.specs.Log as Log
 use Rattle.demand.specs.Nodes.{lengthOf}
@@ -43,25 +40,6 @@ use Rattle.works.specs.Engine.{stateOf, rest, remaining, Pending, Advanc
 use Rattle.works.specs.Stands.{identOf, idOf, ToldAs, Queued, Stands}
 
 -- ---- the next position and state
-
-pub processed-position : (i : Input) (g : Progress) → processedOf i g .position ≡ g .position
-unfolding processedOf
-processed-position Input.Nothing g = refl
-processed-position (Input.Outcome e o) g = by-test (λ (h : Progress). h .position ≡ g .position) (ltb 0 (pendingOf g e)) _ _ (λ b. refl) (λ b. refl)
-
-left-position-by : (n t : ℕ) (k : Kind) (g : Progress) → leftBy n t k g .position ≡ g .position
-unfolding leftBy queuedOf
-left-position-by n t (Kind.Action a p) g = refl
-left-position-by n t (Kind.Claim r) g = refl
-left-position-by n t (Kind.Release r) g = refl
-left-position-by n t (Kind.Event e) g = by-test (λ (h : Progress). h .position ≡ g .position) (ltb (pendingOf g e) 8) _ _ (λ b. refl) (λ b. refl)
-
-pub left-position : (a : List Node) (end : List Specified) (ns : List ℕ) (g : Progress) → leftOf a end ns g .position ≡ g .position
-unfolding leftOf
-left-position a end [] g = refl
-left-position a end (n ∷ ns) g =
-    left-position a end ns (leftBy n (at end n) (getD a n pastNode .kind) g)
-    ∙ left-position-by n (at end n) (getD a n pastNode .kind) g
 
 pub next-position : (p : Plan) (t : ℕ) (g : Progress) → takenBy p t g .progress .position ≡ g .position + 1
 unfolding timedOf emitsOf closedOf heldOf

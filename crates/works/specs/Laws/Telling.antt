@@ -16,7 +16,7 @@ use Rattle.behaviour.specs.Laws.Lists.{among-map}
 use Rattle.timing.specs.Queues.{noInstance}
 use Rattle.timing.specs.declared.Instance.{Instance}
 use Rattle.window.specs.Tests.{by-test}
-use Rattle.run.specs.Calls.{tell, isInstance, toldFrom}
+use Rattle.outcomes.specs.Told.{tell, isInstance, toldFrom}
 use Rattle.works.specs.Laws.Bools.{and-left, and-right}
 use Rattle.works.specs.Stands.{identOf}
 

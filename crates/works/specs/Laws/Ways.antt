@@ -22,7 +22,8 @@ use Rattle.window.specs.declared.Entry.{Entry}
 use Rattle.window.specs.declared.Phase.{Phase}
 use Rattle.limits.specs.Window.{entryInLimits}
 use Rattle.run.specs.Limits.{runInLimits, haltInLimits}
-use Rattle.run.specs.Calls.{answer, heard, cleared, kindOf, isDone, toldOf, learnt, reported, completedBy, learnsBy, asked, completed, learns, timely, called, onHalt, askOf, completionOf, outcomeOf, callOf}
+use Rattle.outcomes.specs.Told.{toldOf}
+use Rattle.run.specs.Calls.{answer, heard, cleared, kindOf, isDone, learnt, reported, completedBy, learnsBy, asked, completed, learns, timely, called, onHalt, askOf, completionOf, outcomeOf, callOf}
 use Rattle.run.specs.Calls as Calls
 use Rattle.run.specs.declared.Run.{Run}
 use Rattle.run.specs.declared.Halt.{Halt}

@@ -1,49 +1,13 @@
 -- `way_of` is the way on of a run.
-use mathlib.Core.Path.{_≡_, sym, _∙_, ap}
-use Rattle.timing.specs.declared.Told.{Told}
-use Rattle.run.specs.Inner.{byTold}
-use Rattle.run.proofs.Onward.{awaited-below, way-ended, way-goes, way-waits}
 use borrow.Author.Needs.{needs}
 use Rattle.run.proofs.paths.way_of.Statement.{statement}
 use Rattle.run.proofs.paths.way_of.Tie as tie
 
-next-of-requires : tie.Need-next-of-requires
-next-of-requires c κs = search needs
-
-enum-told : tie.Need-enum-told
-enum-told c = search needs
+way-on-requires : tie.Need-way-on-requires
+way-on-requires c κs = c .before .before .pre .plan
 
 returns : tie.Need-returns
-returns c = let a = c .before .before .before .before .before .before .args .run in way-ended (a .plan .automaton) (a .progress) _ (sym (c .before .before .next-of .ensures) ∙ c .enum-told .given .1)
-
-enum-told-2 : tie.Need-enum-told-2
-enum-told-2 c = search needs
-
-returns-2 : tie.Need-returns-2
-returns-2 c = let a = c .before .before .before .before .before .before .args .run in way-goes (a .plan .automaton) (a .progress) _ _ (sym (c .before .before .next-of .ensures) ∙ c .enum-told2 .given .1)
-
-enum-known-next : tie.Need-enum-known-next
-enum-known-next c = search needs
-
-oldest-told-requires : tie.Need-oldest-told-requires
-oldest-told-requires c κs = let s = c .before .before .before .before .before .before .before in awaited-below (s .args .run .plan) (s .pre .plan) (s .args .run .progress .state) _ (sym (c .before .before .before .next-of .ensures) ∙ c .before .next .given .1)
-
-by-told-requires : tie.Need-by-told-requires
-by-told-requires c κs = search needs
-
-returns-3 : tie.Need-returns-3
-returns-3 c = let a = c .before .before .before .before .before .before .before .before .before .args .run in c .by-told .ensures ∙ (ap (λ (t : Told). byTold (a .plan .automaton) (a .progress .state) (c .before .before .before .next .given .0 .0) t) (c .before .oldest-told .ensures) ∙ way-waits (a .plan .automaton) (a .progress) _ _ (sym (c .before .before .before .before .before .next-of .ensures) ∙ c .before .before .before .next .given .1))
+returns c = c .way-on .ensures
 
 pub way-of-spec : {M : Type 1} → statement M
-way-of-spec =
-    tie.close
-    (tie.spec
-    next-of-requires
-    enum-told
-    returns
-    enum-told-2
-    returns-2
-    enum-known-next
-    oldest-told-requires
-    by-told-requires
-    returns-3)
+way-of-spec = tie.close (tie.spec way-on-requires returns)

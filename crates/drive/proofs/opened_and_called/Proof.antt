@@ -1,0 +1,45 @@
+-- The opening's record stands first, and the calls begin where the opening ends.
+use native.Mathlib.Omega.{arith}
+use denote.Ref.{now}
+use Prim.Native.Nat.{_-_}
+use Rattle.drive.proofs.Turns.{whole-fits, whole-calls, opens}
+use Rattle.drive.proofs.Placed.{record-length}
+use Rattle.puts.specs.Puts.{puts-length}
+use borrow.Author.Needs.{needs}
+use Rattle.drive.proofs.opened_and_called.Statement.{statement}
+use Rattle.drive.proofs.opened_and_called.Tie as tie
+use Rattle.drive.proofs.opened_and_called.Reads as reads
+use Rattle.drive.proofs.opened_and_called.Lts as lts
+use Rattle.drive.proofs.calls_from.Reads as calls-from-reads
+use Rattle.drive.proofs.input.open.Reads as open-reads
+use Rattle.drive.proofs.records.opening_record.Reads as opening-record-reads
+use Rattle.drive.proofs.records.put_at.Reads as put-at-reads
+
+open-requires : tie.Need-open-requires
+open-requires c κs = let a = c .before .before .args in whole-fits (now (a .input)) (a .head) (c .before .before .pre .0)
+
+opening-record-requires : tie.Need-opening-record-requires
+opening-record-requires c κs = search needs
+
+put-at-requires : tie.Need-put-at-requires
+put-at-requires c κs = search needs
+
+calls-from-requires : tie.Need-calls-from-requires
+calls-from-requires c κs = let m = c .before .before .before .before in let s = m .before .before .before .before .before .before in let a = s .args in (whole-calls (now (a .input)) (a .head) (s .pre .0), omega (arith, s .pre .1, record-length (m .before .before .opening-record .result), m .put-at .ensures .past, puts-length (m .put-at .ensures)))
+
+same-length : tie.Need-same-length
+same-length c = search needs
+
+returns : tie.Need-returns
+returns c = let m = c .before .before .before .before .before .before .before in let s = m .before .before .before .before .before .before in let a = s .args in opens (now (a .input)) (a .room) (a .head) (s .pre .0) _ (m .before .before .before .«open» .ensures) _ (m .before .before .opening-record .ensures) (m .put-at .ensures) (c .before .before .calls-from .ensures)
+
+pub opened-and-called-spec : {M : Type 1} → statement M
+opened-and-called-spec =
+    tie.close
+    (tie.spec
+    open-requires
+    opening-record-requires
+    put-at-requires
+    calls-from-requires
+    same-length
+    returns)

@@ -1,0 +1,52 @@
+-- What the functions of the table answer: the text is put into the lent buffer, and the rest is as it is defined.
+use mathlib.Core.Path.{_≡_}
+use mathlib.Core.Bool.{Bool, false}
+use mathlib.Core.List.{List}
+use Prim.Native.Nat.{ℕ, _+_, _≤_, _<_}
+use Rattle.puts.specs.Puts.{Puts}
+use Rattle.plan.specs.Limits.{InLimits}
+use Rattle.plan.specs.declared.Plan.{Plan}
+use Rattle.judge.specs.Judge.{judgeOf}
+use Rattle.timing.specs.declared.Progress.{Progress}
+use Rattle.table.specs.declared.Begun.{Begun}
+use Rattle.table.specs.declared.Heard.{Heard}
+use Rattle.table.specs.declared.Turned.{Turned}
+use Rattle.table.specs.Turn.{OneTurn, turnOf, isRefused, firstText, firstProgress, Open}
+
+-- the table of the plan `bytes` is begun at the front of a buffer
+pub record Begins (bytes before after : List ℕ) (r : Begun) : Type 0 where
+  pub text : Puts before 0 (firstText (judgeOf bytes .verdict)) after (r .next)
+  pub closed : r .closed ≡ isRefused (judgeOf bytes .verdict)
+  pub plan : r .plan ≡ judgeOf bytes .plan
+  pub progress : r .progress ≡ firstProgress (judgeOf bytes .plan)
+  pub stays : r .closed ≡ false → Open (r .plan) (r .progress)
+  pub few : r .next ≤ 50
+
+-- one line is put at the front of a buffer
+pub record OneLine (before line after : List ℕ) (next : ℕ) : Type 0 where
+  pub text : Puts before 0 line after next
+  pub few : next ≤ 50
+
+-- the turn x is put at `at`
+pub record Turns (before : List ℕ) (at : ℕ) (x : OneTurn) (after : List ℕ) (r : Turned) : Type 0 where
+  pub text : Puts before at (x .text) after (r .next)
+  pub closed : r .closed ≡ x .closed
+  pub heard : r .heard ≡ x .heard
+  pub progress : r .progress ≡ x .progress
+
+-- and what the next turn needs of it
+pub record Follows (p : Plan) (at : ℕ) (r : Turned) : Type 0 where
+  pub stays : r .closed ≡ false → Open p (r .progress)
+  pub few : r .next ≤ at + 4_000
+
+-- ---- what is asked
+
+-- a turn is put where its text has room in the largest buffer
+pub record Turnable (p : Plan) (g : Progress) (at : ℕ) : Type 0 where
+  pub within : Open p g
+  pub room : at ≤ 61_440
+
+-- and transition t is one of the plan's
+pub record Takeable (p : Plan) (g : Progress) (at t : ℕ) : Type 0 where
+  pub turnable : Turnable p g at
+  pub named : t < p .automaton .count

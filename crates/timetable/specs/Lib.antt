@@ -1,0 +1,2 @@
+-- The program timetable between two turns.
+pub mod Between
