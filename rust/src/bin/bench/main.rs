@@ -110,7 +110,12 @@ fn calling(name: &str, opening: &Opening, calls: &[Call], before: usize) {
     let mut all = Driven::new(opening, calls);
     let mut few = Driven::new(opening, &calls[..before]);
     let each = (calls.len() - before) as f64;
-    let mut one = |function: Driver| (all.time(function) - few.time(function)).max(0.0) / each;
+    // in turns, so that a slower spell of the machine falls on both
+    let mut one = |function: Driver| {
+        let times = (0..5).map(|_| (all.time(function), few.time(function)));
+        let (all, few) = times.fold((f64::INFINITY, f64::INFINITY), |(a, b), (x, y)| (a.min(x), b.min(y)));
+        (all - few).max(0.0) / each
+    };
     let linked = linked!("rattle_drive", drive, Driver);
     let ours = one(drive);
     print_row(name, ours, linked.map(one));
