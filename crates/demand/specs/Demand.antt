@@ -1,57 +1,98 @@
--- Demand 3, "a single claim about the whole list".
+-- Demand 3, "a single claim about the whole list": of the word of the log, with its specified times, and the run after the list.
 use mathlib.Core.Path.{_≡_}
 use mathlib.Core.Bool.{true}
+use mathlib.Core.List.{List, [], _∷_}
 use mathlib.Core.Logic.{_⊎_, _↔_}
 use Prim.Native.Nat.{ℕ, _+_, _≤_, _<_}
+use Rattle.plan.specs.Plan.{isFinal}
+use Rattle.plan.specs.declared.Plan.{Plan}
+use Rattle.behaviour.specs.Combined.{Ident, Before}
 use Rattle.window.specs.Window.{isStarted}
+use Rattle.window.specs.Places.{Holds}
 use Rattle.window.specs.declared.Entry.{Entry}
+use Rattle.run.specs.declared.Run.{Run}
 use Rattle.run.specs.declared.Reply.{Reply}
 use Rattle.run.specs.declared.Refusal.{Refusal}
-use Rattle.log.specs.Log.{Id, Always, reading, IsAsk, Starts, Started, Reports, Reported, FailedIn}
+use Rattle.log.specs.Log.{Id, Said, Log, Always, reading, IsAsk, Starts, Started, Reports, Reported, FailedIn, Finishes}
 use Rattle.log.specs.Host.{Host, Mild}
-use Rattle.demand.specs.Machine.{World, Machine, Driven, idOf, Held, Finished, Waited, before}
+use Rattle.log.specs.Drive.{Driven}
+use Rattle.demand.specs.Machine.{idOf}
+use Rattle.demand.specs.Nodes.{whose, Work, EmitsAt}
+use Rattle.demand.specs.TheWord.{stateAfter, wholeOf, Rests, Tail}
 
--- an answered start names the activity of the word at its position
-abbrev pub RightActivity : (W : World) → W .Word → Reply → Type 0
-RightActivity W word (Reply.Start q a n) = W .Emits word q a
-RightActivity W word Reply.Wait = Unit {0}
-RightActivity W word Reply.Done = Unit {0}
-RightActivity W word Reply.Taken = Unit {0}
-RightActivity W word (Reply.Refused f) = Unit {0}
-RightActivity W word (Reply.Stopped s) = Unit {0}
+-- ---- the window
 
--- `word`: the transitions taken
-pub record Demand3 (W : World) (M : Machine) (psi slack : ℕ) (word : W .Word) (d : Driven M) : Type 0 where
+-- node x stands in the window, with its times
+pub record Held (run : Run) (S C : Ident → ℕ) (x : Id) : Type 0 where
+  pub place : ℕ
+  pub entry : Entry
+  pub holds : Holds (run .window) place entry
+  pub node : idOf entry ≡ x
+  pub start : entry .start .0 ≡ S (whose x)
+  pub end : entry .end .0 ≡ C (whose x)
+
+-- an entry is an action or event of the word, not yet reported, with its times and its activity
+pub record OfTheWord (p : Plan) (is : List ℕ) (S C : Ident → ℕ) (log : Log) (e : Entry) : Type 0 where
+  pub node : Work (wholeOf p is) (idOf e)
+  pub unreported : Reported log (idOf e) → ⊥
+  pub start : e .start .0 ≡ S (whose (idOf e))
+  pub end : e .end .0 ≡ C (whose (idOf e))
+  pub activity : EmitsAt p is (e .position) (e .activity)
+
+-- the transitions v are loaded
+pub record Loaded (p : Plan) (is : List ℕ) (S C : Ident → ℕ) (d : Driven) (v : List ℕ) : Type 0 where
+  pub begins : Tail v is
+  -- "Paths are loaded up to a waiting or final state"
+  pub rests : Rests p v
+  -- the window holds exactly their actions and events not yet reported: a failing path "adds nothing"
+  pub window : (x : Id) → Held (d .run) S C x ↔ (Work (wholeOf p v) x × (Reported (d .log) x → ⊥))
+  -- unless a loading has failed they are the whole word
+  pub whole : (FailedIn (d .log) → ⊥) → v ≡ is
+
+-- ---- done
+
+-- done is answered exactly where the word has ended in a final state and everything is reported: of the last call of a list
+pub record DoneExactly (p : Plan) (is : List ℕ) (y : Said) (older : Log) : Type 0 where
+  pub final : Finishes (y .reply) → isFinal (p .automaton) (stateAfter p is) ≡ true
+  pub all : Finishes (y .reply) → (x : Id) → Work (wholeOf p is) x → Reported older x
+  pub only : y .reply ≡ Reply.Wait → isFinal (p .automaton) (stateAfter p is) ≡ true → ((x : Id) → Work (wholeOf p is) x → Reported older x) → ⊥
+
+abbrev pub Ends : Plan → List ℕ → Log → Type 0
+Ends p is [] = Unit {0}
+Ends p is (y ∷ older) = DoneExactly p is y older
+
+-- ---- the claim
+
+-- `is`: the word of the log; S and C: its specified times
+pub record Demand3 (p : Plan) (psi slack : ℕ) (is : List ℕ) (S C : Ident → ℕ) (d : Driven) : Type 0 where
   -- "A node is started by the ask answered start with it"
   pub by-ask : Always (λ y older. (x : Id) → Starts (y .reply) x → IsAsk (y .call)) (d .log)
   -- no node is started twice
   pub once : Always (λ y older. (x : Id) → Starts (y .reply) x → Started older x → ⊥) (d .log)
-  -- "Every started node is one of its actions and events"
-  pub in-word : Always (λ y older. (x : Id) → Starts (y .reply) x → W .Node word x) (d .log)
-  pub in-activity : Always (λ y older. RightActivity W word (y .reply)) (d .log)
+  -- "Every started node is one of its actions and events", and is named with its activity
+  pub in-word : Always (λ y older. (x : Id) → Starts (y .reply) x → Work (wholeOf p is) x) (d .log)
+  pub in-activity : Always (λ y older. (q a n : ℕ) → y .reply ≡ Reply.Start q a n → EmitsAt p is q a) (d .log)
   -- none before its specified clock start, nor later than that plus the slack
-  pub from : Always (λ y older. (x : Id) → Starts (y .reply) x → psi + W .start word x ≤ reading (y .call)) (d .log)
-  pub until : Always (λ y older. (x : Id) → Starts (y .reply) x → reading (y .call) ≤ psi + W .start word x + slack) (d .log)
+  pub from : Always (λ y older. (x : Id) → Starts (y .reply) x → psi + S (whose x) ≤ reading (y .call)) (d .log)
+  pub until : Always (λ y older. (x : Id) → Starts (y .reply) x → reading (y .call) ≤ psi + S (whose x) + slack) (d .log)
   -- none before all that it depends on was reported, in an earlier call
-  pub after-all : Always (λ y older. (x m : Id) → Starts (y .reply) x → W .Before word m x → Reported older m) (d .log)
-  -- reports are of started nodes, before their completion, and no node is reported twice
+  pub after-all : Always (λ y older. (x m : Id) → Starts (y .reply) x → Before (wholeOf p is) (whose m) (whose x) → Reported older m) (d .log)
+  -- reports are of started nodes, before their specified clock completion, and no node is reported twice
   pub reported-started : Always (λ y older. (x : Id) → Reports (y .call) (y .reply) older x → Started older x) (d .log)
-  pub reported-early : Always (λ y older. (x : Id) → Reports (y .call) (y .reply) older x → reading (y .call) < psi + W .completion word x) (d .log)
+  pub reported-early : Always (λ y older. (x : Id) → Reports (y .call) (y .reply) older x → reading (y .call) < psi + C (whose x)) (d .log)
   pub reported-once : Always (λ y older. (x : Id) → Reports (y .call) (y .reply) older x → Reported older x → ⊥) (d .log)
   -- "unless a loading has failed, the window holds exactly those of them not yet reported"
-  pub window-exact : (FailedIn (d .log) → ⊥) → (x : Id) → Held (M .holds (d .run)) x ↔ (W .Node word x × (Reported (d .log) x → ⊥))
-  pub window-or-reported : (FailedIn (d .log) → ⊥) → (x : Id) → W .Node word x → Held (M .holds (d .run)) x ⊎ Reported (d .log) x
-  -- each stands there once, with its times, and marked as started if it is
-  pub window-once : (i j : ℕ) (e f : Entry) → M .holds (d .run) i e → M .holds (d .run) j f → idOf e ≡ idOf f → i ≡ j
-  pub window-start : (i : ℕ) (e : Entry) → M .holds (d .run) i e → e .start .0 ≡ W .start word (idOf e)
-  pub window-end : (i : ℕ) (e : Entry) → M .holds (d .run) i e → e .end .0 ≡ W .completion word (idOf e)
-  pub window-started : (i : ℕ) (e : Entry) → M .holds (d .run) i e → (isStarted (e .phase) ≡ true) ↔ Started (d .log) (idOf e)
-  -- "It says done if the path ended in a final state and the window is empty, otherwise wait when nothing is due": of the
-  -- latest answer
-  pub done-final : (FailedIn (d .log) → ⊥) → Finished (d .log) → W .Final word
-  pub done-all : (FailedIn (d .log) → ⊥) → Finished (d .log) → (x : Id) → W .Node word x → Reported (before (d .log)) x
-  pub wait-only : (FailedIn (d .log) → ⊥) → Waited (d .log) → W .Final word → ((x : Id) → W .Node word x → Reported (before (d .log)) x) → ⊥
+  pub window-exact : (FailedIn (d .log) → ⊥) → (x : Id) → Held (d .run) S C x ↔ (Work (wholeOf p is) x × (Reported (d .log) x → ⊥))
+  pub window-or-reported : (FailedIn (d .log) → ⊥) → (x : Id) → Work (wholeOf p is) x → Held (d .run) S C x ⊎ Reported (d .log) x
+  -- and if one has failed, those of what was loaded before
+  pub loaded : (v : List ℕ) × Loaded p is S C d v
+  -- nothing else stands there, each stands there once, and is marked as started if it is
+  pub window-only : (i : ℕ) (e : Entry) → Holds (d .run .window) i e → OfTheWord p is S C (d .log) e
+  pub window-once : (i j : ℕ) (e f : Entry) → Holds (d .run .window) i e → Holds (d .run .window) j f → idOf e ≡ idOf f → i ≡ j
+  pub window-started : (i : ℕ) (e : Entry) → Holds (d .run .window) i e → (isStarted (e .phase) ≡ true) ↔ Started (d .log) (idOf e)
+  -- "It says done if the path ended in a final state and the window is empty, otherwise wait when nothing is due"
+  pub done : (FailedIn (d .log) → ⊥) → Ends p is (d .log)
   -- under a well-behaved host the run never stops as late or overdue
-  pub never-late : Host psi slack (W .completion word) (d .log) → Always (λ y older. Mild (y .reply)) (d .log)
+  pub never-late : Host psi slack (λ x. C (whose x)) (d .log) → Always (λ y older. Mild (y .reply)) (d .log)
   -- "no call in a list as in demand 3 gets 50 after an accepted opening"
   pub never-50 : Always (λ y older. y .reply ≡ Reply.Refused Refusal.OutOfLimits → ⊥) (d .log)

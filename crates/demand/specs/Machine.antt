@@ -1,13 +1,13 @@
 -- What demand 3 speaks of: the words of a plan with their nodes, times and arrows, and a run with its window that answers
 -- calls. Both are given by what is asked of them, so that the claim rests on nothing else.
 use mathlib.Core.Path.{_≡_}
-use mathlib.Core.List.{List, [], _∷_}
+use mathlib.Core.List.{[], _∷_}
 use Prim.Native.Nat.{ℕ}
 use Rattle.window.specs.declared.Entry.{Entry}
 use Rattle.run.specs.declared.Call.{Call}
 use Rattle.run.specs.declared.Reply.{Reply}
 use Rattle.run.specs.declared.Halt.{Halt}
-use Rattle.log.specs.Log.{Id, id, Log, said, Finishes}
+use Rattle.log.specs.Log.{Id, id, Log, Finishes}
 
 -- Words, and of each "Its combined activity, under the opening's availabilities": its actions and events, their specified
 -- times, and which stands before which; the activity at a position; and whether it ends in a final state.
@@ -28,16 +28,6 @@ pub record Machine : Type 1 where
   pub last : Run → ℕ
   pub halt : Run → Halt
   pub holds : Run → ℕ → Entry → Type 0
-
--- the calls so far with their answers, and the run after them
-pub record Driven (M : Machine) : Type 0 where
-  pub log : Log
-  pub run : M .Run
-
--- each call is given the run that the call before it returned
-abbrev pub drive : (M : Machine) → Log → M .Run → List Call → Driven M
-drive M log run [] = record { log = log; run = run }
-drive M log run (c ∷ cs) = drive M (said c (M .reply run c) ∷ log) (M .next run c) cs
 
 -- ---- the window
 

@@ -25,6 +25,15 @@ nextAfter p is = nextOf (p .automaton) (stateAfter p is)
 abbrev pub wholeOf : Plan → List ℕ → Graph
 wholeOf p is = combined (p .resources) (wordOf p is)
 
+-- the state after them waits or is final
+abbrev pub Rests : Plan → List ℕ → Type 0
+Rests p is = (t : ℕ) → nextAfter p is ≡ Next.Goes t → ⊥
+
+-- `is` is a beginning of others: the latest stand first
+pub data Tail (is : List ℕ) : List ℕ → Type 0 where
+  here : Tail is is
+  later : {us : List ℕ} {t : ℕ} → Tail is us → Tail is (t ∷ us)
+
 -- x is the oldest unprocessed instance of event e: as many are before it as were processed
 abbrev pub Oldest : Plan → List ℕ → ℕ → Id → Type 0
 Oldest p is e x = Instance (wholeOf p is) e (times e (wordOf p is) + 1) (identity (x .position) (x .node))

@@ -1,21 +1,37 @@
--- Demand 3, from what the run supplies.
-use mathlib.Core.Path.{_≡_, refl, sym, _∙_, subst}
+-- Demand 3, from what the run supplies: the invariant after a list of calls, and the claim that it gives of every word that goes
+-- on from the one that is loaded.
+use mathlib.Core.Path.{_≡_, refl, sym, ap, _∙_, subst}
 use mathlib.Core.Bool.{Bool, true, false, true≢false}
 use mathlib.Core.List.{List, [], _∷_}
-use mathlib.Core.Logic.{inl, inr, ⊎-elim}
+use mathlib.Core.Logic.{_⊎_, inl, inr, ⊎-elim, _↔_}
 use Prim.Native.Nat.{ℕ}
+use native.Mathlib.Omega.{arith}
+use Rattle.plan.specs.declared.Plan.{Plan}
+use Rattle.behaviour.specs.Combined.{Ident}
+use Rattle.behaviour.specs.Paths.{Lawful, Follows}
+use Rattle.behaviour.specs.Times.{Timing}
+use Rattle.behaviour.specs.Theorems.{plan-times-only}
 use Rattle.window.specs.Window.{isStarted}
+use Rattle.window.specs.Places.{Holds}
 use Rattle.window.specs.declared.Entry.{Entry}
+use Rattle.run.specs.Calls.{callOf}
+use Rattle.run.specs.declared.Run.{Run}
 use Rattle.run.specs.declared.Call.{Call}
 use Rattle.run.specs.declared.Reply.{Reply}
-use Rattle.log.specs.Log.{Id, Said, said, Log, Started, Reports, Reported, FailedIn, Finishes}
+use Rattle.log.specs.Log.{Id, Said, said, Log, Always, Starts, Started, Reports, Reported, FailedIn, Finishes}
 use Rattle.log.specs.Host.{Reading, None, At}
-use Rattle.demand.specs.Machine.{World, Machine, Driven, drive, idOf, Held, Finished, before}
-use Rattle.demand.specs.Demand.{Demand3}
-use Rattle.demand.specs.Way.{Extends}
+use Rattle.log.specs.Drive.{Driven, drive}
+use Rattle.demand.specs.Machine.{World, idOf, Finished, Waiting, before}
+use Rattle.demand.specs.Machine as Machine
+use Rattle.demand.specs.Nodes.{whose, Work}
+use Rattle.demand.specs.TheWord.{stateAfter, wholeOf, Rests, Tail}
+use Rattle.demand.specs.OfPlan.{worldOf}
+use Rattle.demand.specs.OfRun.{machine}
+use Rattle.demand.specs.Demand.{Held, OfTheWord, Loaded, DoneExactly, Ends, Demand3}
+use Rattle.demand.specs.Way.{Agrees, Extends, RightActivity}
 use Rattle.demand.specs.Works.{Works, Opened}
-use Rattle.demand.specs.Laws.Accounts.{always-map, no-report, BegunAt, EndedAt, Accounts, accounts-load}
-use Rattle.demand.specs.Laws.Invariant.{MildHalt, Invariant}
+use Rattle.demand.specs.Laws.Accounts.{always-map, no-report, right-later, agree-later, Begun, BegunAt, Ended, EndedAt, Accounts, begun-later, ended-later}
+use Rattle.demand.specs.Laws.Invariant.{MildHalt, Latest, Invariant}
 use Rattle.demand.specs.Laws.Replies.{not-going}
 use Rattle.demand.specs.Laws.Keeping.{kept}
 
@@ -34,18 +50,14 @@ finished-before : (log : Log) → Finished log → (x : Id) → Reported log x �
 finished-before (y ∷ older) p x (inl q) = absurd (finish-reports (y .call) (y .reply) older x p q)
 finished-before (y ∷ older) p x (inr q) = q
 
-reported-since : (log : Log) (x : Id) → Reported (before log) x → Reported log x
-reported-since [] x p = p
-reported-since (y ∷ older) x p = inr p
-
-module _ (W : World) (M : Machine) (psi slack : ℕ) (Good : Log → W .Word → M .Run → Type 0) where
-  pub invariant-open : (word : W .Word) (run : M .Run) → Opened W M Good word run → Invariant W M psi slack word [] run
+module _ (W : World) (psi slack : ℕ) (Good : Log → W .Word → Run → Type 0) where
+  pub invariant-open : (word : W .Word) (run : Run) → Opened W machine Good word run → Invariant W machine psi slack word [] run
   invariant-open word run o = record {
     accounts = record {
       agree = o .agree;
       distinct = o .distinct;
       unreported = λ i e h p. p;
-      held = λ nf id n. inl (o .all id n);
+      held = λ id n. inl (o .all id n);
       started-node = λ id p. absurd p;
       reported-node = λ id p. absurd p;
       waiting = λ i e h s p. p;
@@ -67,65 +79,100 @@ module _ (W : World) (M : Machine) (psi slack : ℕ) (Good : Log → W .Word →
     mild = λ C m h. (tt, subst MildHalt (sym (o .going)) tt);
   }
 
-  pub invariant-drive : Works W M psi slack Good → (cs : List Call) (log : Log) (word : W .Word) (run : M .Run) → Good log word run → Invariant W M psi slack word log run →
-      (later : W .Word) × Good (drive M log run cs .log) later (drive M log run cs .run) × Invariant W M psi slack later (drive M log run cs .log) (drive M log run cs .run)
+  pub invariant-drive : Works W machine psi slack Good → (cs : List Call) (log : Log) (word : W .Word) (run : Run) → Good log word run → Invariant W machine psi slack word log run →
+      (later : W .Word) × Good (drive log run cs .log) later (drive log run cs .run) × Invariant W machine psi slack later (drive log run cs .log) (drive log run cs .run)
   invariant-drive w [] log word run g v = (word, g, v)
   invariant-drive w (c ∷ cs) log word run g v =
       let n = w .ways log word run g v c in
-      invariant-drive w cs (said c (M .reply run c) ∷ log) (n .0) (M .next run c) (n .2)
-      (kept W M psi slack Good w log word run g v c (M .reply run c) (M .next run c) (n .0) (n .1))
+      invariant-drive w cs (said c (callOf run c .reply) ∷ log) (n .0) (callOf run c .run) (n .2)
+      (kept W machine psi slack Good w log word run g v c (callOf run c .reply) (callOf run c .run) (n .0) (n .1))
 
-  -- of the word loaded, and of any that extends it and is the same unless a loading failed
-  from-invariant : (word u : W .Word) (d : Driven M) → Invariant W M psi slack word (d .log) (d .run) → Extends W word u → ((FailedIn (d .log) → ⊥) → word ≡ u) → Demand3 W M psi slack u d
-  from-invariant word u d v ex same = record {
-    by-ask = always-map B _ (λ y older h x p. h x p .ask) (d .log) (a .starts);
-    once = always-map B _ (λ y older h x p. h x p .once) (d .log) (a .starts);
-    in-word = always-map B _ (λ y older h x p. h x p .node) (d .log) (a .starts);
-    in-activity = a .activities;
-    from = always-map B _ (λ y older h x p. h x p .from) (d .log) (a .starts);
-    until = always-map B _ (λ y older h x p. h x p .until) (d .log) (a .starts);
-    after-all = always-map B _ (λ y older h x m p. h x p .after m) (d .log) (a .starts);
-    reported-started = always-map E _ (λ y older h x p. h x p .started) (d .log) (a .reports);
-    reported-early = always-map E _ (λ y older h x p. h x p .early) (d .log) (a .reports);
-    reported-once = always-map E _ (λ y older h x p. h x p .once) (d .log) (a .reports);
-    window-exact = λ nf x. (
-      λ (h : Held (M .holds (d .run)) x). (subst (W .Node u) (h .3) (a .agree (h .0) (h .1) (h .2) .node), λ p. a .unreported (h .0) (h .1) (h .2) (subst (Reported (d .log)) (sym (h .3)) p)),
-      λ n. ⊎-elim (λ h. h) (λ p. absurd (n .1 p)) (a .held nf x (n .0)),
-    );
-    window-or-reported = a .held;
-    window-once = a .distinct;
-    window-start = λ i e h. a .agree i e h .starts;
-    window-end = λ i e h. a .agree i e h .completes;
-    window-started = λ i e h. (a .running i e h, λ p. flag i e h p (isStarted (e .phase)) refl);
-    done-final = λ nf p. subst (W .Final) (same nf) (v .latest .done-final p);
-    done-all = λ nf p x n. ⊎-elim (λ (h : Held (M .holds (d .run)) x). absurd (v .latest .done-empty p (h .0) (h .1) (h .2))) (λ r. finished-before (d .log) p x r) (a .held nf x n);
-    wait-only = λ nf p f all.
-        let h = v .latest .wait-only p (subst (W .Final) (sym (same nf)) f) in
-        a .unreported (h .0) (h .1) (h .2) (reported-since (d .log) (idOf (h .1)) (all (idOf (h .1)) (a .agree (h .0) (h .1) (h .2) .node)));
-    never-late = λ h. v .mild (W .completion u) (λ x p. ex .completions x (v .accounts .started-node x p)) h .0;
-    never-50 = v .numbers;
+-- ---- the claim
+
+-- `word` is loaded, and u goes on from it; S and C are times of u
+module _ (p : Plan) (lawful : Lawful p) (psi slack : ℕ) (available : ℕ → ℕ) (word u : List ℕ) (d : Driven) (v : Invariant (worldOf p available) machine psi slack word (d .log) (d .run))
+    (path : Follows p (p .automaton .initial) u (stateAfter p u)) (begins : Tail word u) (x : Extends (worldOf p available) word u) (rests : Rests p word) (same : (FailedIn (d .log) → ⊥) → word ≡ u)
+    (S C : Ident → ℕ) (times : Timing (wholeOf p u) available S C) where
+  abbrev W : World
+  W = worldOf p available
+
+  a : Accounts W psi slack word (d .log) (Holds (d .run .window))
+  a = v .accounts
+
+  start-is : (y : Id) → W .Node u y → S (whose y) ≡ W .start u y
+  start-is y n = plan-times-only p lawful available u (stateAfter p u) path S C times (whose y) (n .0) (n .1 .0) (n .1 .1) .0
+
+  end-is : (y : Id) → W .Node u y → C (whose y) ≡ W .completion u y
+  end-is y n = plan-times-only p lawful available u (stateAfter p u) path S C times (whose y) (n .0) (n .1 .0) (n .1 .1) .1
+
+  starts : {P : Said → Log → Type 0} → ((y : Said) (older : Log) → BegunAt W psi slack u y older → P y older) → Always P (d .log)
+  starts {P} f =
+      always-map (BegunAt W psi slack word) P (λ y older h. f y older (λ z q. begun-later W psi slack word (d .log) (Holds (d .run .window)) a u x older (y .call) z (h z q))) (d .log) (a .starts)
+
+  reports : {P : Said → Log → Type 0} → ((y : Said) (older : Log) → EndedAt W psi u y older → P y older) → Always P (d .log)
+  reports {P} f =
+      always-map (EndedAt W psi word) P (λ y older h. f y older (λ z q. ended-later W psi slack word (d .log) (Holds (d .run .window)) a u x older (y .call) z (h z q))) (d .log) (a .reports)
+
+  agrees : (i : ℕ) (e : Entry) → Holds (d .run .window) i e → Agrees W u e
+  agrees i e h = agree-later W word u x e (a .agree i e h)
+
+  of-word : (i : ℕ) (e : Entry) → Holds (d .run .window) i e → OfTheWord p u S C (d .log) e
+  of-word i e h =
+      let g = agrees i e h in
+      record { node = g .node; unreported = a .unreported i e h; start = g .starts ∙ sym (start-is (idOf e) (g .node)); end = g .completes ∙ sym (end-is (idOf e) (g .node)); activity = g .activity }
+
+  held : (y : Id) → Machine.Held (Holds (d .run .window)) y → Held (d .run) S C y
+  held y (i, e, h, q) =
+      let g = of-word i e h in
+      record { place = i; entry = e; holds = h; node = q; start = g .start ∙ ap (λ (z : Id). S (whose z)) q; end = g .end ∙ ap (λ (z : Id). C (whose z)) q }
+
+  -- the window, of what is loaded
+  window : (y : Id) → Held (d .run) S C y ↔ (Work (wholeOf p word) y × (Reported (d .log) y → ⊥))
+  window y = (
+    λ h. (subst (W .Node word) (h .node) (a .agree (h .place) (h .entry) (h .holds) .node), λ q. a .unreported (h .place) (h .entry) (h .holds) (subst (Reported (d .log)) (sym (h .node)) q)),
+    λ n. ⊎-elim (λ h. held y h) (λ q. absurd (n .1 q)) (a .held y (n .0)),
+  )
+
+  -- and of the word, unless a loading failed
+  old : (FailedIn (d .log) → ⊥) → (y : Id) → Work (wholeOf p u) y → Work (wholeOf p word) y
+  old nf y n = subst (λ (z : List ℕ). Work (wholeOf p z) y) (sym (same nf)) n
+
+  flag : (i : ℕ) (e : Entry) → Holds (d .run .window) i e → Started (d .log) (idOf e) → (b : Bool) → isStarted (e .phase) ≡ b → isStarted (e .phase) ≡ true
+  flag i e h q true z = z
+  flag i e h q false z = absurd (a .waiting i e h z q)
+
+  ends : (log : Log) → (FailedIn log → ⊥) → log ≡ d .log → Latest W word log (Holds (d .run .window)) → Ends p u log
+  ends [] nf e l = tt
+  ends (y ∷ older) nf e l = record {
+    final = λ q. subst (W .Final) (same no) (l .done-final q);
+    all = λ q z n. ⊎-elim (λ (h : Machine.Held (Holds (d .run .window)) z). absurd (l .done-empty q (h .0) (h .1) (h .2))) (λ r. finished-before (y ∷ older) q z (subst (λ (m : Log). Reported m z) (sym e) r)) (a .held z (old no z n));
+    only = λ q f all.
+        let h = l .wait-only (subst Waiting (sym q) tt) (subst (W .Final) (sym (same no)) f) in
+        a .unreported (h .0) (h .1) (h .2) (subst (λ (m : Log). Reported m (idOf (h .1))) e (inr (all (idOf (h .1)) (agrees (h .0) (h .1) (h .2) .node))));
   }
     where
-      a : Accounts W psi slack u (d .log) (M .holds (d .run))
-      a =
-          accounts-load W psi slack word (d .log) (M .holds (d .run)) (v .accounts) u ex 0 (M .holds (d .run)) (λ j f h. h) (λ j f h. inl h) (v .accounts .distinct)
-          (λ nf x n. inl (subst (λ (z : W .Word). W .Node z x) (sym (same nf)) n))
+      no : FailedIn (d .log) → ⊥
+      no q = nf (subst FailedIn (sym e) q)
 
-      B : Said → Log → Type 0
-      B = BegunAt W psi slack u
-
-      E : Said → Log → Type 0
-      E = EndedAt W psi u
-
-      flag : (i : ℕ) (e : Entry) → M .holds (d .run) i e → Started (d .log) (idOf e) → (b : Bool) → isStarted (e .phase) ≡ b → isStarted (e .phase) ≡ true
-      flag i e h p true q = q
-      flag i e h p false q = absurd (a .waiting i e h q p)
-
-  -- after any list of calls there is a word that is loaded, good for the layers below; demand 3 holds of each word that extends
-  -- it and is the same unless a loading failed: of itself, and of the word of the log
-  pub demand-3 : Works W M psi slack Good → (word : W .Word) (opening : M .Run) → Opened W M Good word opening → (cs : List Call) →
-      (loaded : W .Word) × Good (drive M [] opening cs .log) loaded (drive M [] opening cs .run) ×
-      ((u : W .Word) → Extends W loaded u → ((FailedIn (drive M [] opening cs .log) → ⊥) → loaded ≡ u) → Demand3 W M psi slack u (drive M [] opening cs))
-  demand-3 w word opening o cs =
-      let r = invariant-drive w cs [] word opening (o .good) (invariant-open word opening o) in
-      (r .0, r .1, λ u x same. from-invariant (r .0) u (drive M [] opening cs) (r .2) x same)
+  pub claim : Demand3 p psi slack u S C d
+  claim = record {
+    by-ask = starts (λ y older h z q. h z q .ask);
+    once = starts (λ y older h z q. h z q .once);
+    in-word = starts (λ y older h z q. h z q .node);
+    in-activity = always-map _ _ (λ y older h q b n e. x .activities q b (subst (RightActivity W word) e h)) (d .log) (a .activities);
+    from = starts (λ y older h z q. let b = h z q in let s = start-is z (b .node) in let l = b .from in omega arith);
+    until = starts (λ y older h z q. let b = h z q in let s = start-is z (b .node) in let l = b .until in omega arith);
+    after-all = starts (λ y older h z m q. h z q .after m);
+    reported-started = reports (λ y older h z q. h z q .started);
+    reported-early = reports (λ y older h z q. let b = h z q in let s = end-is z (b .node) in let l = b .early in omega arith);
+    reported-once = reports (λ y older h z q. h z q .once);
+    window-exact = λ nf y. subst (λ (z : List ℕ). Held (d .run) S C y ↔ (Work (wholeOf p z) y × (Reported (d .log) y → ⊥))) (same nf) (window y);
+    window-or-reported = λ nf y n. ⊎-elim (λ h. inl (held y h)) (λ q. inr q) (a .held y (old nf y n));
+    loaded = (word, record { begins = begins; rests = rests; window = window; whole = same });
+    window-only = of-word;
+    window-once = a .distinct;
+    window-started = λ i e h. (a .running i e h, λ q. flag i e h q (isStarted (e .phase)) refl);
+    done = λ nf. ends (d .log) nf refl (v .latest);
+    never-late = λ h. v .mild (λ y. C (whose y)) (λ y q. let n = a .started-node y q in end-is y (x .nodes y n) ∙ x .completions y n) h .0;
+    never-50 = v .numbers;
+  }

@@ -62,13 +62,22 @@ Clears ws ws′ i = (j : ℕ) (f : Entry) → ws′ j f ↔ ((j ≡ i → ⊥) �
 abbrev pub Marks : Window → Window → ℕ → Entry → Type 0
 Marks ws ws′ i e = (j : ℕ) (f : Entry) → ws′ j f ↔ (((j ≡ i) × (f ≡ startedOf e)) ⊎ ((j ≡ i → ⊥) × ws j f))
 
--- place i is cleared, and new entries stand in other places; if the loading did not fail, they are all that is new in the word
-pub record Loads (W : World) (ws ws′ : Window) (i floor : ℕ) (word later : W .Word) (failure : Failure) : Type 0 where
+-- place i is cleared, and new entries stand in other places: all that is new in the word, if the loading failed or not
+pub record Loads (W : World) (ws ws′ : Window) (i floor : ℕ) (word later : W .Word) : Type 0 where
   pub extends : Extends W word later
   pub kept : (j : ℕ) (f : Entry) → (j ≡ i → ⊥) → ws j f → ws′ j f
   pub only : (j : ℕ) (f : Entry) → ws′ j f → ((j ≡ i → ⊥) × ws j f) ⊎ New W word later floor f
   pub distinct : (j k : ℕ) (f g : Entry) → ws′ j f → ws′ k g → idOf f ≡ idOf g → j ≡ k
-  pub all : failure ≡ Failure.None → (x : Id) → W .Node later x → W .Node word x ⊎ Held ws′ x
+  pub all : (x : Id) → W .Node later x → W .Node word x ⊎ Held ws′ x
+
+-- an answered start names the activity of the word at its position
+abbrev pub RightActivity : (W : World) → W .Word → Reply → Type 0
+RightActivity W word (Reply.Start q a n) = W .Emits word q a
+RightActivity W word Reply.Wait = Unit {0}
+RightActivity W word Reply.Done = Unit {0}
+RightActivity W word Reply.Taken = Unit {0}
+RightActivity W word (Reply.Refused f) = Unit {0}
+RightActivity W word (Reply.Stopped s) = Unit {0}
 
 -- ---- a call
 
@@ -129,5 +138,5 @@ pub data Way (W : World) (M : Machine) (psi slack : ℕ) (run run′ : M .Run) (
       → M .holds run i e → isStarted (e .phase) ≡ true → Clears (M .holds run) (M .holds run′) i
       → Way W M psi slack run run′ word word (Call.Completion t (e .position) (e .node)) Reply.Taken
   learns : {later : W .Word} {t : Clock} {o : ℕ} (i : ℕ) (e : Entry) (f : Failure) → Turns M run run′ (t .0) (haltOf f) → Clear psi slack (M .last run) (M .holds run) (t .0)
-      → M .holds run i e → isStarted (e .phase) ≡ true → Loads W (M .holds run) (M .holds run′) i (e .end .0) word later f
+      → M .holds run i e → isStarted (e .phase) ≡ true → Loads W (M .holds run) (M .holds run′) i (e .end .0) word later
       → Way W M psi slack run run′ word later (Call.Outcome t (e .position) (e .node) o) (replyOf f)

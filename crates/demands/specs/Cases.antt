@@ -14,6 +14,7 @@ use Rattle.run.specs.Numbers.{refusalNumber, stopNumber, openNumber, openPlace}
 use Rattle.run.specs.Opening.{openOf}
 use Rattle.run.specs.Calls.{callOf}
 use Rattle.table.specs.Timetable.{timetableOf}
+use Rattle.log.specs.Drive.{drive}
 use Rattle.demands.specs.Inputs.{planT, planK3, inputT, printedT}
 
 -- what is given
@@ -64,8 +65,7 @@ clock t = record { 0 = t }
 
 -- the run after some calls
 abbrev pub runAfter : Run → List Call → Run
-runAfter run [] = run
-runAfter run (c ∷ cs) = runAfter (callOf run c .run) cs
+runAfter run cs = drive [] run cs .run
 
 abbrev pub resultOf : Given → Result
 resultOf (file bytes) = ofVerdict (judgeOf bytes .verdict)

@@ -19,10 +19,10 @@ use Rattle.run.specs.declared.Call.{Call}
 use Rattle.run.specs.declared.Reply.{Reply}
 use Rattle.run.specs.declared.Refusal.{Refusal}
 use Rattle.run.specs.declared.Failure.{Failure}
-use Rattle.run.specs.Limits.{runInLimits}
 use Rattle.run.specs.Loading.{further, mostPending}
 use Rattle.outcomes.specs.Told.{toldOf}
 use Rattle.run.specs.Calls.{callOf, readingOf, kindOf, cleared}
+use Rattle.demands.specs.InLimits.{RunInLimits}
 
 -- ---- places of the window
 
@@ -65,7 +65,7 @@ pub record FirstOf (run : Run) (P : ℕ → Type 0) (goes : Entry → Entry → 
 
 -- neither 50 nor a kept stop
 pub record Going (run : Run) : Type 0 where
-  pub limits : runInLimits run ≡ true
+  pub limits : RunInLimits run
   pub going : run .halt ≡ Halt.Going
 
 -- nor 51
@@ -134,7 +134,7 @@ loadingAfter run t o i e = further mostPending (cleared run t i (toldOf (run .pr
 
 pub data Refuses (run : Run) : Call → Refusal → Type 0 where
   -- "a run in which a stored count, number or time lies outside this paper's or its plan's limits"
-  number50 : {c : Call} → runInLimits run ≡ false → Refuses run c Refusal.OutOfLimits
+  number50 : {c : Call} → (RunInLimits run → ⊥) → Refuses run c Refusal.OutOfLimits
   -- "reading below the last one"
   number51 : {c : Call} → Going run → readingOf c .0 < run .last .0 → Refuses run c Refusal.ReadingBelow
   -- "no such node in the window"
@@ -151,7 +151,7 @@ pub data Refuses (run : Run) : Call → Refusal → Type 0 where
 
 pub data Halts (run : Run) : Call → Stop → Type 0 where
   -- "A call to a stopped run .. answers the stop."
-  kept : {c : Call} {s : Stop} → runInLimits run ≡ true → run .halt ≡ Halt.Stopped s → Halts run c s
+  kept : {c : Call} {s : Stop} → RunInLimits run → run .halt ≡ Halt.Stopped s → Halts run c s
   -- "naming the one with the earliest completion"
   number42 : {c : Call} (i : ℕ) → Rises run (readingOf c) → FirstOf run (OverdueAt run (readingOf c)) endsBefore i
       → Halts run c (Stop.Overdue (entryAt run i .position) (entryAt run i .node))

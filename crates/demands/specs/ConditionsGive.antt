@@ -18,10 +18,12 @@ use Rattle.run.specs.declared.Reply.{Reply}
 use Rattle.run.specs.declared.Answer.{Answer}
 use Rattle.run.specs.declared.Refusal.{Refusal}
 use Rattle.run.specs.declared.Failure.{Failure}
-use Rattle.run.specs.Limits.{runInLimits}
 use Rattle.outcomes.specs.Told.{toldOf}
 use Rattle.run.specs.Calls.{answer, refuse, stops, readingOf, isDone, asked, kindOf, reported, completedBy, completed, cleared, afterLoading, learnt, learnsBy, learns, timely, called, askOf, completionOf, outcomeOf, callOf}
 use Rattle.demands.specs.Conditions.{entryAt, OverdueAt, LateAt, DueAt, NodeAt, NamedAt, IsReport, RightKind, IsAction, IsEvent, Nowhere, FirstOf, Going, Rises, NotOverdue, Timely, Reports, Learns, loadingAfter, Ended, Refuses, Halts, Asks, Takes, Condition}
+use Rattle.demands.specs.InLimits.{RunInLimits}
+use Rattle.demands.specs.InLimitsIff.{tells-run, in-limits}
+use Rattle.demands.specs.OpeningTests.{is-false}
 use Rattle.demands.specs.FirstPlaces.{first-place, none-place, overdue-places, late-places, due-places, node-places}
 use Rattle.demands.specs.ConditionsMet.{done-ended, ended-done}
 
@@ -43,14 +45,14 @@ call-order run (Call.Completion t p n) = refl
 call-order run (Call.Outcome t p n o) = refl
 
 module _ (run : Run) (t : Clock) (go : Answer) where
-  called-out : runInLimits run ≡ false → called run t go ≡ refuse run Refusal.OutOfLimits
-  called-out l = rw l
+  called-out : (RunInLimits run → ⊥) → called run t go ≡ refuse run Refusal.OutOfLimits
+  called-out n = let l = is-false (tells-run run) n in rw l
 
-  called-kept : (s : Stop) → runInLimits run ≡ true → run .halt ≡ Halt.Stopped s → called run t go ≡ answer (Reply.Stopped s) run
-  called-kept s l h = rw (l, h)
+  called-kept : (s : Stop) → RunInLimits run → run .halt ≡ Halt.Stopped s → called run t go ≡ answer (Reply.Stopped s) run
+  called-kept s r h = let l = in-limits run .1 r in rw (l, h)
 
   called-going : Going run → called run t go ≡ timely run t go
-  called-going g = rw (g .limits, g .going)
+  called-going g = let l = in-limits run .1 (g .limits) in rw (l, g .going)
 
   timely-below : t .0 < run .last .0 → timely run t go ≡ refuse run Refusal.ReadingBelow
   unfolding timely

@@ -22,6 +22,8 @@ use Rattle.run.specs.declared.Answer.{Answer}
 use Rattle.run.specs.declared.Refusal.{Refusal}
 use Rattle.run.specs.declared.Failure.{Failure}
 use Rattle.run.specs.Limits.{runInLimits}
+use Rattle.activity.specs.Tells.{told-false}
+use Rattle.demands.specs.InLimitsIff.{tells-run, in-limits}
 use Rattle.run.specs.Calls.{refuse, readingOf, isDone, asked, kindOf, completedBy, completed, afterLoading, learnsBy, learns, onHalt, timely, called, askOf, completionOf, outcomeOf, callOf}
 use Rattle.demands.specs.Conditions.{entryAt, OverdueAt, LateAt, DueAt, NodeAt, Going, Rises, NotOverdue, Timely, Reports, Learns, loadingAfter, Ended, Refuses, Halts, Asks, Takes, Condition}
 use Rattle.demands.specs.FirstPlaces.{by-place, overdue-places, late-places, due-places, node-places}
@@ -55,8 +57,8 @@ module _ (run : Run) (c : Call) (go : Answer) (next : Timely run (readingOf c) �
   met-called : MetBy run c (called run (readingOf c) go)
   met-called =
       by-test (MetBy run c) (runInLimits run) _ _
-      (λ l. by-halt (MetBy run c) (run .halt) _ _ (λ s h. record { condition = Halts.kept l h }) (λ h. met-timely (record { limits = l; going = h })))
-      (λ l. refused run c Refusal.OutOfLimits (Refuses.number50 l))
+      (λ l. by-halt (MetBy run c) (run .halt) _ _ (λ s h. record { condition = Halts.kept (in-limits run .0 l) h }) (λ h. met-timely (record { limits = in-limits run .0 l; going = h })))
+      (λ l. refused run c Refusal.OutOfLimits (Refuses.number50 (told-false (tells-run run) l)))
 
 -- ---- ask
 

@@ -1,6 +1,9 @@
 -- The promises, as statements about the definitions that the contracts cite, and the theorems that carry them.
+-- The proofs
+pub mod Laws
 -- Demand 2
 pub mod Accepted
+pub mod Alike
 pub mod AcceptedIff
 pub mod Times
 pub mod TimesEqual
@@ -14,6 +17,20 @@ pub mod Unchanged
 pub mod Openings
 pub mod OpeningTests
 pub mod OpeningsHold
+-- The whole verdict on a file
+pub mod Verdicts
+pub mod VerdictsHold
+-- and of reading it, field by field
+pub mod FirstFaults
+pub mod FirstFaultsHold
+-- Writing, and the way back
+pub mod Writes
+pub mod WritesHold
+-- A run in limits (50)
+pub mod InLimits
+pub mod InLimitsIff
+pub mod InLimitsKept
+pub mod StopRepeated
 -- Each reply of a call, in its condition and in no other
 pub mod Conditions
 pub mod FirstPlaces
@@ -21,7 +38,23 @@ pub mod ConditionsMet
 pub mod ConditionsGive
 pub mod ConditionsHold
 pub mod LoadingFails
+-- and over the log
+pub mod ByLog
+pub mod ByLogPlaces
+pub mod ByLogConditions
+pub mod AfterCalls
+pub mod AnswersByLog
+pub mod OpeningByWord
+-- One plan, printed
+pub mod Horizon
+pub mod Timetables
+pub mod TimetablesHold
+pub mod Rows
+pub mod RowsHold
 -- K1 to K12
 pub mod Inputs
 pub mod Cases
 pub mod CasesHold
+-- The exported drive
+pub mod DriveRecords
+pub mod RefusedOpenings

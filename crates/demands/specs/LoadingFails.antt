@@ -16,6 +16,9 @@ use Rattle.run.specs.declared.Run.{Run}
 use Rattle.run.specs.declared.Failure.{Failure}
 use Rattle.run.specs.declared.Loading.{Loading}
 use Rattle.outcomes.specs.Way.{wayOn}
+use Rattle.activity.specs.Tells.{Tells, told-true, told-false}
+use Rattle.demands.specs.Openings.{PathExceeds}
+use Rattle.demands.specs.OpeningTests.{is-true, is-false, tells-path}
 use Rattle.run.specs.Loading.{load, loadPath, withPath, onWay, onLoading, further}
 
 -- "the next is loaded in the call that reports the awaited outcome, and further ones while their outcomes are already
@@ -28,21 +31,27 @@ abbrev pub pathBy : Run → ℕ → Path
 pathBy run t = pathFrom (run .plan) longestPath (Next.Goes t) (run .progress)
 
 -- the path is within the limits of 44, and the window has a place for each of its nodes
-pub record HasRoom (run : Run) (q : Path) : Type 0 where
-  pub within : q .beyond ≡ false
-  pub room : length (q .entries) ≤ vacancies (run .window)
+abbrev pub Beyond : Run → ℕ → Type 0
+Beyond run t = PathExceeds (run .plan) longestPath (Next.Goes t) (run .progress)
+
+pub record HasRoom (run : Run) (t : ℕ) : Type 0 where
+  pub within : Beyond run t → ⊥
+  pub room : length (pathBy run t .entries) ≤ vacancies (run .window)
 
 -- of at most k paths one fails, and those before it are loaded
 pub data Fails : ℕ → Run → Failure → Type 0 where
-  number44 : {k : ℕ} {run : Run} (t : ℕ) → wayOf run ≡ Next.Goes t → pathBy run t .beyond ≡ true → Fails (suc k) run Failure.Beyond
-  number43 : {k : ℕ} {run : Run} (t : ℕ) → wayOf run ≡ Next.Goes t → pathBy run t .beyond ≡ false → vacancies (run .window) < length (pathBy run t .entries) → Fails (suc k) run Failure.Full
-  later : {k : ℕ} {run : Run} {f : Failure} (t : ℕ) → wayOf run ≡ Next.Goes t → HasRoom run (pathBy run t) → Fails k (withPath run (pathBy run t)) f → Fails (suc k) run f
+  number44 : {k : ℕ} {run : Run} (t : ℕ) → wayOf run ≡ Next.Goes t → Beyond run t → Fails (suc k) run Failure.Beyond
+  number43 : {k : ℕ} {run : Run} (t : ℕ) → wayOf run ≡ Next.Goes t → (Beyond run t → ⊥) → vacancies (run .window) < length (pathBy run t .entries) → Fails (suc k) run Failure.Full
+  later : {k : ℕ} {run : Run} {f : Failure} (t : ℕ) → wayOf run ≡ Next.Goes t → HasRoom run t → Fails k (withPath run (pathBy run t)) f → Fails (suc k) run f
 
 -- a failure, or none
 abbrev pub FailsOrNot : ℕ → Run → Failure → Type 0
 FailsOrNot k run Failure.None = Unit {0}
 FailsOrNot k run Failure.Full = Fails k run Failure.Full
 FailsOrNot k run Failure.Beyond = Fails k run Failure.Beyond
+
+tells : (run : Run) (t : ℕ) → Tells (pathBy run t .beyond) (Beyond run t)
+tells run t = tells-path (run .plan) longestPath (Next.Goes t) (run .progress)
 
 -- ---- a failure comes of a path that cannot be loaded
 
@@ -54,7 +63,7 @@ by-way P Next.Ended f z p q = q
 by-way P (Next.Goes t) f z p q = p t refl
 by-way P (Next.Waits e) f z p q = q
 
-comes-later : (k : ℕ) (run : Run) (t : ℕ) → wayOf run ≡ Next.Goes t → HasRoom run (pathBy run t) → (f : Failure) → FailsOrNot k (withPath run (pathBy run t)) f → FailsOrNot (suc k) run f
+comes-later : (k : ℕ) (run : Run) (t : ℕ) → wayOf run ≡ Next.Goes t → HasRoom run t → (f : Failure) → FailsOrNot k (withPath run (pathBy run t)) f → FailsOrNot (suc k) run f
 comes-later k run t w h Failure.None c = tt
 comes-later k run t w h Failure.Full c = Fails.later t w h c
 comes-later k run t w h Failure.Beyond c = Fails.later t w h c
@@ -64,10 +73,10 @@ record ComesOn (k : ℕ) (run : Run) (m : Run → Loading) (l : Loading) : Type 
 
 comes-on : (k : ℕ) (run : Run) (t : ℕ) → wayOf run ≡ Next.Goes t → ((next : Run) → Comes k next (further k next)) → ComesOn (suc k) run (further k) (loadPath run (pathBy run t))
 comes-on k run t w next =
-    by-test (ComesOn (suc k) run (further k)) (pathBy run t .beyond) _ _ (λ b. record { comes = record { comes = Fails.number44 t w b } })
+    by-test (ComesOn (suc k) run (further k)) (pathBy run t .beyond) _ _ (λ b. record { comes = record { comes = Fails.number44 t w (told-true (tells run t) b) } })
     (λ b. by-test (ComesOn (suc k) run (further k)) (ltb (vacancies (run .window)) (length (pathBy run t .entries))) _ _
-    (λ l. record { comes = record { comes = Fails.number43 t w b (ltb-true _ _ l) } })
-    (λ l. record { comes = record { comes = comes-later k run t w (record { within = b; room = ltb-false _ _ l }) (further k (withPath run (pathBy run t)) .failure) (next (withPath run (pathBy run t)) .comes) } }))
+    (λ l. record { comes = record { comes = Fails.number43 t w (told-false (tells run t) b) (ltb-true _ _ l) } })
+    (λ l. record { comes = record { comes = comes-later k run t w (record { within = told-false (tells run t) b; room = ltb-false _ _ l }) (further k (withPath run (pathBy run t)) .failure) (next (withPath run (pathBy run t)) .comes) } }))
 
 comes : (k : ℕ) (run : Run) → Comes k run (further k run)
 unfolding further load
@@ -78,9 +87,9 @@ comes (suc k) run = by-way (Comes (suc k) run) (wayOf run) _ _ (λ t w. comes-on
 
 fails : {k : ℕ} {run : Run} {f : Failure} → Fails k run f → further k run .failure ≡ f
 unfolding further load
-fails (Fails.number44 t w b) = rw (w, b)
-fails (Fails.number43 t w b l) = rw (w, b, lt-ltb _ _ l)
-fails (Fails.later t w h r) = rw (w, h .within, le-ltb _ _ (h .room)) (fails r)
+fails (Fails.number44 {run = run} t w b) = rw (w, is-true (tells run t) (λ n. n b))
+fails (Fails.number43 {run = run} t w b l) = rw (w, is-false (tells run t) b, lt-ltb _ _ l)
+fails (Fails.later {run = run} t w h r) = rw (w, is-false (tells run t) (h .within), le-ltb _ _ (h .room)) (fails r)
 
 -- ---- the theorems
 

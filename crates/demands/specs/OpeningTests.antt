@@ -167,7 +167,7 @@ unfolding vacancies
 tells-full n = tells-ltb 512 n
 
 -- one transition
-tells-exceeds : (p : Plan) (t : ℕ) (g : Progress) → Tells (takenBy p t g .beyond) (Exceeds p t g)
+pub tells-exceeds : (p : Plan) (t : ℕ) (g : Progress) → Tells (takenBy p t g .beyond) (Exceeds p t g)
 unfolding timedOf emitsOf closedOf beyondOf heldOf
 tells-exceeds p t g =
     step (place _ (g .position) (next-position p t g))

@@ -187,6 +187,34 @@ author-at Fault.NoWayToFinal place = refl
 author-at Fault.Unbalanced place = refl
 author-at Fault.TooManyPending place = refl
 
+fault-at : (f : Fault) → faultAt (numberOf f) ≡ f
+fault-at Fault.Ends = refl
+fault-at Fault.Map = refl
+fault-at Fault.NoAutomaton = refl
+fault-at Fault.Count = refl
+fault-at Fault.Names = refl
+fault-at Fault.Duration = refl
+fault-at Fault.NotRising = refl
+fault-at Fault.LeftOver = refl
+fault-at Fault.Cycle = refl
+fault-at Fault.ActionsUnordered = refl
+fault-at Fault.NamedTwice = refl
+fault-at Fault.ActionUnheld = refl
+fault-at Fault.ClaimUnpaired = refl
+fault-at Fault.ArrowPastEnd = refl
+fault-at Fault.EventFirst = refl
+fault-at Fault.EventsUnordered = refl
+fault-at Fault.WayOutOfFinal = refl
+fault-at Fault.ForbiddenBranch = refl
+fault-at Fault.OutcomeMissing = refl
+fault-at Fault.NoWayToFinal = refl
+fault-at Fault.Unbalanced = refl
+fault-at Fault.TooManyPending = refl
+
+-- two faults with one number are the same
+pub same-fault : (f g : Fault) → numberOf f ≡ numberOf g → f ≡ g
+same-fault f g n = sym (fault-at f) ∙ rw n (fault-at g)
+
 refusal-at : (u : Unopened) → refusalAt (openNumber u) (openPlace u) ≡ u
 refusal-at (Unopened.Plan f place) = author-at f place
 refusal-at Unopened.Availabilities = refl

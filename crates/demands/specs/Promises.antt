@@ -1,7 +1,7 @@
 -- Promise 1, and the further promises of "Strength of the contracts", as statements.
 use mathlib.Core.Path.{_≡_}
 use mathlib.Core.Bool.{true, false}
-use mathlib.Core.List.{List}
+use mathlib.Core.List.{List, [], _∷_}
 use Prim.Native.Nat.{ℕ}
 use Rattle.time.specs.declared.Clock.{Clock}
 use Rattle.run.specs.declared.Run.{Run}
@@ -15,6 +15,8 @@ use Rattle.run.specs.declared.Opening.{Opening}
 use Rattle.run.specs.Limits.{runInLimits}
 use Rattle.run.specs.Calls.{callOf, answer, refuse}
 use Rattle.run.specs.Opening.{openOf, zeroRun}
+use Rattle.log.specs.Log.{Log, said}
+use Rattle.log.specs.Drive.{drive}
 
 -- "A refused call hands back the run exactly as it came in."
 abbrev pub StatementRefusedUnchanged : Type 0
@@ -28,6 +30,17 @@ StatementStopKept =
 -- every stop is kept: the run that an answered stop hands back is stopped by it
 abbrev pub StatementStopsStay : Type 0
 StatementStopsStay = (run : Run) (s : Stop) (c : Call) → callOf run c .reply ≡ Reply.Stopped s → callOf run c .run .halt ≡ Halt.Stopped s
+
+-- calls that are all answered r
+abbrev pub answered : Reply → List Call → Log → Log
+answered r [] log = log
+answered r (c ∷ cs) log = answered r cs (said c r ∷ log)
+
+-- after an answered stop every call is answered by it, and the run stays: of any run, a made-up one too, and any calls
+abbrev pub StatementStopRepeated : Type 0
+StatementStopRepeated =
+    (run : Run) (s : Stop) (c : Call) → callOf run c .reply ≡ Reply.Stopped s → (log : Log) (cs : List Call)
+    → drive log (callOf run c .run) cs ≡ record { log = answered (Reply.Stopped s) cs log; run = callOf run c .run }
 
 -- "A refused opening hands back a run of zeros, which gets 50."
 abbrev pub StatementRefusedOpening : Type 0

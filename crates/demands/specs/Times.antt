@@ -38,6 +38,8 @@ pub record TimesEqual (p : Plan) (ts is : List ℕ) : Type 0 where
   pub solved : (S : Ident → ℕ) × (E : Ident → ℕ) × Timing (wholeOf p is) (λ r. getD ts r 0) S E
   pub starts : (S E : Ident → ℕ) → Timing (wholeOf p is) (λ r. getD ts r 0) S E → (x : Id) → Work (wholeOf p is) x → S (whose x) ≡ engineStart p ts is x
   pub ends : (S E : Ident → ℕ) → Timing (wholeOf p is) (λ r. getD ts r 0) S E → (x : Id) → Work (wholeOf p is) x → E (whose x) ≡ engineEnd p ts is x
+  -- each resource has one release there
+  pub releases : (r : ℕ) → r < p .resources → (x : Ident) × C.Is (wholeOf p is) x (Kind.Release r) × ((y : Ident) → C.Is (wholeOf p is) y (Kind.Release r) → y ≡ x)
   -- the engine's availabilities are the completions of the releases
   pub free : (S E : Ident → ℕ) → Timing (wholeOf p is) (λ r. getD ts r 0) S E → (x : Ident) (r : ℕ) → r < p .resources → C.Is (wholeOf p is) x (Kind.Release r)
       → E x ≡ at (progressAfter p (opened p ts) is .available) r

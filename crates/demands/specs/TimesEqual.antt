@@ -19,7 +19,7 @@ use Rattle.demands.specs.Times.{opened, TimesEqual, StatementTimesEqual}
 
 -- ---- what an opening stores
 
-zeros-at : (n r : ℕ) → at (replicate n (specified 0)) r ≡ 0
+pub zeros-at : (n r : ℕ) → at (replicate n (specified 0)) r ≡ 0
 zeros-at zero r = refl
 zeros-at (suc n) zero = refl
 zeros-at (suc n) (suc r) = zeros-at n r
@@ -37,7 +37,7 @@ given-length [] n = zeros-length n
     zeros-length (suc n) = let e = zeros-length n in omega arith
 given-length (t ∷ ts) n = let e = given-length ts n in omega arith
 
-no-lengths : (n e : ℕ) → _≡_ {A = ℕ} (getD (replicate n 0) e 0) 0
+pub no-lengths : (n e : ℕ) → _≡_ {A = ℕ} (getD (replicate n 0) e 0) 0
 no-lengths zero e = refl
 no-lengths (suc n) zero = refl
 no-lengths (suc n) (suc e) = no-lengths n e
@@ -65,6 +65,10 @@ module _ (p : Plan) (ts is : List ℕ) (l : Lawful p) (eight : AtMostEight p) (l
     );
     starts = λ S E t x w. plan-times p l eight (λ r. getD ts r 0) (opened p ts) start is (stateAfter p is) path S E t (x .position) (x .node) (w .0) (w .1 .0) (w .1 .1) .0;
     ends = λ S E t x w. plan-times p l eight (λ r. getD ts r 0) (opened p ts) start is (stateAfter p is) path S E t (x .position) (x .node) (w .0) (w .1 .0) (w .1 .1) .1;
+    releases = λ r h.
+        let q = plan-equal p l eight (λ r. getD ts r 0) (opened p ts) start is (stateAfter p is) path in
+        let x = q .free r h in
+        (x .0, x .1, λ y i. q .one-release y (x .0) r i (x .1));
     free = λ S E t x r k h. plan-free p l eight (λ r. getD ts r 0) (opened p ts) start is (stateAfter p is) path S E t x r k h;
   }
 

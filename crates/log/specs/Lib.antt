@@ -2,3 +2,5 @@
 pub mod Log
 pub mod Host
 pub mod Drive
+pub mod Kept
+pub mod Latest

@@ -19,7 +19,7 @@ use Rattle.activity.specs.Rules.{node, Is}
 use Rattle.behaviour.specs.Word.{size, times, emissions}
 use Rattle.behaviour.specs.Combined.{Ident, identity, combined}
 use Rattle.behaviour.specs.Times.{Timing}
-use Rattle.behaviour.specs.Engine.{endAt}
+use Rattle.behaviour.specs.Engine.{Run, endAt}
 use Rattle.behaviour.specs.Paths.{wordOf, Follows, Lawful}
 use Rattle.behaviour.specs.Theorems.{one-solution}
 use Rattle.behaviour.specs.Laws.TimesEqual.{Equal}
@@ -28,7 +28,7 @@ use Rattle.timing.specs.declared.Progress.{Progress}
 use Rattle.timing.specs.declared.Schedule.{Schedule}
 use Rattle.timing.specs.Times.{at, unscheduled}
 use Rattle.timing.specs.Engine.{takenBy}
-use Rattle.specified.specs.Words.{Engine, opened, advanced, Opening, Fitting, Few, traceBy, engine-equal}
+use Rattle.specified.specs.Words.{Engine, opened, advanced, Opening, Fitting, Few, traceBy, engine-run, engine-equal}
 use Rattle.behaviour.specs.Combined as Combined
 
 -- "at most 8 of one event are pending at a state", along every path from the initial state
@@ -59,7 +59,7 @@ progressAt p g (i ∷ is) q = cond (eqb q (suc (places p is))) (takenBy p i (pro
 -- ---- the engine's run
 
 -- the transitions `is` are the first of some transitions
-data First (is : List ℕ) : List ℕ → Type 0 where
+pub data First (is : List ℕ) : List ℕ → Type 0 where
   whole : First is is
   later : {j : ℕ} {js : List ℕ} → First is js → First is (j ∷ js)
 
@@ -72,16 +72,16 @@ module _ (p : Plan) (g : Progress) where
   sooner whole = later whole
   sooner (later f) = later (sooner f)
 
-  stored-at : (is : List ℕ) {js : List ℕ} → First is js → progressAt p g js (places p is) ≡ progressAfter p g is
+  pub stored-at : (is : List ℕ) {js : List ℕ} → First is js → progressAt p g js (places p is) ≡ progressAfter p g is
   stored-at [] whole = refl
   stored-at (i ∷ is) whole = rw (eq-eqb (suc (places p is)) (suc (places p is)) refl)
   stored-at is (later {js} f) = rw (ne-eqb (places p is) (suc (places p js)) (λ e. let u = first-places f in omega arith)) (stored-at is f)
 
-  times-at : (i : ℕ) (is : List ℕ) {js : List ℕ} → First (i ∷ is) js → scheduleAt p g js (places p is) ≡ takenBy p i (progressAfter p g is) .schedule
+  pub times-at : (i : ℕ) (is : List ℕ) {js : List ℕ} → First (i ∷ is) js → scheduleAt p g js (places p is) ≡ takenBy p i (progressAfter p g is) .schedule
   times-at i is whole = rw (eq-eqb (places p is) (places p is) refl)
   times-at i is (later {js} f) = rw (ne-eqb (places p is) (places p js) (λ e. let u = first-places f in omega arith)) (times-at i is f)
 
-  engine : (is : List ℕ) {js : List ℕ} → First is js → Engine (p .resources) (progressAt p g js) (scheduleAt p g js) (wordOf p is)
+  pub engine : (is : List ℕ) {js : List ℕ} → First is js → Engine (p .resources) (progressAt p g js) (scheduleAt p g js) (wordOf p is)
   engine [] f = opened
   engine (i ∷ is) f =
       advanced (engine is (sooner f)) (move (p .automaton) i .to)
@@ -127,6 +127,17 @@ module _ (p : Plan) (lawful : Lawful p) (eight : AtMostEight p) (available : ℕ
   pub plan-equal : Equal (p .resources) available (traceBy (progressAt p g is) (scheduleAt p g is) (wordOf p is)) (wordOf p is)
   plan-equal =
       engine-equal (p .resources) (resourceOf p) available (lawful .file .limits .resources) (progressAt p g is) (scheduleAt p g is) (wordOf p is)
+      (good-path p lawful (p .automaton .initial) is q path)
+      (counted-path p lawful is q path)
+      (fitting p (lawful .file .limits) (p .automaton .initial) is q path)
+      (few p eight is q path)
+      (subst (Opening available) (sym (at-opening is)) opening)
+      (engine p g is whole)
+
+  -- it goes the engine's way, step by step
+  pub plan-run : Run (p .resources) available (traceBy (progressAt p g is) (scheduleAt p g is) (wordOf p is)) (wordOf p is)
+  plan-run =
+      engine-run (p .resources) (resourceOf p) available (lawful .file .limits .resources) (progressAt p g is) (scheduleAt p g is) (wordOf p is)
       (good-path p lawful (p .automaton .initial) is q path)
       (counted-path p lawful is q path)
       (fitting p (lawful .file .limits) (p .automaton .initial) is q path)

@@ -67,7 +67,7 @@ pub record Possible (p : Plan) (t : ℕ) (g : Progress) : Type 0 where
   pub few : (e : ℕ) → pendingOf g e ≤ 8
   pub room : (e : ℕ) → length (remaining (move (p .automaton) t .input) g e) + emittedIn e (emittedBy p (move (p .automaton) t .output)) ≤ 8
 
--- what taking it gives, unless it passes the limits of number 44
+-- what taking it gives; within the limits unless it passes those of number 44
 pub record Advances (p : Plan) (t : ℕ) (g : Progress) : Type 0 where
   -- the nodes of each event, in the order of "before"
   pub emitted : ℕ → List ℕ
@@ -76,7 +76,7 @@ pub record Advances (p : Plan) (t : ℕ) (g : Progress) : Type 0 where
   pub queues : (e : ℕ) → queueOf (takenBy p t g .progress) e
       ≡ remaining (move (p .automaton) t .input) g e ++ map (λ n. emission (g .position) n (at (takenBy p t g .schedule .end) n)) (emitted e)
   pub sized : Sized (takenBy p t g .progress)
-  pub within : Within p (takenBy p t g .progress)
+  pub within : takenBy p t g .beyond ≡ false → Within p (takenBy p t g .progress)
 
 -- at most k transitions that process nothing lead from state s to one that waits or is final
 abbrev pub Settles : Automaton → ℕ → ℕ → Type 0
@@ -85,7 +85,7 @@ Settles a (suc k) s = (t : ℕ) → nextOf a s ≡ Next.Goes t → Settles a k (
 
 -- what holds of the engine and of the automaton of an accepted plan
 pub record EngineLaws : Type 0 where
-  pub advances : (p : Plan) → Lawful p → (t : ℕ) (g : Progress) → Possible p t g → takenBy p t g .beyond ≡ false → Advances p t g
+  pub advances : (p : Plan) → Lawful p → (t : ℕ) (g : Progress) → Possible p t g → Advances p t g
   pub settles : (p : Plan) → Lawful p → MeetsAutomaton p → (s k : ℕ) → s < p .automaton .states → 63 ≤ k → Settles (p .automaton) k s
   pub chosen : (p : Plan) → Lawful p → MeetsAutomaton p → (s e o : ℕ) → s < p .automaton .states → nextOf (p .automaton) s ≡ Next.Waits e → o < outcomesOf p e
       → (t : ℕ) × (chosenOf (p .automaton) s e o ≡ Chosen.Move t)

@@ -1,5 +1,5 @@
 -- What a run knows of itself after the calls of a log: it is in limits and keeps the opening's plan, Ψ and slack; its word is
--- taken by what the log tells, as far as it goes unless a loading has failed; and where it stands is where the engine's way over
+-- taken by what the log tells, up to a waiting or final state, and as far as it goes unless a loading has failed; and where it stands is where the engine's way over
 -- that word leads.
 use mathlib.Core.Path.{_≡_}
 use mathlib.Core.Bool.{true}
@@ -27,7 +27,7 @@ use Rattle.run.specs.declared.Run.{Run}
 use Rattle.log.specs.Log.{Id, id, Log, FailedIn}
 use Rattle.log.specs.Log as Log
 use Rattle.demand.specs.Nodes.{lengthOf}
-use Rattle.demand.specs.TheWord.{stateAfter, wholeOf, Takes, Stuck}
+use Rattle.demand.specs.TheWord.{stateAfter, wholeOf, Rests, Takes, Stuck}
 use Rattle.demand.specs.OfPlan.{Long}
 use Rattle.works.specs.Engine.{Sized, Within, stateOf}
 
@@ -83,6 +83,7 @@ pub record Good (p : Plan) (psi : Clock) (slack : ℕ) (available : ℕ → ℕ)
   pub same-psi : run .psi ≡ psi
   pub same-slack : run .slack ≡ slack
   pub stands : Stands p available log is (run .progress)
+  pub rests : Rests p is
   pub whole : (FailedIn log → ⊥) → Stuck p log is
   pub entries : (j : ℕ) → entryInLimits (p .activities) (p .sizes) (getD (run .window) j vacant) ≡ true
   pub halt : haltInLimits (run .halt) ≡ true

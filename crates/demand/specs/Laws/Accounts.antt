@@ -12,10 +12,9 @@ use Rattle.window.specs.Window.{isStarted, startedOf}
 use Rattle.window.specs.declared.Entry.{Entry}
 use Rattle.run.specs.declared.Call.{Call}
 use Rattle.run.specs.declared.Reply.{Reply}
-use Rattle.log.specs.Log.{Accepts, Always, FailedIn, Id, IsAsk, Log, Reported, Reports, Said, Started, Starts, id, reading, said}
+use Rattle.log.specs.Log.{Accepts, Always, Id, IsAsk, Log, Reported, Reports, Said, Started, Starts, id, reading, said}
 use Rattle.demand.specs.Machine.{Held, Window, World, idOf}
-use Rattle.demand.specs.Demand.{RightActivity}
-use Rattle.demand.specs.Way.{Outlasts, InOrder, Agrees, Clear, Clears, Extends, Marks, New, Stays}
+use Rattle.demand.specs.Way.{Outlasts, InOrder, Agrees, RightActivity, Clear, Clears, Extends, Marks, New, Stays}
 
 pub always-map : (P Q : Said → Log → Type 0) → ((x : Said) (older : Log) → P x older → Q x older) → (log : Log) → Always P log → Always Q log
 always-map P Q f [] h = tt
@@ -44,13 +43,21 @@ right-quiet W word Reply.Taken h = tt
 right-quiet W word (Reply.Refused f) h = tt
 right-quiet W word (Reply.Stopped s) h = tt
 
-right-later : (W : World) (word later : W .Word) → Extends W word later → (r : Reply) → RightActivity W word r → RightActivity W later r
+pub right-later : (W : World) (word later : W .Word) → Extends W word later → (r : Reply) → RightActivity W word r → RightActivity W later r
 right-later W word later x (Reply.Start q a n) h = x .activities q a h
 right-later W word later x Reply.Wait h = tt
 right-later W word later x Reply.Done h = tt
 right-later W word later x Reply.Taken h = tt
 right-later W word later x (Reply.Refused f) h = tt
 right-later W word later x (Reply.Stopped s) h = tt
+
+pub agree-later : (W : World) (word later : W .Word) → Extends W word later → (e : Entry) → Agrees W word e → Agrees W later e
+agree-later W word later x e h = record {
+  node = x .nodes (idOf e) (h .node);
+  starts = h .starts ∙ sym (x .starts (idOf e) (h .node));
+  completes = h .completes ∙ sym (x .completions (idOf e) (h .node));
+  activity = x .activities (e .position) (e .activity) (h .activity);
+}
 
 -- a node is started by the call c, after the calls `older`
 pub record Begun (W : World) (psi slack : ℕ) (word : W .Word) (older : Log) (c : Call) (id : Id) : Type 0 where
@@ -82,7 +89,7 @@ pub record Accounts (W : World) (psi slack : ℕ) (word : W .Word) (log : Log) (
   pub distinct : (i j : ℕ) (e f : Entry) → ws i e → ws j f → idOf e ≡ idOf f → i ≡ j
   -- the window is what is in the word and not reported
   pub unreported : (i : ℕ) (e : Entry) → ws i e → Reported log (idOf e) → ⊥
-  pub held : (FailedIn log → ⊥) → (id : Id) → W .Node word id → Held ws id ⊎ Reported log id
+  pub held : (id : Id) → W .Node word id → Held ws id ⊎ Reported log id
   -- nothing is told of nodes that are not in the word
   pub started-node : (id : Id) → Started log id → W .Node word id
   pub reported-node : (id : Id) → Reported log id → W .Node word id
@@ -101,7 +108,7 @@ module _ (W : World) (psi slack : ℕ) (word : W .Word) (log : Log) (ws : Window
     agree = λ i e h. a .agree i e (q i e .0 h);
     distinct = λ i j e f h g. a .distinct i j e f (q i e .0 h) (q j f .0 g);
     unreported = λ i e h. ⊎-elim (λ p. no-report c r log (idOf e) nr p) (λ p. a .unreported i e (q i e .0 h) p);
-    held = λ nf id n. ⊎-elim (λ (h : Held ws id). inl (h .0, h .1, q (h .0) (h .1) .1 (h .2), h .3)) (λ p. inr (inr p)) (a .held (λ p. nf (inr p)) id n);
+    held = λ id n. ⊎-elim (λ (h : Held ws id). inl (h .0, h .1, q (h .0) (h .1) .1 (h .2), h .3)) (λ p. inr (inr p)) (a .held id n);
     started-node = λ id. ⊎-elim (λ p. absurd (ns id p)) (λ p. a .started-node id p);
     reported-node = λ id. ⊎-elim (λ p. absurd (no-report c r log id nr p)) (λ p. a .reported-node id p);
     waiting = λ i e h s. ⊎-elim (λ p. ns (idOf e) p) (λ p. a .waiting i e (q i e .0 h) s p);
@@ -112,9 +119,9 @@ module _ (W : World) (psi slack : ℕ) (word : W .Word) (log : Log) (ws : Window
   }
 
   -- what stands before a node that is due is reported: else 42, or 41
-  due-after : (FailedIn log → ⊥) → Outlasts W slack word →
+  due-after : Outlasts W slack word →
       (last t : ℕ) → Clear psi slack last ws t → (m : Id) (s : ℕ) → W .Node word m → W .completion word m ≤ s → psi + s ≤ t → Reported log m
-  due-after nf long last t k m s n le d = ⊎-elim (λ (h : Held ws m). absurd (go h (isStarted (h .1 .phase)) refl)) (λ p. p) (a .held nf m n)
+  due-after long last t k m s n le d = ⊎-elim (λ (h : Held ws m). absurd (go h (isStarted (h .1 .phase)) refl)) (λ p. p) (a .held m n)
     where
       go : (h : Held ws m) (b : Bool) → isStarted (h .1 .phase) ≡ b → ⊥
       go h true q =
@@ -128,16 +135,16 @@ module _ (W : World) (psi slack : ℕ) (word : W .Word) (log : Log) (ws : Window
           omega arith
 
   -- an ask that starts e, at place i
-  pub accounts-begin : (FailedIn log → ⊥) → Outlasts W slack word →
+  pub accounts-begin : Outlasts W slack word →
       InOrder W word →
       ((i : ℕ) (e f : Entry) → ws i e → ws i f → e ≡ f) →
       (last : ℕ) (t : Clock) → Clear psi slack last ws (t .0) → (i : ℕ) (e : Entry) → ws i e → isStarted (e .phase) ≡ false → psi + e .start .0 ≤ t .0 → (ws′ : Window) → Marks ws ws′ i e →
       Accounts W psi slack word (said (Call.Ask t) (Reply.Start (e .position) (e .activity) (e .node)) ∷ log) ws′
-  accounts-begin nf long orders one last t k i e h s d ws′ q = record {
+  accounts-begin long orders one last t k i e h s d ws′ q = record {
     agree = λ j f g. was-agree j f (q j f .0 g);
     distinct = λ j l f g x y z. once-more j l f g (q j f .0 x) (q l g .0 y) z;
     unreported = λ j f g. ⊎-elim (λ p. p) (λ p. open-still j f (q j f .0 g) p);
-    held = λ nf′ id n. ⊎-elim (λ x. inl (held-still id x)) (λ p. inr (inr p)) (a .held nf id n);
+    held = λ id n. ⊎-elim (λ x. inl (held-still id x)) (λ p. inr (inr p)) (a .held id n);
     started-node = λ id. ⊎-elim (λ (p : idOf e ≡ id). subst (W .Node word) p (a .agree i e h .node)) (λ p. a .started-node id p);
     reported-node = λ id. ⊎-elim (λ p. absurd p) (λ p. a .reported-node id p);
     waiting = λ j f g u. still-waiting j f (q j f .0 g) u;
@@ -192,7 +199,7 @@ module _ (W : World) (psi slack : ℕ) (word : W .Word) (log : Log) (ws : Window
             once = a .waiting i e h s;
             from = omega arith;
             until = omega arith;
-            after = λ m b. let o = orders m (idOf e) (g .node) b in due-after nf long last (t .0) k m (W .start word (idOf e)) (o .0) (o .1) (omega arith);
+            after = λ m b. let o = orders m (idOf e) (g .node) b in due-after long last (t .0) k m (W .start word (idOf e)) (o .0) (o .1) (omega arith);
           }
 
   -- the report of e, at place i
@@ -202,7 +209,7 @@ module _ (W : World) (psi slack : ℕ) (word : W .Word) (log : Log) (ws : Window
     agree = λ j f g. a .agree j f (q j f .0 g .1);
     distinct = λ j l f g x y. a .distinct j l f g (q j f .0 x .1) (q l g .0 y .1);
     unreported = λ j f g. ⊎-elim (λ z. q j f .0 g .0 (a .distinct j i f e (q j f .0 g .1) h (sym (only (idOf f) z)))) (λ z. a .unreported j f (q j f .0 g .1) z);
-    held = λ nf id n. ⊎-elim (λ x. kept id x) (λ z. inr (inr z)) (a .held (λ z. nf (inr z)) id n);
+    held = λ id n. ⊎-elim (λ x. kept id x) (λ z. inr (inr z)) (a .held id n);
     started-node = λ id. ⊎-elim (λ z. absurd (ns id z)) (λ z. a .started-node id z);
     reported-node = λ id. ⊎-elim (λ z. subst (W .Node word) (only id z) (a .agree i e h .node)) (λ z. a .reported-node id z);
     waiting = λ j f g u. ⊎-elim (λ z. ns (idOf f) z) (λ z. a .waiting j f (q j f .0 g .1) u z);
@@ -223,7 +230,7 @@ module _ (W : World) (psi slack : ℕ) (word : W .Word) (log : Log) (ws : Window
           let z = a .agree i e h .completes in
           record { node = a .agree i e h .node; once = a .unreported i e h; started = a .running i e h s; early = omega arith }
 
-  begun-later : (later : W .Word) → Extends W word later → (older : Log) (c : Call) (id : Id) → Begun W psi slack word older c id → Begun W psi slack later older c id
+  pub begun-later : (later : W .Word) → Extends W word later → (older : Log) (c : Call) (id : Id) → Begun W psi slack word older c id → Begun W psi slack later older c id
   begun-later later x older c id b =
       let q = x .starts id (b .node) in
       record {
@@ -235,20 +242,20 @@ module _ (W : World) (psi slack : ℕ) (word : W .Word) (log : Log) (ws : Window
         after = λ m h. b .after m (x .befores m id (b .node) h);
       }
 
-  ended-later : (later : W .Word) → Extends W word later → (older : Log) (c : Call) (id : Id) → Ended W psi word older c id → Ended W psi later older c id
+  pub ended-later : (later : W .Word) → Extends W word later → (older : Log) (c : Call) (id : Id) → Ended W psi word older c id → Ended W psi later older c id
   ended-later later x older c id b =
       let q = x .completions id (b .node) in
       record { node = x .nodes id (b .node); once = b .once; started = b .started; early = omega (arith, b .early) }
 
   -- the word grows, and new entries come into the window
   pub accounts-load : (later : W .Word) → Extends W word later → (floor : ℕ) (ws′ : Window) → ((j : ℕ) (f : Entry) → ws j f → ws′ j f) → ((j : ℕ) (f : Entry) → ws′ j f → ws j f ⊎ New W word later floor f) →
-      ((j k : ℕ) (f g : Entry) → ws′ j f → ws′ k g → idOf f ≡ idOf g → j ≡ k) → ((FailedIn log → ⊥) → (id : Id) → W .Node later id → W .Node word id ⊎ Held ws′ id) →
+      ((j k : ℕ) (f g : Entry) → ws′ j f → ws′ k g → idOf f ≡ idOf g → j ≡ k) → ((id : Id) → W .Node later id → W .Node word id ⊎ Held ws′ id) →
       Accounts W psi slack later log ws′
   accounts-load later x floor ws′ keep only distinct all = record {
-    agree = λ i e h. ⊎-elim (λ j. agree-later e (a .agree i e j)) (λ n. n .agrees) (only i e h);
+    agree = λ i e h. ⊎-elim (λ j. agree-later W word later x e (a .agree i e j)) (λ n. n .agrees) (only i e h);
     distinct = distinct;
     unreported = λ i e h p. ⊎-elim (λ j. a .unreported i e j p) (λ n. n .new (a .reported-node (idOf e) p)) (only i e h);
-    held = λ nf id n. ⊎-elim (λ o. ⊎-elim (λ (h : Held ws id). inl (h .0, h .1, keep (h .0) (h .1) (h .2), h .3)) (λ p. inr p) (a .held nf id o)) (λ h. inl h) (all nf id n);
+    held = λ id n. ⊎-elim (λ o. ⊎-elim (λ (h : Held ws id). inl (h .0, h .1, keep (h .0) (h .1) (h .2), h .3)) (λ p. inr p) (a .held id o)) (λ h. inl h) (all id n);
     started-node = λ id p. x .nodes id (a .started-node id p);
     reported-node = λ id p. x .nodes id (a .reported-node id p);
     waiting = λ i e h s p. ⊎-elim (λ j. a .waiting i e j s p) (λ n. n .new (a .started-node (idOf e) p)) (only i e h);
@@ -257,11 +264,3 @@ module _ (W : World) (psi slack : ℕ) (word : W .Word) (log : Log) (ws : Window
     reports = always-map (EndedAt W psi word) (EndedAt W psi later) (λ y older h id p. ended-later later x older (y .call) id (h id p)) log (a .reports);
     activities = always-map (NamedAt W word) (NamedAt W later) (λ y older h. right-later W word later x (y .reply) h) log (a .activities);
   }
-    where
-      agree-later : (e : Entry) → Agrees W word e → Agrees W later e
-      agree-later e h = record {
-        node = x .nodes (idOf e) (h .node);
-        starts = h .starts ∙ sym (x .starts (idOf e) (h .node));
-        completes = h .completes ∙ sym (x .completions (idOf e) (h .node));
-        activity = x .activities (e .position) (e .activity) (h .activity);
-      }

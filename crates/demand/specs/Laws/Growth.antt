@@ -5,6 +5,7 @@ use mathlib.Core.Logic.{_⊎_, inl, inr}
 use Prim.Native.Nat.{ℕ}
 use Rattle.demand.specs.Machine.{World}
 use Rattle.demand.specs.Way.{Extends}
+pub use Rattle.demand.specs.TheWord.{Tail, here, later}
 
 pub extends-self : (W : World) (w : W .Word) → Extends W w w
 extends-self W w = record { nodes = λ x n. n; starts = λ x n. refl; completions = λ x n. refl; befores = λ m x n b. b; activities = λ q a e. e }
@@ -18,11 +19,7 @@ extends-on W w v u a b = record {
   activities = λ q c e. b .activities q c (a .activities q c e);
 }
 
--- ---- beginnings; the latest transition stands first
-
-pub data Tail (is : List ℕ) : List ℕ → Type 0 where
-  here : Tail is is
-  later : {us : List ℕ} {t : ℕ} → Tail is us → Tail is (t ∷ us)
+-- ---- beginnings
 
 pub tail-empty : (us : List ℕ) → Tail [] us
 tail-empty [] = here

@@ -13,7 +13,7 @@ use Rattle.run.specs.declared.Refusal.{Refusal}
 use Rattle.run.specs.declared.Stop.{Stop}
 use Rattle.run.specs.declared.Halt.{Halt}
 use Rattle.run.specs.declared.Failure.{Failure}
-use Rattle.log.specs.Log.{Id, Said, said, Log, reading, Started, FailedIn, Accepts, Finishes}
+use Rattle.log.specs.Log.{Id, Said, said, Log, reading, Started, Accepts, Finishes}
 use Rattle.log.specs.Host.{HostAt, Mild}
 use Rattle.demand.specs.Machine.{World, Machine, idOf, Window, Waiting}
 use Rattle.demand.specs.Way.{Stays, Loads, Turns, haltOf, replyOf, Answers, Way, keeps, refuses, overdues, lates, begins, idles, completes, learns}
@@ -21,7 +21,7 @@ use Rattle.demand.specs.Works.{Works}
 use Rattle.demand.specs.Laws.Accounts.{Accounts, accounts-quiet, accounts-begin, accounts-report, accounts-load}
 use Rattle.demand.specs.Laws.Clock.{Clock, clock-refused, clock-next, never-late}
 use Rattle.demand.specs.Laws.Invariant.{MildHalt, Latest, Invariant}
-use Rattle.demand.specs.Laws.Replies.{not-going, failed-stopped, Other, not-50, quiet, stop-accepts, failure-starts, failure-accepts, failure-unfinished, failure-unwaiting, failure-mild, failure-halt, failure-other, failure-halted, failure-none}
+use Rattle.demand.specs.Laws.Replies.{not-going, Other, not-50, quiet, stop-accepts, failure-starts, failure-accepts, failure-unfinished, failure-unwaiting, failure-mild, failure-halt, failure-other, failure-halted}
 
 module _ (W : World) (M : Machine) (psi slack : ℕ) (Good : Log → W .Word → M .Run → Type 0) (w : Works W M psi slack Good) (log : Log) (word : W .Word) (run : M .Run) (g : Good log word run) (v : Invariant W M psi slack word log run) where
   -- an answer that is neither done nor wait
@@ -38,9 +38,6 @@ module _ (W : World) (M : Machine) (psi slack : ℕ) (Good : Log → W .Word →
     done-empty = λ p i e h. a .done-empty p i e (q i e .0 h);
     wait-only = λ p f. let x = a .wait-only p f in (x .0, x .1, q (x .0) (x .1) .1 (x .2));
   }
-
-  nofail : M .halt run ≡ Halt.Going → FailedIn log → ⊥
-  nofail h p = v .clock h .unstopped (failed-stopped log p)
 
   -- the run as it was: a kept stop, a refusal
   same : (c : Call) (r : Reply) (run′ : M .Run) → run′ ≡ run → Invariant W M psi slack word (said c r ∷ log) run → Invariant W M psi slack word (said c r ∷ log) run′
@@ -113,7 +110,7 @@ module _ (W : World) (M : Machine) (psi slack : ℕ) (Good : Log → W .Word →
       omega arith
   kept c r run′ later (begins {t = t} i e u k h s d q) =
       goes (Call.Ask t) (Reply.Start (e .position) (e .activity) (e .node)) run′ u tt tt (unspoken _ _ (λ p. p) (λ p. p))
-      (accounts-begin W psi slack word log _ (v .accounts) (nofail (u .going)) (w .long log word run g) (w .orders log word run g) (w .one run) (M .last run) t k i e h s d _ q)
+      (accounts-begin W psi slack word log _ (v .accounts) (w .long log word run g) (w .orders log word run g) (w .one run) (M .last run) t k i e h s d _ q)
       (clock-next _ _ _ log _ (v .clock (u .going)) (Call.Ask t) (Reply.Start (e .position) (e .activity) (e .node)) _ refl (λ p. p) k
       (λ j f x y. ⊎-elim (λ p. absurd (true≢false (sym (ap (λ (z : Entry). isStarted (z .phase)) (p .1)) ∙ y))) (λ p. inl (p .1)) (q j f .0 x)) (λ n p. absurd (p .1)))
   kept c r run′ later (idles {t = t} u k n waits fin q) =
@@ -127,7 +124,7 @@ module _ (W : World) (M : Machine) (psi slack : ℕ) (Good : Log → W .Word →
       (clock-next _ _ _ log _ (v .clock (u .going)) (Call.Completion t (e .position) (e .node)) Reply.Taken _ refl (λ p. p) k (λ j f x y. inl (q j f .0 x .1)) (λ n p. absurd p))
   kept c r run′ later (learns {t = t} {o = o} i e f u k h s q) = record {
     accounts = accounts-load W psi slack word (x ∷ log) cleared reported later (q .extends) (e .end .0) (M .holds run′)
-        (λ j d p. q .kept j d (p .0) (p .1)) (q .only) (q .distinct) (λ nf. q .all (failure-none f (Call.Outcome t (e .position) (e .node) o) log nf));
+        (λ j d p. q .kept j d (p .0) (p .1)) (q .only) (q .distinct) (q .all);
     clock = λ p. subst (λ (l : ℕ). Clock psi slack l (x ∷ log) (M .holds run′)) (sym (u .last)) (clock′ f q (sym (u .halt) ∙ p));
     halted = λ a p. failure-halted f (Call.Outcome t (e .position) (e .node) o) log a (sym (u .halt) ∙ p);
     numbers = (not-50 (replyOf f) (failure-other f), v .numbers);
@@ -145,7 +142,7 @@ module _ (W : World) (M : Machine) (psi slack : ℕ) (Good : Log → W .Word →
       reported = accounts-report W psi slack word log _ (v .accounts) (w .one run) (Call.Outcome t (e .position) (e .node) o) (replyOf f) i e h s (k .not-overdue i e h s)
           (failure-starts f) (refl, failure-accepts f log (v .clock (u .going) .unstopped)) (λ id p. p .0) cleared (λ j d. (λ p. p, λ p. p))
 
-      clock′ : (f′ : Failure) → Loads W (M .holds run) (M .holds run′) i (e .end .0) word later f → haltOf f′ ≡ Halt.Going → Clock psi slack (t .0) (said (Call.Outcome t (e .position) (e .node) o) (replyOf f′) ∷ log) (M .holds run′)
+      clock′ : (f′ : Failure) → Loads W (M .holds run) (M .holds run′) i (e .end .0) word later → haltOf f′ ≡ Halt.Going → Clock psi slack (t .0) (said (Call.Outcome t (e .position) (e .node) o) (replyOf f′) ∷ log) (M .holds run′)
       clock′ Failure.None l p = clock-next _ _ _ log _ (v .clock (u .going)) (Call.Outcome t (e .position) (e .node) o) Reply.Taken _ refl (λ z. z) k
           (λ j d y z. ⊎-elim (λ a. inl (a .1)) (λ n. inr (let b = n .held-back in let m = k .not-overdue i e h s in omega arith)) (l .only j d y)) (λ n z. absurd z)
       clock′ Failure.Full l p = absurd (not-going Stop.Full p)

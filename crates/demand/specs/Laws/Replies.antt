@@ -109,8 +109,3 @@ pub failure-halted : (f : Failure) (c : Call) (log : Log) (s : Stop) → haltOf 
 failure-halted Failure.None c log s e = absurd (not-going s (sym e))
 failure-halted Failure.Full c log s e = inl tt
 failure-halted Failure.Beyond c log s e = inl tt
-
-pub failure-none : (f : Failure) (c : Call) (log : Log) → (FailedIn (said c (replyOf f) ∷ log) → ⊥) → f ≡ Failure.None
-failure-none Failure.None c log h = refl
-failure-none Failure.Full c log h = absurd (h (inl tt))
-failure-none Failure.Beyond c log h = absurd (h (inl tt))

@@ -120,7 +120,7 @@ module _ (p : Plan) (lawful : Lawful p) (log : Log) (unique : (x : Id) (o q : �
   heard-same is h e f o q x y same a b told other =
       unique x o q told (subst (λ (z : Id). Told log z q) (sym (oldest-same is h e x y a (subst (λ (z : ℕ). Oldest p is z y) (sym same) b))) other)
 
-  step-same : (is : List ℕ) → Takes p log is → (t u : ℕ) → Step p log is t → Step p log is u → t ≡ u
+  pub step-same : (is : List ℕ) → Takes p log is → (t u : ℕ) → Step p log is t → Step p log is u → t ≡ u
   step-same is h t u (silent a) (silent b) = goes-same (sym a ∙ b)
   step-same is h t u (silent a) (heard e o x n old told c) = goes-waits (sym a ∙ n)
   step-same is h t u (heard e o x n old told c) (silent b) = goes-waits (sym b ∙ n)
@@ -129,7 +129,7 @@ module _ (p : Plan) (lawful : Lawful p) (log : Log) (unique : (x : Id) (o q : �
       let z : o ≡ q = heard-same is h e f o q x y w old young told other in
       move-same (sym c ∙ ap₂ (λ (i j : ℕ). chosenOf (p .automaton) (stateAfter p is) i j) w z ∙ d)
 
-  not-stuck : (is : List ℕ) (t : ℕ) → Step p log is t → Stuck p log is → ⊥
+  pub not-stuck : (is : List ℕ) (t : ℕ) → Step p log is t → Stuck p log is → ⊥
   not-stuck is t (silent a) (ended b) = ended-goes (sym b ∙ a)
   not-stuck is t (silent a) (waits e b no-one) = goes-waits (sym a ∙ b)
   not-stuck is t (heard e o x n old told c) (ended b) = ended-waits (sym b ∙ n)

@@ -198,13 +198,13 @@ module _ (p : Plan) (lawful : Lawful p) (t : ℕ) (g : Progress) (can : Possible
   sized-after : Whole (takenBy p t g .progress) → Sized (takenBy p t g .progress)
   sized-after w = record { available = w .available; latest = w .latest; lengths = w .lengths; pending = w .pending }
 
-  advances : takenBy p t g .beyond ≡ false → Advances p t g
-  advances b = record {
+  advances : Advances p t g
+  advances = record {
     emitted = λ e. emitted a (takenBy p t g .schedule) e;
     steps = steps (p .resources) (resourceOf p) a i (move (p .automaton) t .to) g ready;
     queues = λ e. queue-grows (p .resources) (resourceOf p) a i (move (p .automaton) t .to) g ready e ∙ ap (λ (q : List Instance). q ++ map (λ n. emission (g .position) n (at (takenBy p t g .schedule .end) n)) (emitted a (takenBy p t g .schedule) e)) (left e);
     sized = sized-after (whole-after (p .resources) (resourceOf p) a i (move (p .automaton) t .to) g ready);
-    within = stays-within b;
+    within = stays-within;
   }
 
 -- ---- paths settle
@@ -215,7 +215,7 @@ settles-from p limits m s low c (suc k) h = λ t e. settles-from p limits m s lo
 
 pub engine-laws : EngineLaws
 engine-laws = record {
-  advances = λ p lawful t g can b. advances p lawful t g can b;
+  advances = λ p lawful t g can. advances p lawful t g can;
   settles = λ p lawful m s k low h. settles-from p (lawful .file .limits) m s low stay k (omega arith);
   chosen = λ p lawful m s e o low w l. (let r = waits-chosen p (lawful .file .limits) m s e o low w l in (r .0, r .1));
 }

@@ -37,7 +37,7 @@ use Rattle.works.specs.Laws.Paths.{tolds, Rests, ended-goes, waits-goes,
 use Rattle.works.specs.Laws.Sums.{sum, sum-falls, sum-has}
 use Rattle.works.specs.Laws.Onward.{Heard, heard-if, stuck-if}
 
-by-way : {A : Type 0} (P : A → Type 0) (n : Next) (f : ℕ → A) (z : A) → ((t : ℕ) → n ≡ Next.Goes t → P (f t)) → (((t : ℕ) → n ≡ Next.Goes t → ⊥) → P z) → P (onWay n f z)
+pub by-way : {A : Type 0} (P : A → Type 0) (n : Next) (f : ℕ → A) (z : A) → ((t : ℕ) → n ≡ Next.Goes t → P (f t)) → (((t : ℕ) → n ≡ Next.Goes t → ⊥) → P z) → P (onWay n f z)
 by-way P Next.Ended f z k g = g (λ t e. ended-goes e)
 by-way P (Next.Goes t) f z k g = k t refl
 by-way P (Next.Waits e) f z k g = g (λ t q. waits-goes q)
@@ -72,17 +72,18 @@ module _ (p : Plan) (lawful : Lawful p) (automaton : MeetsAutomaton p) (availabl
     pub same : l .run ≡ runAt progress window
     pub loaded : In word progress window
     pub onto : Onto us g word
+    pub rests : Rests p word
     pub whole : l .failure ≡ Failure.None → Stuck p log word
 
-  fails : (us : List ℕ) (g : Progress) (w : List Entry) → In us g w → (f : Failure) → (f ≡ Failure.None → Stuck p log us) → Furthered us g (loading f (runAt g w))
-  fails us g w h f n = record { word = us; progress = g; window = w; same = refl; loaded = h; onto = still; whole = n }
+  fails : (us : List ℕ) (g : Progress) (w : List Entry) → In us g w → Rests p us → (f : Failure) → (f ≡ Failure.None → Stuck p log us) → Furthered us g (loading f (runAt g w))
+  fails us g w h rests f n = record { word = us; progress = g; window = w; same = refl; loaded = h; onto = still; rests = rests; whole = n }
 
   -- how many instances are told
   abbrev pub told : Progress → ℕ
   told g = sum (p .events) (λ e. tolds (queueOf g e))
 
   -- a path that processes a told instance leaves one less
-  fewer-told : (us : List ℕ) (g : Progress) (stands : Stands p available log us g) (t : ℕ) → Heard p lawful automaton available log us g stands t → (q : Progress)
+  pub fewer-told : (us : List ℕ) (g : Progress) (stands : Stands p available log us g) (t : ℕ) → Heard p lawful automaton available log us g stands t → (q : Progress)
       → ((e : ℕ) → tolds (queueOf q e) ≡ tolds (remaining (move (p .automaton) t .input) g e)) → told q + 1 ≡ told g
   fewer-told us g stands t h q same =
       sum-falls (p .events) (h .event) (λ e. tolds (queueOf g e)) (λ e. tolds (queueOf q e)) (h .low)
@@ -93,7 +94,7 @@ module _ (p : Plan) (lawful : Lawful p) (automaton : MeetsAutomaton p) (availabl
 
   pub further-loads : (k : ℕ) (us : List ℕ) (g : Progress) (w : List Entry) → In us g w → Rests p us → told g ≤ k → Furthered us g (further k (runAt g w))
   unfolding further load
-  further-loads zero us g w h rests few = fails us g w h Failure.None (λ z. stuck-if p lawful automaton available log us g (h .stands) laws rests none)
+  further-loads zero us g w h rests few = fails us g w h rests Failure.None (λ z. stuck-if p lawful automaton available log us g (h .stands) laws rests none)
     where
       none : (t : ℕ) → wayOn (p .automaton) g (nextOf (p .automaton) (g .state)) ≡ Next.Goes t → ⊥
       none t e =
@@ -104,14 +105,14 @@ module _ (p : Plan) (lawful : Lawful p) (automaton : MeetsAutomaton p) (availabl
   further-loads (suc k) us g w h rests few =
       by-way (Furthered us g) (wayOn (p .automaton) g (nextOf (p .automaton) (g .state))) _ _
       (λ t e. goes t (heard-if p lawful automaton available log us g (h .stands) t e) (λ us g w h r l. further-loads k us g w h r l))
-      (λ none. fails us g w h Failure.None (λ z. stuck-if p lawful automaton available log us g (h .stands) laws rests none))
+      (λ none. fails us g w h rests Failure.None (λ z. stuck-if p lawful automaton available log us g (h .stands) laws rests none))
     where
       goes : (t : ℕ) → Heard p lawful automaton available log us g (h .stands) t
           → ((us : List ℕ) (g : Progress) (w : List Entry) → In us g w → Rests p us → told g ≤ k → Furthered us g (further k (runAt g w)))
           → Furthered us g (onLoading (load (runAt g w) (Next.Goes t)) (further k))
       goes t x more =
-          by-test (λ (l : Loading). Furthered us g (onLoading l (further k))) (pathFrom p longestPath (Next.Goes t) g .beyond) _ _ (λ b. fails us g w h Failure.Beyond (λ z. beyond-none z)) λ b.
-          by-test (λ (l : Loading). Furthered us g (onLoading l (further k))) (ltb (vacancies w) (length (pathFrom p longestPath (Next.Goes t) g .entries))) _ _ (λ f. fails us g w h Failure.Full (λ z. full-none z)) λ f.
+          by-test (λ (l : Loading). Furthered us g (onLoading l (further k))) (pathFrom p longestPath (Next.Goes t) g .beyond) _ _ (λ b. fails us g w h rests Failure.Beyond (λ z. beyond-none z)) λ b.
+          by-test (λ (l : Loading). Furthered us g (onLoading l (further k))) (ltb (vacancies w) (length (pathFrom p longestPath (Next.Goes t) g .entries))) _ _ (λ f. fails us g w h rests Failure.Full (λ z. full-none z)) λ f.
           on (first-of p lawful automaton available log base v laws 63 us g w h t (x .takes) (λ i. path-on p lawful automaton available log base v laws 63 (t ∷ us) _ _ i (laws .settles p lawful automaton _ 63 (i .stands .within .state) (omega arith))) b (ltb-false _ _ f))
         where
           on : Arrives p lawful automaton available log base v laws (t ∷ us) w (λ e. tolds (remaining (move (p .automaton) t .input) g e)) (pathFrom p longestPath (Next.Goes t) g)
@@ -126,5 +127,6 @@ module _ (p : Plan) (lawful : Lawful p) (automaton : MeetsAutomaton p) (availabl
                 same = r .same;
                 loaded = r .loaded;
                 onto = hearing (h .stands) x (tail-on (t ∷ us) (a .word) (r .word) (a .on) (onto-tail (a .word) _ (r .word) (r .onto)));
+                rests = r .rests;
                 whole = r .whole;
               }

@@ -7,7 +7,8 @@ use Prim.Native.Nat.{ℕ, _≤_, _<_}
 use native.Mathlib.Omega.{arith}
 use borrow.Author.Tests.{ltb-true}
 use lib.Dec.{ltb}
-use lib.ListN.{length, set}
+use native.Mathlib.Decide.{ℕ-discrete}
+use lib.ListN.{length, getD, set, length-set}
 use Rattle.time.specs.declared.Clock.{Clock}
 use Rattle.plan.specs.Plan.{outcomesOf}
 use Rattle.plan.specs.Limits.{KindNames}
@@ -34,18 +35,21 @@ use Rattle.run.specs.declared.Call.{Call}
 use Rattle.run.specs.declared.Reply.{Reply}
 use Rattle.run.specs.declared.Failure.{Failure}
 use Rattle.run.specs.declared.Loading.{Loading}
-use Rattle.log.specs.Log.{Id, Log, said, Accepts, FailedIn, StoppedIn, Fails, Stops}
+use Rattle.log.specs.Log.{Id, Log, Always, said, Accepts, Reports, Reported, FailedIn, StoppedIn, Fails, Stops}
 use Rattle.log.specs.Log as Log
-use Rattle.demand.specs.Machine.{World, idOf}
-use Rattle.demand.specs.Way.{learns, Agrees, Loads, replyOf}
+use Rattle.demand.specs.Machine.{World, idOf, Held}
+use Rattle.demand.specs.Way.{learns, Agrees, replyOf}
+use Rattle.demand.specs.Way as Way
+use Rattle.demand.specs.Loading.{Waits, Loads}
+use Rattle.demand.specs.Laws.Accounts.{always-map}
 use Rattle.demand.specs.OfPlan.{worldOf}
 use Rattle.demand.specs.Nodes.{whose, lengthOf}
 use Rattle.demand.specs.TheWord.{stateAfter, nextAfter, wholeOf, Oldest, Stuck, ended, waits}
 use Rattle.demand.specs.Laws.Invariant.{Invariant}
 use Rattle.demand.specs.Laws.Growth.{here, extends-self}
-use Rattle.demand.specs.Laws.TheWord.{takes-follows}
+use Rattle.demand.specs.Laws.TheWord.{told-once, takes-follows}
 use Rattle.demand.specs.Laws.World.{old-position, new-start}
-use Rattle.works.specs.Machine.{machine}
+use Rattle.demand.specs.OfRun.{machine}
 use Rattle.works.specs.Engine.{EngineLaws}
 use Rattle.works.specs.Stands.{Stands, Accepted, Good}
 use Rattle.works.specs.Laws.Bounds.{entry-within, vacant-passes}
@@ -55,6 +59,7 @@ use Rattle.works.specs.Laws.Loaded.{Loaded}
 use Rattle.works.specs.Laws.Paths.{isTold, tolds, Rests, ended-goes, waits-goes}
 use Rattle.works.specs.Laws.Sums.{sum-at-most}
 use Rattle.works.specs.Laws.Further.{Onto, still, hearing, Furthered, further-loads, told}
+use Rattle.works.specs.Laws.Failing.{says}
 use Rattle.works.specs.Laws.Kinds.{kind-is}
 use Rattle.works.specs.Laws.Informed.{stands-informed}
 
@@ -171,6 +176,31 @@ module _ (laws : EngineLaws) (p : Plan) (psi : Clock) (slack : ℕ) (given : Acc
       loads : Furthered p (given .lawful) (given .automaton) available log1 is w1 laws psi slack t Halt.Going is g1 l
       loads = further-loads p (given .lawful) (given .automaton) available log1 is w1 laws psi slack t Halt.Going mostPending is g1 w1 start (stuck-rests p log is before) few
 
+      -- ---- how loading ends, over words, times and reports
+
+      reports-once : Always (λ y older. (x : Id) → Reports (y .call) (y .reply) older x → Reported older x → ⊥) log1
+      reports-once = (λ x q r. v .accounts .unreported i e held (subst (Reported log) (sym (q .0)) r), always-map _ _ (λ y older h x q. h x q .once) log (v .accounts .reports))
+
+      unreported : (j : ℕ) (y : Entry) → Holds w1 j y → Reported log1 (idOf y) → ⊥
+      unreported j y q = ⊎-elim (λ r. cleared-only w i j y q .0 (v .accounts .distinct j i y e (cleared-only w i j y q .1) held (sym (r .0)))) (λ r. v .accounts .unreported j y (cleared-only w i j y q .1) r)
+
+      held-still : (x : Id) → Waits p log1 is x → Held (Holds w1) x
+      held-still x q = ⊎-elim (λ (k : Held (Holds w) x). go k (ℕ-discrete (k .0) i)) (λ r. absurd (q .unreported (inr r))) (v .accounts .held x (q .node))
+        where
+          go : (k : Held (Holds w) x) → Dec (k .0 ≡ i) → Held (Holds w1) x
+          go k (yes z) =
+              let same : k .1 ≡ e = sym (k .2 .entry) ∙ ap (λ (n : ℕ). getD w n vacant) z ∙ held .entry in
+              absurd (q .unreported (inl (sym (ap idOf same) ∙ k .3, accepts f)))
+          go k (no z) = (k .0, k .1, stored-kept w i vacant (k .0) (k .1) z (k .2), k .3)
+
+      old-report : (x : Id) → Reported log1 x → x .position < lengthOf is
+      old-report x = ⊎-elim (λ r. subst (λ (z : Id). z .position < lengthOf is) (r .0) inside) (λ r. old-position p (given .lawful) available is (stateAfter p is) path x (v .accounts .reported-node x r))
+
+      says-loading : length w ≡ 512 → Loads p available log1 is (l .failure)
+      says-loading long =
+          says p (given .lawful) (given .automaton) available log1 is w1 laws psi slack t Halt.Going (told-once log1 reports-once) unreported held-still old-report
+          mostPending is g1 w1 start (stuck-rests p log is before) few (length-set w i vacant ∙ long)
+
       -- what is heard first is the outcome of this call
       heard-now : (d : ℕ) (x : Id) (u : ℕ) → nextAfter p is ≡ Next.Waits d → Log.Told log1 x u → (Log.Told log x u → ⊥) → idOf e ≡ x
       heard-now d x u n (inl q) new = q .0
@@ -193,7 +223,7 @@ module _ (laws : EngineLaws) (p : Plan) (psi : Clock) (slack : ℕ) (given : Acc
           omega arith
 
       -- the whole way, from the run that loading hands back
-      way : (x : Furthered p (given .lawful) (given .automaton) available log1 is w1 laws psi slack t Halt.Going is g1 l) → Loads W (Holds w) (Holds (x .window)) i (e .end .0) is (x .word) f
+      way : (x : Furthered p (given .lawful) (given .automaton) available log1 is w1 laws psi slack t Halt.Going is g1 l) → Way.Loads W (Holds w) (Holds (x .window)) i (e .end .0) is (x .word)
       way x = record {
         extends = x .loaded .grows;
         kept = λ j y n q. x .loaded .kept j y (stored-kept w i vacant j y n q);
@@ -204,7 +234,7 @@ module _ (laws : EngineLaws) (p : Plan) (psi : Clock) (slack : ℕ) (given : Acc
           held-back = held-back (x .word) (x .onto) (takes-follows p log1 (x .word) (x .loaded .stands .taken)) y (x .loaded .agree j y q) (r .1);
         }) (x .loaded .only j y q);
         distinct = λ j k y z q r s. x .loaded .once j k y z q r (ap (λ (n : Id). n .position) s, ap (λ (n : Id). n .node) s);
-        all = λ z y n. x .loaded .all y n;
+        all = x .loaded .all;
       }
 
     learnt-way : (f : Failure) → l .failure ≡ f → Goes p psi slack given available log is g w last halt good c (afterLoading f (l .run))
@@ -213,22 +243,26 @@ module _ (laws : EngineLaws) (p : Plan) (psi : Clock) (slack : ℕ) (given : Acc
         subst (λ (r : Run). Goes p psi slack given available log is g w last halt good c (afterLoading Failure.None r)) (sym (x .same)) (
           x .word,
           learns i e Failure.None (record { going = going; last = refl; halt = refl }) calm held started (way Failure.None x),
-          record { same-plan = refl; same-psi = refl; same-slack = refl; stands = x .loaded .stands; whole = λ nf. x .whole q; entries = x .loaded .entries; halt = refl },
+          record { same-plan = refl; same-psi = refl; same-slack = refl; stands = x .loaded .stands; rests = x .rests; whole = λ nf. x .whole q; entries = x .loaded .entries; halt = refl },
         )
     learnt-way Failure.Full q =
         let x = loads Failure.Full in
         subst (λ (r : Run). Goes p psi slack given available log is g w last halt good c (afterLoading Failure.Full r)) (sym (x .same)) (
           x .word,
           learns i e Failure.Full (record { going = going; last = refl; halt = refl }) calm held started (way Failure.Full x),
-          record { same-plan = refl; same-psi = refl; same-slack = refl; stands = x .loaded .stands; whole = λ nf. absurd (nf (inl tt)); entries = x .loaded .entries; halt = refl },
+          record { same-plan = refl; same-psi = refl; same-slack = refl; stands = x .loaded .stands; rests = x .rests; whole = λ nf. absurd (nf (inl tt)); entries = x .loaded .entries; halt = refl },
         )
     learnt-way Failure.Beyond q =
         let x = loads Failure.Beyond in
         subst (λ (r : Run). Goes p psi slack given available log is g w last halt good c (afterLoading Failure.Beyond r)) (sym (x .same)) (
           x .word,
           learns i e Failure.Beyond (record { going = going; last = refl; halt = refl }) calm held started (way Failure.Beyond x),
-          record { same-plan = refl; same-psi = refl; same-slack = refl; stands = x .loaded .stands; whole = λ nf. absurd (nf (inl tt)); entries = x .loaded .entries; halt = refl },
+          record { same-plan = refl; same-psi = refl; same-slack = refl; stands = x .loaded .stands; rests = x .rests; whole = λ nf. absurd (nf (inl tt)); entries = x .loaded .entries; halt = refl },
         )
+
+  pub learning-says : (t : Clock) (i : ℕ) (e : Entry) (ev o : ℕ) → halt ≡ Halt.Going → Calm p psi slack given available log is g w last halt good t → Holds w i e → isStarted (e .phase) ≡ true → kindOf run e ≡ Kind.Event ev → ltb o (outcomesOf p ev) ≡ true → length w ≡ 512
+      → Loads p available (said (Call.Outcome t (e .position) (e .node) o) Reply.Taken ∷ log) is (further mostPending (cleared run t i (toldOf g ev e o)) .failure)
+  learning-says t i e ev o going calm held started kind has = says-loading t i e ev o going calm held started kind has Failure.None
 
   pub learning : Learning p psi slack given available log is g w last halt good
   learning t i e ev o going calm held started kind has = learnt-way t i e ev o going calm held started kind has (further mostPending (cleared run t i (toldOf g ev e o)) .failure) refl

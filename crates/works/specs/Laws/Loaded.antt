@@ -90,14 +90,14 @@ above-none (suc k) i ts e j h l = go (or-false (ltb horizon (at ts i)) (aboveOf 
     go f (yes q) more = subst (λ (n : ℕ). at ts n ≤ horizon) (sym q) (ltb-false horizon (at ts i) (f .0))
     go f (no q) more = more (f .1) (omega arith)
 
-beyond-parts : (R size : ℕ) (end : List Specified) (g : Progress) → beyondOf R size end g ≡ false → (g .position ≤ lastPosition) × ((n : ℕ) → n < size → at end n ≤ horizon)
+pub beyond-parts : (R size : ℕ) (end : List Specified) (g : Progress) → beyondOf R size end g ≡ false → (g .position ≤ lastPosition) × ((n : ℕ) → n < size → at end n ≤ horizon)
 unfolding beyondOf
 beyond-parts R size end g b =
     let u = or-false (ltb lastPosition (g .position)) (cond (aboveOf end 0 size) true (aboveOf (g .available) 0 R)) b in
     let v = or-false (aboveOf end 0 size) (aboveOf (g .available) 0 R) (u .1) in
     (ltb-false lastPosition (g .position) (u .0), λ n l. above-none size 0 end (v .0) n (omega arith) (omega arith))
 
-not-beyond : (p : Plan) (t : ℕ) (g : Progress) → takenBy p t g .beyond ≡ false
+pub not-beyond : (p : Plan) (t : ℕ) (g : Progress) → takenBy p t g .beyond ≡ false
     → (g .position ≤ lastPosition) × ((n : ℕ) → n < length (emittedBy p (move (p .automaton) t .output)) → at (takenBy p t g .schedule .end) n ≤ horizon)
 unfolding timedOf emitsOf closedOf heldOf
 not-beyond p t g b =
@@ -145,10 +145,10 @@ module _ (p : Plan) (lawful : Lawful p) (automaton : MeetsAutomaton p) (availabl
     can = possible p lawful automaton available log us g (h .stands) t next
 
     abbrev adv : Advances p t g
-    adv = laws .advances p lawful t g can in-time
+    adv = laws .advances p lawful t g can
 
     abbrev on : Stands p available log (t ∷ us) (takenBy p t g .progress)
-    on = stands-on p lawful available log us g (h .stands) t next (can .pending) (pending-length p lawful automaton available log us g (h .stands)) adv
+    on = stands-on p lawful available log us g (h .stands) t next (can .pending) (pending-length p lawful automaton available log us g (h .stands)) adv in-time
 
     path : Follows p (p .automaton .initial) (t ∷ us) (stateAfter p (t ∷ us))
     path = takes-follows p log (t ∷ us) next
@@ -173,10 +173,10 @@ module _ (p : Plan) (lawful : Lawful p) (automaton : MeetsAutomaton p) (availabl
             (named (suc (size (wordOf p us))) n) (node a n .kind) (node a n .duration) (there .1 .1)
 
         start : startAt (on .trace) (named (suc (size (wordOf p us))) n) ≡ at (s .start) n
-        start = trace-start p lawful available log us g (h .stands) t next (can .pending) (pending-length p lawful automaton available log us g (h .stands)) adv n
+        start = trace-start p lawful available log us g (h .stands) t next (can .pending) (pending-length p lawful automaton available log us g (h .stands)) adv in-time n
 
         end : endAt (on .trace) (named (suc (size (wordOf p us))) n) ≡ at (s .end) n
-        end = trace-end p lawful available log us g (h .stands) t next (can .pending) (pending-length p lawful automaton available log us g (h .stands)) adv n
+        end = trace-end p lawful available log us g (h .stands) t next (can .pending) (pending-length p lawful automaton available log us g (h .stands)) adv in-time n
 
     abbrev number : ℕ
     number = activityNumber (move (p .automaton) t .output)

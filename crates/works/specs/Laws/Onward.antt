@@ -66,7 +66,7 @@ next-awaits ts s i (suc k) = go (eqb (getD ts i pastMove .from) s) refl (next-aw
     go true e h = here (getD ts i pastMove .input) refl (eqb-true (getD ts i pastMove .from) s e)
     go false e h = awaits-later ts s i k (nextFrom (part pastMove ts (i + 1) k) s (i + 1)) h
 
-awaited : (a : Automaton) (s e : ℕ) → nextOf a s ≡ Next.Waits e → (t : ℕ) × (o : ℕ) × Found (a .moves) s 0 (a .count) t (Input.Outcome e o)
+pub awaited : (a : Automaton) (s e : ℕ) → nextOf a s ≡ Next.Waits e → (t : ℕ) × (o : ℕ) × Found (a .moves) s 0 (a .count) t (Input.Outcome e o)
 awaited a s e h = subst (Awaits (a .moves) s 0 (a .count)) h (next-awaits (a .moves) s 0 (a .count))
 
 -- ---- the oldest of a queue

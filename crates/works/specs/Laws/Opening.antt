@@ -53,12 +53,21 @@ use Rattle.run.specs.declared.Opened.{Opened as Answer}
 use Rattle.log.specs.Log.{Id}
 use Rattle.demand.specs.Works.{Opened}
 use Rattle.demand.specs.OfPlan.{worldOf, Outlast}
-use Rattle.demand.specs.TheWord.{none}
+use Rattle.demand.specs.TheWord.{none, wholeOf}
 use Rattle.demand.specs.Laws.Next.{lawful}
 use Rattle.demand.specs.Laws.Growth.{here, extends-self}
 use Rattle.demand.specs.Laws.World.{old-position}
-use Rattle.works.specs.Machine.{machine}
-use Rattle.works.specs.Engine.{stateOf, EngineLaws}
+use Rattle.demand.specs.OfRun.{machine}
+use Rattle.activity.specs.Tells.{Tells, tells-iff}
+use Rattle.behaviour.specs.Combined.{Ident}
+use Rattle.path.specs.Path.{Path}
+use Rattle.demand.specs.Nodes.{Work}
+use Rattle.demand.specs.Loading.{Silently, stays, goes-on, Exceeds, Beyond, TooMany, FirstBeyond, FirstMany}
+use Rattle.works.specs.Laws.Silent.{one-rest}
+use Rattle.works.specs.Laws.PathLimits.{Quiet, tells-quiet}
+use Rattle.works.specs.Laws.PathNodes.{low, Passes, passes-quiet}
+use Rattle.works.specs.Laws.Many.{too-many, not-many}
+use Rattle.works.specs.Engine.{stateOf, Settles, EngineLaws}
 use Rattle.works.specs.Stands.{identOf, Stands, Accepted, Good}
 use Rattle.works.specs.Laws.Bools.{and-false}
 use Rattle.works.specs.Laws.Bounds.{vacant-passes}
@@ -99,6 +108,16 @@ short-none p slack (suc k) a e b h l = go (anyShort slack (activityOf p a)) refl
 by-shortest : {A : Type 0} (P : A → Type 0) (s : Short) (f : ℕ → A) (z : A) → ((a : ℕ) → P (f a)) → (s ≡ Short.Nothing → P z) → P (onShort s f z)
 by-shortest P Short.Nothing f z k g = g refl
 by-shortest P (Short.Activity a) f z k g = k a
+
+-- a word that passes a limit has a transition
+abbrev Some : List ℕ → Type 0
+Some [] = ⊥
+Some (t ∷ us) = Unit {0}
+
+exceeds-some : (p : Plan) (C : Ident → ℕ) (us : List ℕ) → Exceeds p C us → Some us
+exceeds-some p C us (Exceeds.completion n k i h) = tt
+exceeds-some p C us (Exceeds.availability x r l i h) = tt
+exceeds-some p C us (Exceeds.position l) = tt
 
 -- ---- the run at its opening
 
@@ -171,6 +190,46 @@ module _ (laws : EngineLaws) (p : Plan) (psi : Clock) (slack : ℕ) (given : Acc
     entries = λ j. subst (λ (e : Entry). entryInLimits (p .activities) (p .sizes) e ≡ true) (sym (all-same 512 j vacant)) (vacant-passes (p .activities) (p .sizes));
   }
 
+  -- ---- 44 and 43 of the opening, over words and times
+
+  first-settles : Settles (p .automaton) longestPath (p .automaton .initial)
+  first-settles = laws .settles p (given .lawful) (given .automaton) (p .automaton .initial) longestPath (given .lawful .file .limits .initial) (omega arith)
+
+  abbrev firstOf : Path
+  firstOf = pathFrom p longestPath (nextOf (p .automaton) (p .automaton .initial)) g
+
+  quiet-first : (vs : List ℕ) → Silently p [] vs → Beyond p available vs → Quiet p (given .lawful) (given .automaton) available [] laws []
+  quiet-first vs stays y = absurd (exceeds-some p (y .C) [] (y .exceeds))
+  quiet-first vs (goes-on {vs = ws} {t} h e) y = record { before = ws; number = t; silent = h; next = e; beyond = y }
+
+  pub tells-first : Tells (firstOf .beyond) (FirstBeyond p available)
+  tells-first = tells-iff (λ q. record { at = q .number ∷ q .before; silent = goes-on (q .silent) (q .next); beyond = q .beyond }, λ y. quiet-first (y .at) (y .silent) (y .beyond))
+      (tells-quiet p (given .lawful) (given .automaton) available [] laws longestPath [] g first-stands first-settles)
+
+  module _ (b : firstOf .beyond ≡ false) where
+    passed : Passes p (given .lawful) (given .automaton) available [] laws [] [] firstOf
+    passed = passes-quiet p (given .lawful) (given .automaton) available [] laws longestPath [] g first-stands first-settles b
+
+    low-first : (x : Id) → Work (wholeOf p []) x → x .position < 0
+    low-first = low p (given .lawful) (given .automaton) available [] laws [] none
+
+    all-vacant : vacancies w ≡ 512
+    unfolding vacancies
+    all-vacant = refl
+
+    pub first-many : 512 < length (firstOf .entries) → FirstMany p
+    first-many l = record {
+      path = passed .word;
+      silent = passed .silent;
+      rests = passed .rests;
+      many = too-many p [] [] (passed .word) w (firstOf .entries) refl (λ i j e f h k s. unheld i e h) (passed .brings) (λ i e h. unheld i e h) (λ x q. absurd (let u = low-first x (q .node) in omega arith)) low-first (λ x r. absurd r) (let u = all-vacant in omega arith);
+    }
+
+    pub not-first-many : length (firstOf .entries) ≤ 512 → FirstMany p → ⊥
+    not-first-many l m =
+        not-many p [] [] (passed .word) w (firstOf .entries) refl (λ i j e f h k s. unheld i e h) (passed .brings) (λ i e h. unheld i e h) (λ x q. absurd (let u = low-first x (q .node) in omega arith)) low-first (λ x r. absurd r) (let u = all-vacant in omega arith)
+        (subst (TooMany p []) (one-rest p [] (m .path) (passed .word) (m .silent) (m .rests) (passed .silent) (passed .rests)) (m .many))
+
   abbrev Well : Answer → Type 0
   Well a = a .opening ≡ Outcome.Opened → OpensWell psi slack ts a
 
@@ -192,6 +251,7 @@ module _ (laws : EngineLaws) (p : Plan) (psi : Clock) (slack : ℕ) (given : Acc
             same-psi = refl;
             same-slack = refl;
             stands = r .loaded .stands;
+            rests = r .rests;
             whole = λ nf. stuck-if p (given .lawful) (given .automaton) available [] (r .word) _ (r .loaded .stands) laws (r .rests) (λ t e. heard-if p (given .lawful) (given .automaton) available [] (r .word) _ (r .loaded .stands) t e .told);
             entries = r .loaded .entries;
             halt = refl;

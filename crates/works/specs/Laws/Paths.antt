@@ -24,6 +24,9 @@ use Rattle.window.specs.Placed.{placed-none, placed-append, placed-vacancies}
 use Rattle.window.specs.declared.Entry.{Entry}
 use Rattle.log.specs.Log.{Log}
 use Rattle.demand.specs.TheWord.{nextAfter, Takes, goes}
+use Rattle.demand.specs.Loading.{Silently, stays}
+use Rattle.works.specs.Laws.Silent.{silent-first}
+pub use Rattle.demand.specs.TheWord.{Rests}
 use Rattle.demand.specs.Laws.Next.{next-found}
 use Rattle.demand.specs.Laws.Growth.{Tail, here, later}
 use Rattle.works.specs.Engine.{remaining, Settles, EngineLaws}
@@ -41,21 +44,17 @@ abbrev pub tolds : List Instance → ℕ
 tolds [] = 0
 tolds (x ∷ q) = isTold (x .told) + tolds q
 
-tolds-append : (q r : List Instance) → tolds (q ++ r) ≡ tolds q + tolds r
+pub tolds-append : (q r : List Instance) → tolds (q ++ r) ≡ tolds q + tolds r
 tolds-append [] r = omega arith
 tolds-append (x ∷ q) r = let u = tolds-append q r in omega arith
 
-tolds-new : (position : ℕ) (C : ℕ → ℕ) (ns : List ℕ) → tolds (map (λ n. emission position n (C n)) ns) ≡ 0
+pub tolds-new : (position : ℕ) (C : ℕ → ℕ) (ns : List ℕ) → tolds (map (λ n. emission position n (C n)) ns) ≡ 0
 tolds-new position C [] = refl
 tolds-new position C (n ∷ ns) = let u = tolds-new position C ns in omega arith
 
 pub tail-on : (is us vs : List ℕ) → Tail is us → Tail us vs → Tail is vs
 tail-on is us vs a here = a
 tail-on is us vs a (later b) = later (tail-on is us _ a b)
-
--- the state after the word waits or is final
-abbrev pub Rests : Plan → List ℕ → Type 0
-Rests p us = (t : ℕ) → nextAfter p us ≡ Next.Goes t → ⊥
 
 pub ended-goes : {A : Type 0} {t : ℕ} → Next.Ended ≡ Next.Goes t → A
 ended-goes e = absurd (let z : _≡_ {A = ℕ} 0 1 = cc in omega arith)
@@ -72,6 +71,7 @@ module _ (p : Plan) (lawful : Lawful p) (automaton : MeetsAutomaton p) (availabl
     pub word : List ℕ
     pub loaded : In word (q .progress) (placed w (q .entries))
     pub on : Tail us word
+    pub silent : Silently p us word
     pub rests : Rests p word
     pub told : (e : ℕ) → tolds (queueOf (q .progress) e) ≡ c e
 
@@ -82,7 +82,7 @@ module _ (p : Plan) (lawful : Lawful p) (automaton : MeetsAutomaton p) (availabl
   told-on : (us : List ℕ) (g : Progress) (w : List Entry) → In us g w → (t : ℕ) → Takes p log (t ∷ us) → takenBy p t g .beyond ≡ false → (e : ℕ)
       → tolds (queueOf (takenBy p t g .progress) e) ≡ tolds (remaining (move (p .automaton) t .input) g e)
   told-on us g w h t next in-time e =
-      let adv = laws .advances p lawful t g (possible p lawful automaton available log us g (h .stands) t next) in-time in
+      let adv = laws .advances p lawful t g (possible p lawful automaton available log us g (h .stands) t next) in
       let u = ap tolds (adv .queues e) in
       let x = tolds-append (remaining (move (p .automaton) t .input) g e) (map (λ n. emission (g .position) n (at (takenBy p t g .schedule .end) n)) (adv .emitted e)) in
       let y = tolds-new (g .position) (λ n. at (takenBy p t g .schedule .end) n) (adv .emitted e) in
@@ -111,20 +111,22 @@ module _ (p : Plan) (lawful : Lawful p) (automaton : MeetsAutomaton p) (availabl
             word = r .word;
             loaded = subst (In (r .word) (pathFrom p k (nextOf (p .automaton) (takenBy p t g .progress .state)) (takenBy p t g .progress) .progress)) (sym (placed-append w es fs held)) (r .loaded);
             on = r .on;
+            silent = r .silent;
             rests = r .rests;
             told = λ e. r .told e ∙ told-on us g w h t next b e;
           }
 
   -- the word goes on from the one before the transition
-  sooner : (us : List ℕ) (t : ℕ) (w : List Entry) (c : ℕ → ℕ) (q : Path) → Arrives (t ∷ us) w c q → Arrives us w c q
-  sooner us t w c q r = record { word = r .word; loaded = r .loaded; on = tail-on us (t ∷ us) (r .word) (later here) (r .on); rests = r .rests; told = r .told }
+  sooner : (us : List ℕ) (t : ℕ) → nextAfter p us ≡ Next.Goes t → (w : List Entry) (c : ℕ → ℕ) (q : Path) → Arrives (t ∷ us) w c q → Arrives us w c q
+  sooner us t e w c q r = record { word = r .word; loaded = r .loaded; on = tail-on us (t ∷ us) (r .word) (later here) (r .on); silent = silent-first p us t e (r .word) (r .silent); rests = r .rests; told = r .told }
 
   -- a path that is at its end
-  stays : (us : List ℕ) (g : Progress) (w : List Entry) → In us g w → ((t : ℕ) → nextOf (p .automaton) (g .state) ≡ Next.Goes t → ⊥) → Fits us w (λ e. tolds (queueOf g e)) (ends g)
-  stays us g w h n f room = record {
+  stops : (us : List ℕ) (g : Progress) (w : List Entry) → In us g w → ((t : ℕ) → nextOf (p .automaton) (g .state) ≡ Next.Goes t → ⊥) → Fits us w (λ e. tolds (queueOf g e)) (ends g)
+  stops us g w h n f room = record {
     word = us;
     loaded = subst (In us g) (sym (placed-none w)) h;
     on = here;
+    silent = stays;
     rests = λ t e. n t (ap (nextOf (p .automaton)) (h .stands .place) ∙ e);
     told = λ e. refl;
   }
@@ -132,7 +134,7 @@ module _ (p : Plan) (lawful : Lawful p) (automaton : MeetsAutomaton p) (availabl
   -- from a state on, by transitions that process nothing
   pub path-on : (k : ℕ) (us : List ℕ) (g : Progress) (w : List Entry) → In us g w → Settles (p .automaton) k (g .state) → Fits us w (λ e. tolds (queueOf g e)) (pathFrom p k (nextOf (p .automaton) (g .state)) g)
   unfolding pathFrom
-  path-on zero us g w h settles = stays us g w h settles
+  path-on zero us g w h settles = stops us g w h settles
   path-on (suc k) us g w h settles =
       go (nextOf (p .automaton) (g .state)) refl
       (λ t e i. path-on k (t ∷ us) (takenBy p t g .progress) (placed w (entriesBy p t g)) i (subst (Settles (p .automaton) k) (sym (next-state p t g)) (settles t e)))
@@ -140,9 +142,9 @@ module _ (p : Plan) (lawful : Lawful p) (automaton : MeetsAutomaton p) (availabl
       go : (n : Next) → nextOf (p .automaton) (g .state) ≡ n
           → ((t : ℕ) → nextOf (p .automaton) (g .state) ≡ Next.Goes t → In (t ∷ us) (takenBy p t g .progress) (placed w (entriesBy p t g)) → Fits (t ∷ us) (placed w (entriesBy p t g)) (λ e. tolds (queueOf (takenBy p t g .progress) e)) (pathFrom p k (nextOf (p .automaton) (takenBy p t g .progress .state)) (takenBy p t g .progress)))
           → Fits us w (λ e. tolds (queueOf g e)) (pathFrom p (suc k) n g)
-      go Next.Ended e more = stays us g w h (λ t z. ended-goes (sym e ∙ z))
-      go (Next.Waits x) e more = stays us g w h (λ t z. waits-goes (sym e ∙ z))
+      go Next.Ended e more = stops us g w h (λ t z. ended-goes (sym e ∙ z))
+      go (Next.Waits x) e more = stops us g w h (λ t z. waits-goes (sym e ∙ z))
       go (Next.Goes t) e more =
           let f = next-found (p .automaton) (g .state) t e in
           subst (λ (i : Input). Fits us w (λ e. tolds (remaining i g e)) (pathFrom p (suc k) (Next.Goes t) g)) (f .input) λ b room.
-          sooner us t w _ _ (first-of k us g w h t (goes (h .stands .taken) (ap (nextOf (p .automaton)) (sym (h .stands .place)) ∙ e)) (more t e) b room)
+          sooner us t (ap (nextOf (p .automaton)) (sym (h .stands .place)) ∙ e) w _ _ (first-of k us g w h t (goes (h .stands .taken) (ap (nextOf (p .automaton)) (sym (h .stands .place)) ∙ e)) (more t e) b room)

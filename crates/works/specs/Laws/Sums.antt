@@ -17,7 +17,7 @@ sum-at-most (suc k) b c h =
     let m = mul-suc b k in
     omega arith
 
-sum-same : (k : ℕ) (c d : ℕ → ℕ) → ((e : ℕ) → e < k → d e ≡ c e) → sum k d ≡ sum k c
+pub sum-same : (k : ℕ) (c d : ℕ → ℕ) → ((e : ℕ) → e < k → d e ≡ c e) → sum k d ≡ sum k c
 sum-same zero c d h = omega arith
 sum-same (suc k) c d h = let u = sum-same k c d (λ e l. h e (omega arith)) in let v = h k (omega arith) in omega arith
 

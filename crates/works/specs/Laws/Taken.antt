@@ -16,7 +16,7 @@ use Rattle.plan.specs.declared.Plan.{Plan}
 use Rattle.behaviour.specs.Word.{Step, Word, size, once, times, _▷_}
 use Rattle.behaviour.specs.Combined.{Ident, named, Graph, processing, combined}
 use Rattle.behaviour.specs.Accepted.{GoodWord}
-use Rattle.behaviour.specs.Engine.{Trace, Steps, State, startAt, endAt}
+use Rattle.behaviour.specs.Engine.{Trace, Run as Runs, Steps, State, startAt, endAt}
 use Rattle.behaviour.specs.Exec.{put}
 use Rattle.behaviour.specs.Paths.{stepOf, wordOf, Follows, Lawful}
 use Rattle.behaviour.specs.Laws.Exists.{extended}
@@ -59,7 +59,7 @@ rest-among : (x : Instance) (q : List Instance) → Among x (rest q) → Among x
 rest-among x (y ∷ q) h = inr h
 
 -- the oldest is taken
-popped : (G : Graph) (log : Log) (e n : ℕ) (q : List Instance) → 0 < length q → Queued G log e n q → Queued G log e (n + 1) (rest q)
+pub popped : (G : Graph) (log : Log) (e n : ℕ) (q : List Instance) → 0 < length q → Queued G log e n q → Queued G log e (n + 1) (rest q)
 popped G log e n [] l h = absurd (omega arith)
 popped G log e n (x ∷ q) l h = record {
   past = h .past ++ (identOf x ∷ []);
@@ -69,7 +69,7 @@ popped G log e n (x ∷ q) l h = record {
 }
 
 -- new instances: nothing is told of them yet
-emissions-are : (q : ℕ) (C : ℕ → ℕ) (ns : List ℕ) → map identOf (map (λ n. emission q n (C n)) ns) ≡ map (named (suc q)) ns
+pub emissions-are : (q : ℕ) (C : ℕ → ℕ) (ns : List ℕ) → map identOf (map (λ n. emission q n (C n)) ns) ≡ map (named (suc q)) ns
 emissions-are q C [] = refl
 emissions-are q C (n ∷ ns) = ap (λ (l : List Ident). named (suc q) n ∷ l) (emissions-are q C ns)
 
@@ -123,29 +123,44 @@ module _ (p : Plan) (lawful : Lawful p) (available : ℕ → ℕ) (log : Log) (i
           (ap (λ (l : List Ident). map identOf q ++ l) (ap (λ (z : ℕ). map (named (suc z)) (adv .emitted e)) here ∙ sym (emissions-are (g .position) (λ m. at (takenBy p t g .schedule .end) m) (adv .emitted e)))
           ∙ sym (map-append identOf q (map (λ m. emission (g .position) m (at (takenBy p t g .schedule .end) m)) (adv .emitted e))))
 
-  abbrev trace : Trace
+  abbrev pub trace : Trace
   trace = put (s .trace) (size w) (floorOf (move (p .automaton) t .input) g) (λ n. at (takenBy p t g .schedule .start) n) (λ n. at (takenBy p t g .schedule .end) n) (adv .emitted) (stateOf (takenBy p t g .progress))
 
-  pub stands-on : Stands p available log (t ∷ is) (takenBy p t g .progress)
-  stands-on = record {
-    trace = trace;
-    runs = extended (p .resources) available (s .trace) w x _ _ _ _ _ (s .runs)
-        (subst (λ (z : State). Steps (p .resources) x z (floorOf (move (p .automaton) t .input) g) (λ n. at (takenBy p t g .schedule .start) n) (λ n. at (takenBy p t g .schedule .end) n) (adv .emitted) (stateOf (takenBy p t g .progress))) (sym (s .state)) (adv .steps));
-    state = rw (lt-leb (suc (size w)) (size w) (omega arith));
-    queues = λ e. subst (Queued (wholeOf p (t ∷ is)) log e (times e w + once e (x .input))) (sym (adv .queues e)) (joined e _ _ (processes (move (p .automaton) t .input) ready e));
-    place = next-state p t g;
-    position = next-position p t g ∙ ap (λ (n : ℕ). n + 1) (s .position);
-    sized = adv .sized;
-    within = adv .within;
-    taken = next;
-    known = λ y o k. let u = s .known y o k in omega arith;
-  }
+  -- the engine's way over the longer word, past the limits too
+  pub runs-on : Runs (p .resources) available trace (w ▷ x)
+  runs-on =
+      extended (p .resources) available (s .trace) w x _ _ _ _ _ (s .runs)
+      (subst (λ (z : State). Steps (p .resources) x z (floorOf (move (p .automaton) t .input) g) (λ n. at (takenBy p t g .schedule .start) n) (λ n. at (takenBy p t g .schedule .end) n) (adv .emitted) (stateOf (takenBy p t g .progress))) (sym (s .state)) (adv .steps))
+
+  pub state-on : trace .state (size (w ▷ x)) ≡ stateOf (takenBy p t g .progress)
+  state-on = rw (lt-leb (suc (size w)) (size w) (omega arith))
 
   -- the times of its nodes are those of the schedule
-  pub trace-start : (n : ℕ) → startAt (stands-on .trace) (named (suc (size w)) n) ≡ at (takenBy p t g .schedule .start) n
-  unfolding stands-on
-  trace-start n = rw (eq-eqb (size w) (size w) refl)
+  pub start-on : (n : ℕ) → startAt trace (named (suc (size w)) n) ≡ at (takenBy p t g .schedule .start) n
+  start-on n = rw (eq-eqb (size w) (size w) refl)
 
-  pub trace-end : (n : ℕ) → endAt (stands-on .trace) (named (suc (size w)) n) ≡ at (takenBy p t g .schedule .end) n
-  unfolding stands-on
-  trace-end n = rw (eq-eqb (size w) (size w) refl)
+  pub end-on : (n : ℕ) → endAt trace (named (suc (size w)) n) ≡ at (takenBy p t g .schedule .end) n
+  end-on n = rw (eq-eqb (size w) (size w) refl)
+
+  module _ (in-time : takenBy p t g .beyond ≡ false) where
+    pub stands-on : Stands p available log (t ∷ is) (takenBy p t g .progress)
+    stands-on = record {
+      trace = trace;
+      runs = runs-on;
+      state = state-on;
+      queues = λ e. subst (Queued (wholeOf p (t ∷ is)) log e (times e w + once e (x .input))) (sym (adv .queues e)) (joined e _ _ (processes (move (p .automaton) t .input) ready e));
+      place = next-state p t g;
+      position = next-position p t g ∙ ap (λ (n : ℕ). n + 1) (s .position);
+      sized = adv .sized;
+      within = adv .within in-time;
+      taken = next;
+      known = λ y o k. let u = s .known y o k in omega arith;
+    }
+
+    pub trace-start : (n : ℕ) → startAt (stands-on .trace) (named (suc (size w)) n) ≡ at (takenBy p t g .schedule .start) n
+    unfolding stands-on
+    trace-start n = start-on n
+
+    pub trace-end : (n : ℕ) → endAt (stands-on .trace) (named (suc (size w)) n) ≡ at (takenBy p t g .schedule .end) n
+    unfolding stands-on
+    trace-end n = end-on n

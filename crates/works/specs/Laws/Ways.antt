@@ -36,7 +36,7 @@ use Rattle.log.specs.Log.{Id, Log, said, reading, Tells, Accepts}
 use Rattle.demand.specs.Way.{Way, keeps, refuses, overdues, lates, begins, idles, completes, Turns, Clear, Clears, Marks, Answers}
 use Rattle.demand.specs.OfPlan.{worldOf}
 use Rattle.demand.specs.Laws.Invariant.{Invariant}
-use Rattle.works.specs.Machine.{machine}
+use Rattle.demand.specs.OfRun.{machine}
 use Rattle.works.specs.Stands.{Accepted, Good}
 use Rattle.works.specs.Laws.Bools.{and-left, and-right, and-false}
 use Rattle.works.specs.Laws.Later.{tells-not, stuck-later, stands-later}
@@ -105,6 +105,7 @@ module _ (p : Plan) (psi : Clock) (slack : ℕ) (given : Accepted p psi slack) (
       same-psi = refl;
       same-slack = refl;
       stands = stands-later c r log p available is g silent (good .stands);
+      rests = good .rests;
       whole = λ nf. stuck-later c r log p is silent (good .whole (λ q. nf (inr q)));
       entries = entries;
       halt = stop;

@@ -1,14 +1,27 @@
 -- The run of an accepted opening works as demand 3 asks: each call goes one of the eight ways, and the run keeps what it knows.
 use mathlib.Core.Path.{_≡_, refl, sym, _∙_, subst}
 use mathlib.Core.List.{List, _∷_}
+use mathlib.Core.Bool.{true}
 use Prim.Native.Nat.{ℕ}
+use lib.Dec.{ltb}
+use lib.ListN.{length}
 use Rattle.time.specs.declared.Clock.{Clock}
+use Rattle.plan.specs.Plan.{outcomesOf}
+use Rattle.plan.specs.declared.Kind.{Kind}
 use Rattle.plan.specs.declared.Plan.{Plan}
-use Rattle.run.specs.Calls.{callOf}
+use Rattle.window.specs.Window.{isStarted}
+use Rattle.window.specs.Places.{Holds}
+use Rattle.window.specs.declared.Entry.{Entry}
+use Rattle.outcomes.specs.Told.{toldOf}
+use Rattle.run.specs.Loading.{further, mostPending}
+use Rattle.run.specs.declared.Halt.{Halt}
+use Rattle.run.specs.declared.Reply.{Reply}
+use Rattle.demand.specs.Loading.{Loads}
+use Rattle.run.specs.Calls.{kindOf, cleared, callOf}
 use Rattle.run.specs.declared.Run.{Run}
 use Rattle.run.specs.declared.Call.{Call}
 use Rattle.log.specs.Log.{Log, said}
-use Rattle.demand.specs.Way.{Way}
+use Rattle.demand.specs.Way.{Clear, Way}
 use Rattle.demand.specs.Works.{Works}
 use Rattle.demand.specs.OfPlan.{worldOf}
 use Rattle.demand.specs.OfTheLog.{ByTheLog}
@@ -16,27 +29,40 @@ use Rattle.demand.specs.TheWord.{stateAfter}
 use Rattle.demand.specs.Laws.Invariant.{Invariant}
 use Rattle.demand.specs.Laws.TheWord.{takes-follows}
 use Rattle.demand.specs.Laws.World.{orders, lasts}
-use Rattle.works.specs.Machine.{machine}
+use Rattle.demand.specs.OfRun.{machine}
 use Rattle.works.specs.Engine.{EngineLaws}
 use Rattle.works.specs.Stands.{Accepted, Good}
 use Rattle.works.specs.Laws.Ways.{runOf, call-way}
-use Rattle.works.specs.Laws.Learn.{learning}
+use Rattle.works.specs.Laws.Learn.{learning, learning-says}
+use Rattle.works.specs.Laws.Words.{there-is}
 
 module _ (laws : EngineLaws) (p : Plan) (psi : Clock) (slack : ℕ) (given : Accepted p psi slack) (available : ℕ → ℕ) where
   abbrev Stays : Log → List ℕ → Call → Run → Type 0
   Stays log is c run = (later : List ℕ) × Way (worldOf p available) machine (psi .0) slack run (callOf run c .run) is later c (callOf run c .reply) × Good p psi slack available (said c (callOf run c .reply) ∷ log) later (callOf run c .run)
 
+  module _ (log : Log) (is : List ℕ) (run : Run) (good : Good p psi slack available log is run) (v : Invariant (worldOf p available) machine (psi .0) slack is log run) where
+    same : runOf p psi slack given available (run .progress) (run .window) (run .last) (run .halt) ≡ run
+    same = λ i. record { plan = sym (good .same-plan) i; psi = sym (good .same-psi) i; slack = sym (good .same-slack) i; progress = run .progress; window = run .window; last = run .last; halt = run .halt }
+
+    here : Good p psi slack available log is (runOf p psi slack given available (run .progress) (run .window) (run .last) (run .halt))
+    here = record { same-plan = refl; same-psi = refl; same-slack = refl; stands = good .stands; rests = good .rests; whole = good .whole; entries = good .entries; halt = good .halt }
+
+    v1 : Invariant (worldOf p available) machine (psi .0) slack is log (runOf p psi slack given available (run .progress) (run .window) (run .last) (run .halt))
+    v1 = subst (Invariant (worldOf p available) machine (psi .0) slack is log) (sym same) v
+
+    -- how loading after an accepted outcome ends
+    pub loading-says : length (run .window) ≡ 512 → (t : Clock) (i : ℕ) (e : Entry) (ev o : ℕ) → run .halt ≡ Halt.Going → Clear (psi .0) slack (run .last .0) (Holds (run .window)) (t .0) → Holds (run .window) i e → isStarted (e .phase) ≡ true
+        → kindOf run e ≡ Kind.Event ev → ltb o (outcomesOf p ev) ≡ true
+        → Loads p available (said (Call.Outcome t (e .position) (e .node) o) Reply.Taken ∷ log) is (further mostPending (cleared run t i (toldOf (run .progress) ev e o)) .failure)
+    loading-says long t i e ev o going calm held started =
+        subst (λ (r : Run). kindOf r e ≡ Kind.Event ev → ltb o (outcomesOf p ev) ≡ true → Loads p available (said (Call.Outcome t (e .position) (e .node) o) Reply.Taken ∷ log) is (further mostPending (cleared r t i (toldOf (run .progress) ev e o)) .failure)) same
+        (λ kind has. learning-says laws p psi slack given available log is (run .progress) (run .window) (run .last) (run .halt) here v1 t i e ev o going calm held started kind has long)
+
   ways : (log : Log) (is : List ℕ) (run : Run) → Good p psi slack available log is run → Invariant (worldOf p available) machine (psi .0) slack is log run → (c : Call) → Stays log is c run
-  ways log is run good v c = subst (Stays log is c) same (call-way p psi slack given available log is (run .progress) (run .window) (run .last) (run .halt) here (learning laws p psi slack given available log is (run .progress) (run .window) (run .last) (run .halt) here v1) v1 c)
-    where
-      same : runOf p psi slack given available (run .progress) (run .window) (run .last) (run .halt) ≡ run
-      same = λ i. record { plan = sym (good .same-plan) i; psi = sym (good .same-psi) i; slack = sym (good .same-slack) i; progress = run .progress; window = run .window; last = run .last; halt = run .halt }
-
-      here : Good p psi slack available log is (runOf p psi slack given available (run .progress) (run .window) (run .last) (run .halt))
-      here = record { same-plan = refl; same-psi = refl; same-slack = refl; stands = good .stands; whole = good .whole; entries = good .entries; halt = good .halt }
-
-      v1 : Invariant (worldOf p available) machine (psi .0) slack is log (runOf p psi slack given available (run .progress) (run .window) (run .last) (run .halt))
-      v1 = subst (Invariant (worldOf p available) machine (psi .0) slack is log) (sym same) v
+  ways log is run good v c =
+      subst (Stays log is c) (same log is run good v)
+      (call-way p psi slack given available log is (run .progress) (run .window) (run .last) (run .halt) (here log is run good v)
+      (learning laws p psi slack given available log is (run .progress) (run .window) (run .last) (run .halt) (here log is run good v) (v1 log is run good v)) (v1 log is run good v) c)
 
   pub works : Works (worldOf p available) machine (psi .0) slack (Good p psi slack available)
   works = record {
@@ -47,4 +73,9 @@ module _ (laws : EngineLaws) (p : Plan) (psi : Clock) (slack : ℕ) (given : Acc
   }
 
   pub by-the-log : (log : Log) (is : List ℕ) (run : Run) → Good p psi slack available log is run → ByTheLog p log is
-  by-the-log log is run good = record { taken = good .stands .taken; whole = good .whole }
+  by-the-log log is run good = record {
+    taken = good .stands .taken;
+    rests = good .rests;
+    whole = good .whole;
+    word = there-is p (given .lawful) (given .automaton) log laws available is (run .progress) (good .stands);
+  }

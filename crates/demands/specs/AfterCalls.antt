@@ -1,0 +1,107 @@
+-- After any calls the run's last reading and its stop are those of the log, it is in limits, and its window has 512 places.
+use mathlib.Core.Path.{_≡_, refl, sym, ap, _∙_, subst}
+use mathlib.Core.Bool.{true, false}
+use mathlib.Core.List.{List, [], _∷_}
+use mathlib.Core.Logic.{inl, inr, ⊎-elim, _↔_}
+use Prim.Native.Nat.{ℕ}
+use native.Mathlib.Omega.{arith}
+use lib.ListN.{length}
+use Rattle.time.specs.declared.Clock.{Clock}
+use Rattle.run.specs.declared.Run.{Run}
+use Rattle.run.specs.declared.Halt.{Halt}
+use Rattle.run.specs.declared.Stop.{Stop}
+use Rattle.run.specs.declared.Call.{Call}
+use Rattle.run.specs.declared.Reply.{Reply}
+use Rattle.run.specs.declared.Answer.{Answer}
+use Rattle.run.specs.declared.Refusal.{Refusal}
+use Rattle.run.specs.Calls.{answer, callOf, readingOf}
+use Rattle.log.specs.Log.{Log, said, reading, StoppedIn}
+use Rattle.log.specs.Drive.{Driven, drive}
+use Rattle.log.specs.Latest.{Right, reading-last}
+use Rattle.demands.specs.InLimits.{RunInLimits}
+use Rattle.demands.specs.InLimitsIff.{in-limits}
+use Rattle.demands.specs.InLimitsKept.{limits-kept}
+use Rattle.demands.specs.Unchanged.{refused-unchanged, stop-kept}
+use Rattle.demands.specs.ByLog.{lastReading, StoppedBy}
+
+pub record After (log : Log) (run : Run) : Type 0 where
+  pub limits : RunInLimits run
+  pub last : (StoppedIn log → ⊥) → run .last .0 ≡ lastReading log
+  pub halted : (s : Stop) → (run .halt ≡ Halt.Stopped s) ↔ StoppedBy log s
+  pub long : length (run .window) ≡ 512
+
+going-stopped : {A : Type 0} {s : Stop} → Halt.Going ≡ Halt.Stopped s → A
+going-stopped e = absurd (let z : _≡_ {A = ℕ} 0 1 = cc in omega arith)
+
+same-halt : {s u : Stop} → Halt.Stopped s ≡ Halt.Stopped u → s ≡ u
+same-halt e = cc
+
+same-stop : {s u : Stop} → Reply.Stopped s ≡ Reply.Stopped u → s ≡ u
+same-stop e = cc
+
+reading-is : (c : Call) → readingOf c .0 ≡ reading c
+reading-is (Call.Ask t) = refl
+reading-is (Call.Completion t p n) = refl
+reading-is (Call.Outcome t p n o) = refl
+
+abbrev Other : Reply → Type 0
+Other (Reply.Start p a n) = Unit {0}
+Other Reply.Wait = Unit {0}
+Other Reply.Done = Unit {0}
+Other Reply.Taken = Unit {0}
+Other (Reply.Refused f) = Unit {0}
+Other (Reply.Stopped s) = ⊥
+
+module _ (log : Log) (run : Run) (a : After log run) (c : Call) where
+  -- a call of a run that has stopped
+  kept : (s : Stop) → run .halt ≡ Halt.Stopped s → After (said c (callOf run c .reply) ∷ log) (callOf run c .run)
+  kept s h = subst (λ (x : Answer). After (said c (x .reply) ∷ log) (x .run)) (sym (stop-kept run s c (in-limits run .1 (a .limits)) h)) record {
+    limits = a .limits;
+    last = λ n. absurd (n (inl tt));
+    halted = λ u. (λ q. inl (ap Reply.Stopped (same-halt (sym h ∙ q))), ⊎-elim (λ q. h ∙ ap Halt.Stopped (same-stop q)) (λ q. a .halted u .1 q));
+    long = a .long;
+  }
+
+  module _ (going : run .halt ≡ Halt.Going) where
+    never : (s : Stop) → StoppedBy log s → ⊥
+    never s q = going-stopped (sym going ∙ a .halted s .1 q)
+
+    unstopped : (r : Reply) → Other r → (s : Stop) → StoppedBy (said c r ∷ log) s → ⊥
+    unstopped r o s (inl q) = subst Other q o
+    unstopped r o s (inr q) = never s q
+
+    -- an answer that is neither refused nor stopped
+    goes-on : (r : Reply) (next : Run) → Other r → RunInLimits next → next .last ≡ readingOf c → next .halt ≡ Halt.Going → length (next .window) ≡ length (run .window) → reading c ≡ lastReading (said c r ∷ log) → After (said c r ∷ log) next
+    goes-on r next o l q h z e = record { long = z ∙ a .long; limits = l; last = λ n. ap (λ (t : Clock). t .0) q ∙ reading-is c ∙ e; halted = λ s. (λ z. going-stopped (sym h ∙ z), λ z. absurd (unstopped r o s z)) }
+
+    by-reply : (r : Reply) (next : Run) → RunInLimits next → Right (length (run .window)) (readingOf c) r next → ((f : Refusal) → r ≡ Reply.Refused f → next ≡ run) → After (said c r ∷ log) next
+    by-reply (Reply.Start p x n) next l q u = goes-on (Reply.Start p x n) next tt l (q .0) (q .1) (q .2) refl
+    by-reply Reply.Wait next l q u = goes-on Reply.Wait next tt l (q .0) (q .1) (q .2) refl
+    by-reply Reply.Done next l q u = goes-on Reply.Done next tt l (q .0) (q .1) (q .2) refl
+    by-reply Reply.Taken next l q u = goes-on Reply.Taken next tt l (q .0) (q .1) (q .2) refl
+    by-reply (Reply.Refused f) next l q u = subst (After (said c (Reply.Refused f) ∷ log)) (sym (u f refl)) record {
+      limits = a .limits;
+      last = λ n. a .last (λ z. n (inr z));
+      halted = λ s. (λ z. going-stopped (sym going ∙ z), λ z. absurd (unstopped (Reply.Refused f) tt s z));
+      long = a .long;
+    }
+    by-reply (Reply.Stopped s) next l q u = record {
+      limits = l;
+      last = λ n. absurd (n (inl tt));
+      halted = λ v. (λ z. inl (ap Reply.Stopped (same-halt (sym (q .1) ∙ z))), ⊎-elim (λ z. q .1 ∙ ap Halt.Stopped (same-stop z)) (λ z. absurd (never v z)));
+      long = q .2 ∙ a .long;
+    }
+
+    goes : After (said c (callOf run c .reply) ∷ log) (callOf run c .run)
+    goes = by-reply (callOf run c .reply) (callOf run c .run) (limits-kept run c (a .limits)) (reading-last run c going) (λ f e. refused-unchanged run c f e)
+
+  after-call : After (said c (callOf run c .reply) ∷ log) (callOf run c .run)
+  after-call = go (run .halt) refl
+    where
+      go : (h : Halt) → run .halt ≡ h → After (said c (callOf run c .reply) ∷ log) (callOf run c .run)
+      go Halt.Going e = goes e
+      go (Halt.Stopped s) e = kept s e
+
+pub after-calls : (cs : List Call) (log : Log) (run : Run) → After log run → After (drive log run cs .log) (drive log run cs .run)
+after-calls [] log run a = a
+after-calls (c ∷ cs) log run a = after-calls cs _ _ (after-call log run a c)

@@ -1,0 +1,49 @@
+-- `stop-repeated`: of any run, a call that is answered stopped is followed, whatever calls come, by the same stop and the same run.
+use mathlib.Core.Path.{_≡_, refl, sym, ap, _∙_, subst}
+use mathlib.Core.Bool.{Bool, true, false, cond}
+use mathlib.Core.List.{List, [], _∷_}
+use Prim.Native.Nat.{ℕ}
+use native.Mathlib.Omega.{arith}
+use Rattle.time.specs.declared.Clock.{Clock}
+use Rattle.run.specs.declared.Run.{Run}
+use Rattle.run.specs.declared.Halt.{Halt}
+use Rattle.run.specs.declared.Stop.{Stop}
+use Rattle.run.specs.declared.Call.{Call}
+use Rattle.run.specs.declared.Reply.{Reply}
+use Rattle.run.specs.declared.Answer.{Answer}
+use Rattle.run.specs.declared.Refusal.{Refusal}
+use Rattle.run.specs.Limits.{runInLimits}
+use Rattle.run.specs.Calls.{answer, refuse, called, askOf, completionOf, outcomeOf, callOf}
+use Rattle.log.specs.Log.{Log, said}
+use Rattle.log.specs.Drive.{Driven, drive}
+use Rattle.demands.specs.Promises.{answered, StatementStopRepeated}
+use Rattle.demands.specs.Unchanged.{stop-kept, stops-stay}
+use Rattle.demands.specs.InLimitsIff.{in-limits}
+use Rattle.demands.specs.InLimitsKept.{limits-kept}
+
+-- a run that is out of limits is not answered stopped
+called-out : (run : Run) (t : Clock) (go : Answer) → runInLimits run ≡ false → called run t go ≡ refuse run Refusal.OutOfLimits
+called-out run t go l = rw l
+
+out : (run : Run) (c : Call) → runInLimits run ≡ false → callOf run c ≡ refuse run Refusal.OutOfLimits
+unfolding callOf askOf completionOf outcomeOf
+out run (Call.Ask t) l = called-out run t _ l
+out run (Call.Completion t p n) l = called-out run t _ l
+out run (Call.Outcome t p n o) l = called-out run t _ l
+
+refused-stopped : {A : Type 0} {f : Refusal} {s : Stop} → Reply.Refused f ≡ Reply.Stopped s → A
+refused-stopped e = absurd (let z : _≡_ {A = ℕ} 0 1 = cc in omega arith)
+
+stopped-in : (run : Run) (c : Call) (s : Stop) → callOf run c .reply ≡ Reply.Stopped s → (b : Bool) → runInLimits run ≡ b → runInLimits run ≡ true
+stopped-in run c s e true q = q
+stopped-in run c s e false q = refused-stopped (sym (ap (λ (a : Answer). a .reply) (out run c q)) ∙ e)
+
+-- a run that has stopped, and is in limits
+repeats : (run : Run) (s : Stop) → runInLimits run ≡ true → run .halt ≡ Halt.Stopped s → (log : Log) (cs : List Call) → drive log run cs ≡ record { log = answered (Reply.Stopped s) cs log; run = run }
+repeats run s l h log [] = refl
+repeats run s l h log (c ∷ cs) =
+    ap (λ (a : Answer). drive (said c (a .reply) ∷ log) (a .run) cs) (stop-kept run s c l h) ∙ repeats run s l h (said c (Reply.Stopped s) ∷ log) cs
+
+pub stop-repeated : StatementStopRepeated
+stop-repeated run s c e log cs =
+    repeats (callOf run c .run) s (in-limits (callOf run c .run) .1 (limits-kept run c (in-limits run .0 (stopped-in run c s e (runInLimits run) refl)))) (stops-stay run s c e) log cs
