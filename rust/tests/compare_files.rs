@@ -8,12 +8,12 @@
     feature = "rattle_write_back"
 ))]
 
-use jidlekuvo_reference::compare::hits::{wanted_of_files, Hits};
+use jidlekuvo_reference::compare::hits::{wanted_of_fields, wanted_of_files, Hits};
 use jidlekuvo_reference::compare::smaller::smallest_file;
 use jidlekuvo_reference::compare::threads::in_threads;
 use jidlekuvo_reference::compare::{rattle, settings, Failure};
 use jidlekuvo_reference::generate::{inputs, plans, Random};
-use jidlekuvo_reference::plan_file::{encode, read, Plan};
+use jidlekuvo_reference::plan_file::{encode, faulty_field, read, Plan};
 use jidlekuvo_reference::{verdict, Fault};
 
 fn word(verdict: Result<Plan, Fault>) -> u64 {
@@ -48,13 +48,17 @@ fn compared(bytes: &[u8]) -> Result<(), Failure> {
 fn verdicts_agree() {
     let case = |random: &mut Random, hits: &mut Hits| {
         let bytes = inputs::plan_file(random);
-        hits.verdict(verdict::judge(&bytes).err().map(|fault| fault.number));
+        let number = verdict::judge(&bytes).err().map(|fault| fault.number);
+        hits.verdict(number);
+        if let (Some(number), Some(kind)) = (number, faulty_field(&bytes)) {
+            hits.field(number, kind);
+        }
         compared(&bytes)
     };
     let cases = settings::cases(120_000);
     let hits = in_threads(settings::seed(), cases, case).unwrap_or_else(|what| panic!("{what}"));
     hits.print(&format!("verdicts on {cases} files agree"));
-    let missing = hits.missing(&wanted_of_files());
+    let missing = hits.missing(&[wanted_of_files(), wanted_of_fields()].concat());
     assert!(settings::is_by_hand() || missing.is_empty(), "never hit: {missing:?}");
 }
 

@@ -2,6 +2,7 @@
 
 use crate::check::host::HostSide;
 use crate::check::log::{Answered, Log};
+use crate::plan_file::{FieldKind, FIELD_KINDS};
 use crate::run::Reply;
 use std::collections::BTreeMap;
 
@@ -21,6 +22,11 @@ impl Hits {
             Some(number) => self.hit(format!("number {number:02}")),
             None => self.hit("accepted"),
         }
+    }
+
+    /// A number of reading, and the kind of the field that has it.
+    pub fn field(&mut self, number: u8, kind: FieldKind) {
+        self.hit(field_line(number, kind));
     }
 
     /// Every answer of a log.
@@ -114,6 +120,16 @@ pub fn name(reply: Reply) -> String {
         Reply::Refused(number) => format!("refused {number}"),
         Reply::Stopped(stop) => format!("stopped {}", stop.number),
     }
+}
+
+fn field_line(number: u8, kind: FieldKind) -> String {
+    format!("number {number:02} at {kind:?}")
+}
+
+/// Each of 1 to 8 at every kind of field that can have it.
+pub fn wanted_of_fields() -> Vec<String> {
+    let pairs = FIELD_KINDS.iter().flat_map(|(kind, numbers)| numbers.iter().map(|&number| (number, *kind)));
+    pairs.map(|(number, kind)| field_line(number, kind)).collect()
 }
 
 /// The lines that a comparison of files must hit.

@@ -2,6 +2,7 @@
 
 use super::layout::{Field, Layout, Role};
 use super::Random;
+use crate::plan_file::FieldKind;
 use crate::Fault;
 
 /// The maps a node may have: an action or event with or without duration and predecessors, a
@@ -52,15 +53,36 @@ fn put(bytes: &mut [u8], field: &Field, value: u64) {
     bytes[field.place..field.place + field.width].copy_from_slice(&value[..field.width]);
 }
 
-/// A file whose first fault is known. One in three has a second, later fault.
-pub fn damaged_field(random: &mut Random, layout: &Layout) -> (Vec<u8>, Fault) {
+/// A file whose first fault is known, and the field that has it.
+pub struct Damaged {
+    pub bytes: Vec<u8>,
+    pub fault: Fault,
+    pub kind: FieldKind,
+}
+
+/// A field of the layout: any of them, or any of one kind, so that the fields that stand once in a
+/// file are hit as often as the predecessors.
+fn any_field(random: &mut Random, layout: &Layout) -> usize {
+    if random.one_in(2) {
+        return random.below(layout.fields.len());
+    }
+    let mut kinds: Vec<FieldKind> = layout.fields.iter().map(|field| field.kind).collect();
+    kinds.sort();
+    kinds.dedup();
+    let kind = random.pick(&kinds);
+    let of_kind: Vec<usize> = (0..layout.fields.len()).filter(|&at| layout.fields[at].kind == kind).collect();
+    random.pick(&of_kind)
+}
+
+/// One file in three has a second, later fault.
+pub fn damaged_field(random: &mut Random, layout: &Layout) -> Damaged {
     let mut bytes = layout.bytes.clone();
     if random.one_in(12) {
         let place = bytes.len();
         bytes.extend((0..random.between(1, 4)).map(|_| random.next() as u8));
-        return (bytes, Fault::new(6, place));
+        return Damaged { bytes, fault: Fault::new(6, place), kind: FieldKind::End };
     }
-    let at = random.below(layout.fields.len());
+    let at = any_field(random, layout);
     let field = layout.fields[at];
     if random.one_in(3) {
         let later = layout.fields[random.between(at, layout.fields.len() - 1)];
@@ -71,13 +93,13 @@ pub fn damaged_field(random: &mut Random, layout: &Layout) -> (Vec<u8>, Fault) {
     match bad_value(random, &field) {
         Some((value, number)) if !random.one_in(5) => {
             put(&mut bytes, &field, value);
-            (bytes, Fault::new(number, field.place))
+            Damaged { bytes, fault: Fault::new(number, field.place), kind: field.kind }
         }
         _ => {
             // The bytes end inside the field. A later fault is cut away with the rest, and one
             // in the same field is not looked at.
             bytes.truncate(field.place + random.below(field.width));
-            (bytes, Fault::new(1, field.place))
+            Damaged { bytes, fault: Fault::new(1, field.place), kind: field.kind }
         }
     }
 }

@@ -13,7 +13,7 @@ pub fn plan_file(random: &mut Random) -> Vec<u8> {
         0 | 1 => encode(&plans::any_plan(random)),
         2 | 3 => {
             let layout = Layout::of(&plans::any_plan(random));
-            damage::damaged_field(random, &layout).0
+            damage::damaged_field(random, &layout).bytes
         }
         4 => encode(&templates::faulty_activity_plan(random).0),
         5 => encode(&templates::faulty_automaton_plan(random).0),

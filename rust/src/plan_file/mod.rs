@@ -1,10 +1,12 @@
 //! "The plan file": the plan itself, its reader, its writer and its rules.
 
+mod field_kind;
 mod read;
 mod rules;
 mod write;
 
-pub use read::read;
+pub use field_kind::{FieldKind, FIELD_KINDS};
+pub use read::{faulty_field, read};
 pub use rules::meets_file_rules;
 pub use write::{encode, write};
 

@@ -4,9 +4,10 @@ use super::judge_hits;
 use crate::compare::hits::{wanted_of_files, Hits};
 use crate::compare::settings::{self, run_cases};
 use crate::compare::Failure;
+use crate::generate::damage::{self, Damaged};
 use crate::generate::layout::Layout;
-use crate::generate::{damage, inputs, plans, templates, Random};
-use crate::plan_file::{encode, meets_file_rules, read, write, Kind, Plan};
+use crate::generate::{inputs, plans, templates, Random};
+use crate::plan_file::{encode, faulty_field, meets_file_rules, read, write, Kind, Plan};
 use crate::verdict::judge;
 use crate::Fault;
 
@@ -61,9 +62,13 @@ pub fn accepted_plans(seed: u64, cases: usize, hits: &mut Hits) -> Result<(), St
 pub fn damaged_fields(seed: u64, cases: usize, hits: &mut Hits) -> Result<(), String> {
     run_cases(seed, cases, |random| {
         let layout = Layout::of(&plans::any_plan(random));
-        let (bytes, fault) = damage::damaged_field(random, &layout);
+        let Damaged { bytes, fault, kind } = damage::damaged_field(random, &layout);
         expect(&bytes, verdict(&bytes, hits), Err(fault))?;
-        expect(&bytes, read(&bytes).map(|_| ()), Err(fault))
+        expect(&bytes, read(&bytes).map(|_| ()), Err(fault))?;
+        match faulty_field(&bytes) == Some(kind) {
+            true => Ok(()),
+            false => Err(Failure::new(format!("the faulty field is {kind:?}"), &bytes)),
+        }
     })
 }
 

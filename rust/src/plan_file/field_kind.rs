@@ -1,0 +1,68 @@
+//! The kinds of fields of a plan file, and which of 1 to 8 each of them can have.
+
+use FieldKind::*;
+
+#[derive(Clone, Copy, Debug, PartialEq, Eq, PartialOrd, Ord)]
+pub enum FieldKind {
+    SectionMap,
+    ResourceCount,
+    PeripheralCount,
+    PeripheralResource,
+    EventCount,
+    OutcomeCount,
+    ActivityCount,
+    NodeCount,
+    NodeMap,
+    ActionNumber,
+    ActionPeripheral,
+    ClaimResource,
+    ReleaseResource,
+    EventNumber,
+    Duration,
+    PredecessorCount,
+    Predecessor,
+    StateCount,
+    InitialState,
+    FinalBits,
+    TransitionCount,
+    TransitionMap,
+    FromState,
+    ToState,
+    TransitionEvent,
+    TransitionOutcome,
+    TransitionActivity,
+    /// Where the fields end.
+    End,
+}
+
+/// Every kind in the order of the file, with the numbers that a field of it can have.
+pub const FIELD_KINDS: [(FieldKind, &[u8]); 28] = [
+    (SectionMap, &[1, 2, 7]),
+    (ResourceCount, &[1, 3]),
+    (PeripheralCount, &[1, 3]),
+    (PeripheralResource, &[1, 4]),
+    (EventCount, &[1, 3]),
+    (OutcomeCount, &[1, 3]),
+    (ActivityCount, &[1, 3]),
+    (NodeCount, &[1, 3]),
+    (NodeMap, &[1, 2]),
+    (ActionNumber, &[1]),
+    (ActionPeripheral, &[1, 4]),
+    (ClaimResource, &[1, 4]),
+    (ReleaseResource, &[1, 4]),
+    (EventNumber, &[1, 4]),
+    (Duration, &[1, 8]),
+    (PredecessorCount, &[1, 3]),
+    (Predecessor, &[1, 4, 5]),
+    (StateCount, &[1, 3]),
+    (InitialState, &[1, 4]),
+    (FinalBits, &[1, 4]),
+    (TransitionCount, &[1, 3]),
+    (TransitionMap, &[1, 2]),
+    (FromState, &[1, 4]),
+    (ToState, &[1, 4]),
+    (TransitionEvent, &[1, 4]),
+    (TransitionOutcome, &[1, 4]),
+    (TransitionActivity, &[1, 4]),
+    (End, &[6]),
+];
