@@ -1,6 +1,5 @@
 -- After any calls the run's last reading and its stop are those of the log, it is in limits, and its window has 512 places.
 use mathlib.Core.Path.{_≡_, refl, sym, ap, _∙_, subst}
-use mathlib.Core.Bool.{true, false}
 use mathlib.Core.List.{List, [], _∷_}
 use mathlib.Core.Logic.{inl, inr, ⊎-elim, _↔_}
 use Prim.Native.Nat.{ℕ}
@@ -15,14 +14,14 @@ use Rattle.run.specs.declared.Reply.{Reply}
 use Rattle.run.specs.declared.Answer.{Answer}
 use Rattle.run.specs.declared.Refusal.{Refusal}
 use Rattle.run.specs.Calls.{answer, callOf, readingOf}
-use Rattle.log.specs.Log.{Log, said, reading, StoppedIn}
-use Rattle.log.specs.Drive.{Driven, drive}
+use Rattle.log.specs.Log.{Log, said, reading, StoppedIn, StoppedBy}
+use Rattle.log.specs.Drive.{drive}
 use Rattle.log.specs.Latest.{Right, reading-last}
 use Rattle.demands.specs.InLimits.{RunInLimits}
 use Rattle.demands.specs.InLimitsIff.{in-limits}
 use Rattle.demands.specs.InLimitsKept.{limits-kept}
 use Rattle.demands.specs.Unchanged.{refused-unchanged, stop-kept}
-use Rattle.demands.specs.ByLog.{lastReading, StoppedBy}
+use Rattle.demands.specs.ByLog.{lastReading}
 
 pub record After (log : Log) (run : Run) : Type 0 where
   pub limits : RunInLimits run

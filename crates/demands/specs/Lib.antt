@@ -44,6 +44,7 @@ pub mod ByLogPlaces
 pub mod ByLogConditions
 pub mod AfterCalls
 pub mod AnswersByLog
+pub mod AnswersByLogHold
 pub mod OpeningByWord
 -- One plan, printed
 pub mod Horizon

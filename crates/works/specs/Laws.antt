@@ -16,7 +16,6 @@ pub mod Many
 pub mod Sums
 pub mod Onward
 pub mod Further
-pub mod Failing
 pub mod OneLoading
 pub mod Kinds
 pub mod Telling

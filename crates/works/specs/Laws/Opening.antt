@@ -2,7 +2,7 @@
 use mathlib.Core.Path.{_≡_, refl, sym, ap, _∙_, subst}
 use mathlib.Core.Bool.{Bool, true, false, cond, _&&_, _||_, true≢false}
 use mathlib.Core.Logic.{inl, ⊎-elim}
-use mathlib.Core.List.{List, [], _∷_, _++_, map}
+use mathlib.Core.List.{List, [], _∷_, map}
 use Prim.Native.Nat.{ℕ, zero, suc, _+_, _*_, _-_, _≤_, _<_}
 use native.Mathlib.Omega.{arith}
 use native.Mathlib.Decide.{ℕ-discrete}
@@ -46,6 +46,7 @@ use Rattle.opening.specs.declared.Short.{Short}
 use Rattle.opening.specs.Laws.{all-same, given-at, or-false, none-above}
 use Rattle.run.specs.Opening.{fresh, firstLoaded, begin, openPlan, openJudged, openOf}
 use Rattle.run.specs.Opening as Opening
+use Rattle.run.specs.declared.Stop.{Stop}
 use Rattle.run.specs.declared.Loading.{Loading}
 use Rattle.run.specs.declared.Unopened.{Unopened}
 use Rattle.run.specs.declared.Opening.{Opening as Outcome}
@@ -55,10 +56,12 @@ use Rattle.demand.specs.Works.{Opened}
 use Rattle.demand.specs.OfPlan.{worldOf, Outlast}
 use Rattle.demand.specs.TheWord.{none, wholeOf}
 use Rattle.demand.specs.Laws.Next.{lawful}
-use Rattle.demand.specs.Laws.Growth.{here, extends-self}
+use Rattle.demand.specs.Laws.Growth.{Tail, here, extends-self}
+use Rattle.demand.specs.Laws.Longest.{silent-before}
+use Rattle.demand.specs.Laws.Replies.{not-going}
 use Rattle.demand.specs.Laws.World.{old-position}
 use Rattle.demand.specs.OfRun.{machine}
-use Rattle.activity.specs.Tells.{Tells, tells-iff}
+use Rattle.activity.specs.Tells.{Tells, told-false, tells-iff}
 use Rattle.behaviour.specs.Combined.{Ident}
 use Rattle.path.specs.Path.{Path}
 use Rattle.demand.specs.Nodes.{Work}
@@ -118,6 +121,9 @@ exceeds-some : (p : Plan) (C : Ident → ℕ) (us : List ℕ) → Exceeds p C us
 exceeds-some p C us (Exceeds.completion n k i h) = tt
 exceeds-some p C us (Exceeds.availability x r l i h) = tt
 exceeds-some p C us (Exceeds.position l) = tt
+
+exceeds-none : (p : Plan) (available : ℕ → ℕ) (us : List ℕ) → Tail us [] → Beyond p available us → ⊥
+exceeds-none p available us here y = exceeds-some p (y .C) [] (y .exceeds)
 
 -- ---- the run at its opening
 
@@ -188,6 +194,7 @@ module _ (laws : EngineLaws) (p : Plan) (psi : Clock) (slack : ℕ) (given : Acc
     once = λ i j e f q r s. unheld i e q;
     all = λ x n. inl n;
     entries = λ j. subst (λ (e : Entry). entryInLimits (p .activities) (p .sizes) e ≡ true) (sym (all-same 512 j vacant)) (vacant-passes (p .activities) (p .sizes));
+    long = length-replicate 512 vacant;
   }
 
   -- ---- 44 and 43 of the opening, over words and times
@@ -216,6 +223,10 @@ module _ (laws : EngineLaws) (p : Plan) (psi : Clock) (slack : ℕ) (given : Acc
     all-vacant : vacancies w ≡ 512
     unfolding vacancies
     all-vacant = refl
+
+    -- none of its transitions passes a limit
+    first-within : (vs : List ℕ) → Silently p [] vs → (us : List ℕ) → Tail us vs → Beyond p available us → ⊥
+    first-within vs s us c y = ⊎-elim (λ d. exceeds-none p available us d y) (λ q. told-false tells-first b (record { at = us; silent = q; beyond = y })) (silent-before p available [] vs us s c)
 
     pub first-many : 512 < length (firstOf .entries) → FirstMany p
     first-many l = record {
@@ -252,8 +263,12 @@ module _ (laws : EngineLaws) (p : Plan) (psi : Clock) (slack : ℕ) (given : Acc
             same-slack = refl;
             stands = r .loaded .stands;
             rests = r .rests;
+            within = first-within b (r .word) (r .silent);
             whole = λ nf. stuck-if p (given .lawful) (given .automaton) available [] (r .word) _ (r .loaded .stands) laws (r .rests) (λ t e. heard-if p (given .lawful) (given .automaton) available [] (r .word) _ (r .loaded .stands) t e .told);
+            beyond = λ e. absurd (not-going Stop.Beyond (sym e));
+            full = λ e. absurd (not-going Stop.Full (sym e));
             entries = r .loaded .entries;
+            long = r .loaded .long;
             halt = refl;
           };
           going = refl;
