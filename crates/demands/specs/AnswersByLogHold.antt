@@ -165,7 +165,6 @@ module _ (bytes : List ℕ) (are : Bytes bytes) (psi : Clock) (slack : ℕ) (ts 
         limits = in-limits (openOf bytes psi slack ts .run) .0 (Works.in-limits bytes are psi slack ts opened []);
         last = λ n. k .last;
         halted = λ s. (λ q. absurd (going (sym (k .going) ∙ q)), λ q. absurd q);
-        long = k .window;
       }
     where
       going : {s : Stop} → Halt.Going ≡ Halt.Stopped s → ⊥
