@@ -16,6 +16,7 @@ use Rattle.run.specs.Calls.{answer, callOf, readingOf}
 use Rattle.log.specs.Log.{Log, said, reading, StoppedIn, StoppedBy}
 use Rattle.log.specs.Drive.{drive}
 use Rattle.log.specs.Latest.{Right, reading-last}
+use Rattle.demand.specs.Laws.Replies.{same-stop}
 use Rattle.demands.specs.InLimits.{RunInLimits}
 use Rattle.demands.specs.InLimitsIff.{in-limits}
 use Rattle.demands.specs.InLimitsKept.{limits-kept}
@@ -27,14 +28,11 @@ pub record After (log : Log) (run : Run) : Type 0 where
   pub last : (StoppedIn log → ⊥) → run .last .0 ≡ lastReading log
   pub halted : (s : Stop) → (run .halt ≡ Halt.Stopped s) ↔ StoppedBy log s
 
-going-stopped : {A : Type 0} {s : Stop} → Halt.Going ≡ Halt.Stopped s → A
+pub going-stopped : {A : Type 0} {s : Stop} → Halt.Going ≡ Halt.Stopped s → A
 going-stopped e = absurd (let z : _≡_ {A = ℕ} 0 1 = cc in omega arith)
 
 same-halt : {s u : Stop} → Halt.Stopped s ≡ Halt.Stopped u → s ≡ u
 same-halt e = cc
-
-same-stop : {s u : Stop} → Reply.Stopped s ≡ Reply.Stopped u → s ≡ u
-same-stop e = cc
 
 reading-is : (c : Call) → readingOf c .0 ≡ reading c
 reading-is (Call.Ask t) = refl
@@ -79,7 +77,7 @@ module _ (log : Log) (run : Run) (a : After log run) (c : Call) where
       limits = a .limits;
       last = λ n. a .last (λ z. n (inr z));
       halted = λ s. (λ z. going-stopped (sym going ∙ z), λ z. absurd (unstopped (Reply.Refused f) tt s z));
-      }
+    }
     by-reply (Reply.Stopped s) next l q u = record {
       limits = l;
       last = λ n. absurd (n (inl tt));

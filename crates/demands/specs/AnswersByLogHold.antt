@@ -54,7 +54,7 @@ use Rattle.demands.specs.ConditionsHold.{replies}
 use Rattle.demands.specs.ByLog.{Known, Refuses, Asks, After, Halts, Takes as Taken, Answered}
 use Rattle.demands.specs.ByLogPlaces.{known, of-word}
 use Rattle.demands.specs.ByLogConditions.{stopped-by, stopped-in, same-condition}
-use Rattle.demands.specs.AfterCalls.{after-calls}
+use Rattle.demands.specs.AfterCalls.{going-stopped, after-calls}
 use Rattle.demands.specs.AfterCalls as AfterCalls
 use Rattle.demands.specs.AnswersByLog.{StatementAnswersByLog}
 
@@ -164,11 +164,8 @@ module _ (bytes : List ℕ) (are : Bytes bytes) (psi : Clock) (slack : ℕ) (ts 
       after-calls cs [] (openOf bytes psi slack ts .run) record {
         limits = in-limits (openOf bytes psi slack ts .run) .0 (Works.in-limits bytes are psi slack ts opened []);
         last = λ n. k .last;
-        halted = λ s. (λ q. absurd (going (sym (k .going) ∙ q)), λ q. absurd q);
+        halted = λ s. (λ q. going-stopped (sym (k .going) ∙ q), λ q. absurd q);
       }
-    where
-      going : {s : Stop} → Halt.Going ≡ Halt.Stopped s → ⊥
-      going e = let z : _≡_ {A = ℕ} 0 1 = cc in omega arith
 
   keeps : Keeps (openOf bytes psi slack ts .run .plan) psi slack run
   keeps = Works.kept bytes are psi slack ts opened cs

@@ -27,6 +27,7 @@ use Rattle.log.specs.Log.{Id, id, Log, reading, Stops, StoppedIn, StoppedBy, St
 use Rattle.demand.specs.Nodes.{whose, lengthOf, EmitsAt, here, earlier}
 use Rattle.demand.specs.TheWord.{stateAfter, wholeOf}
 use Rattle.demand.specs.Demand.{Demand3}
+use Rattle.demands.specs.AfterCalls.{going-stopped}
 use Rattle.demands.specs.InLimits.{RunInLimits}
 use Rattle.demands.specs.Conditions.{entryAt, DueAt, FirstOf, IsReport, IsAction, RightKind, Condition, NamedAt, loadingAfter}
 use Rattle.demands.specs.Conditions as Places
@@ -48,9 +49,6 @@ stopped-by (y ∷ log) (inr q) = let r = stopped-by log q in (r .0, inr (r .1))
 pub stopped-in : (log : Log) (s : Stop) → StoppedBy log s → StoppedIn log
 stopped-in (y ∷ log) s (inl q) = inl (subst Stops (sym q) tt)
 stopped-in (y ∷ log) s (inr q) = inr (stopped-in log s q)
-
-going-stopped : {A : Type 0} {s : Stop} → Halt.Going ≡ Halt.Stopped s → A
-going-stopped e = absurd (let z : _≡_ {A = ℕ} 0 1 = cc in omega arith)
 
 -- the activity at a position is one
 emits-below : (p : Plan) (is : List ℕ) (q a : ℕ) → EmitsAt p is q a → q < lengthOf is

@@ -7,3 +7,6 @@ pub mod Leaving
 pub mod Passing
 pub mod Along
 pub mod Printed
+pub mod Numbers
+pub mod FirstPath
+pub mod LoadingFails

@@ -37,7 +37,6 @@ pub mod FirstPlaces
 pub mod ConditionsMet
 pub mod ConditionsGive
 pub mod ConditionsHold
-pub mod LoadingFails
 -- and over the log
 pub mod ByLog
 pub mod ByLogPlaces
@@ -45,7 +44,6 @@ pub mod ByLogConditions
 pub mod AfterCalls
 pub mod AnswersByLog
 pub mod AnswersByLogHold
-pub mod OpeningByWord
 -- One plan, printed
 pub mod Horizon
 pub mod Timetables

@@ -1,6 +1,6 @@
 -- The opened run keeps the plan that its bytes hold, Ψ and the slack; an answer makes its reading the last one.
 use mathlib.Core.Path.{_≡_, refl, subst}
-use mathlib.Core.Bool.{Bool, true, false, cond, _||_}
+use mathlib.Core.Bool.{_||_}
 use mathlib.Core.List.{List}
 use Prim.Native.Nat.{ℕ}
 use lib.Dec.{ltb, eqb}
@@ -25,10 +25,7 @@ use Rattle.run.specs.declared.Loading.{Loading}
 use Rattle.run.specs.Limits.{slackInLimits}
 use Rattle.run.specs.Loading.{load, loadPath}
 use Rattle.run.specs.Opening.{openOf, openJudged, openPlan, firstLoaded, fresh}
-
-by-cond : {A : Type 0} (P : A → Type 0) (b : Bool) (x y : A) → P x → P y → P (cond b x y)
-by-cond P true x y p q = p
-by-cond P false x y p q = q
+use Rattle.log.specs.ByCases.{by-cond}
 
 pub record Keeps (p : Plan) (psi : Clock) (slack : ℕ) (run : Run) : Type 0 where
   pub same-plan : run .plan ≡ p

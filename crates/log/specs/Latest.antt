@@ -11,8 +11,7 @@ use Rattle.plan.specs.declared.Kind.{Kind}
 use Rattle.automaton.specs.Next.{nextOf}
 use Rattle.automaton.specs.declared.Next.{Next}
 use Rattle.window.specs.declared.Entry.{Entry}
-use Rattle.window.specs.declared.Found.{Found}
-use Rattle.window.specs.Window.{vacancies, onFound, first, isStarted, startsBefore, endsBefore, isDue, isLate, isOverdue, isNode}
+use Rattle.window.specs.Window.{vacancies, first, isStarted, startsBefore, endsBefore, isDue, isLate, isOverdue, isNode}
 use Rattle.path.specs.Path.{Path, pathFrom, longestPath}
 use Rattle.outcomes.specs.Way.{wayOn}
 use Rattle.outcomes.specs.Told.{toldOf}
@@ -25,21 +24,9 @@ use Rattle.run.specs.declared.Refusal.{Refusal}
 use Rattle.run.specs.declared.Failure.{Failure}
 use Rattle.run.specs.declared.Loading.{Loading}
 use Rattle.run.specs.Limits.{runInLimits}
-use Rattle.run.specs.Loading.{load, loadPath, onWay, onLoading, further, mostPending}
+use Rattle.run.specs.Loading.{load, loadPath, onLoading, further, mostPending}
 use Rattle.run.specs.Calls.{answer, refuse, asked, reported, completedBy, completed, afterLoading, learnt, cleared, learnsBy, learns, onHalt, timely, called, askOf, completionOf, outcomeOf, callOf, isDone, kindOf, readingOf}
-
-by-cond : {A : Type 0} (P : A → Type 0) (b : Bool) (x y : A) → P x → P y → P (cond b x y)
-by-cond P true x y p q = p
-by-cond P false x y p q = q
-
-by-found : {A : Type 0} (P : A → Type 0) (r : Found) (f : ℕ → Entry → A) (z : A) → ((i : ℕ) (e : Entry) → P (f i e)) → P z → P (onFound r f z)
-by-found P Found.Nothing f z p q = q
-by-found P (Found.At i e) f z p q = p i e
-
-by-way : {A : Type 0} (P : A → Type 0) (w : Next) (f : ℕ → A) (z : A) → ((t : ℕ) → P (f t)) → P z → P (onWay w f z)
-by-way P Next.Ended f z p q = q
-by-way P (Next.Goes t) f z p q = p t
-by-way P (Next.Waits e) f z p q = q
+use Rattle.log.specs.ByCases.{by-cond, by-found, by-way}
 
 -- ---- loading leaves the last reading, and stops nothing
 
@@ -64,7 +51,7 @@ unfolding further load
 lasts-further t zero run e = record { lasts = e }
 lasts-further t (suc k) run e =
     by-way (Lasts t) (wayOn (run .plan .automaton) (run .progress) (nextOf (run .plan .automaton) (run .progress .state))) _ _
-    (λ s. lasts-path t (further k) (lasts-further t k) run (pathFrom (run .plan) longestPath (Next.Goes s) (run .progress)) e .lasts) (record { lasts = e })
+    (λ s w. lasts-path t (further k) (lasts-further t k) run (pathFrom (run .plan) longestPath (Next.Goes s) (run .progress)) e .lasts) (λ n. record { lasts = e })
 
 -- ---- an answer
 

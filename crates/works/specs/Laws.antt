@@ -23,6 +23,7 @@ pub mod Informed
 pub mod Learn
 pub mod Words
 pub mod Works
+pub mod Short
 pub mod Opening
 pub mod EngineHolds
 pub mod AcceptedHolds

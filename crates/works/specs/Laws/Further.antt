@@ -27,12 +27,13 @@ use Rattle.window.specs.Tests.{by-test}
 use Rattle.window.specs.Places.{Holds}
 use Rattle.window.specs.declared.Entry.{Entry}
 use Rattle.outcomes.specs.Way.{wayOn}
-use Rattle.run.specs.Loading.{loading, load, onWay, onLoading, further}
+use Rattle.run.specs.Loading.{loading, load, onLoading, further}
 use Rattle.run.specs.declared.Run.{Run}
 use Rattle.run.specs.declared.Halt.{Halt}
 use Rattle.run.specs.declared.Failure.{Failure}
 use Rattle.run.specs.declared.Loading.{Loading}
 use Rattle.log.specs.Log.{Id, Log, Reported, Told}
+use Rattle.log.specs.ByCases.{by-way}
 use Rattle.demand.specs.Machine.{idOf, Held}
 use Rattle.demand.specs.Nodes.{Work, lengthOf}
 use Rattle.demand.specs.TheWord.{wholeOf}
@@ -42,18 +43,13 @@ use Rattle.works.specs.Engine.{rest, remaining, Settles, EngineLaws}
 use Rattle.works.specs.Stands.{Stands}
 use Rattle.works.specs.Laws.Silent.{one-rest}
 use Rattle.works.specs.Laws.Loaded.{Loaded, tail-length}
-use Rattle.works.specs.Laws.Paths.{tolds, Rests, ended-goes, waits-goes, tail-on, Arrives, first-of, path-on}
+use Rattle.works.specs.Laws.Paths.{tolds, Rests, tail-on, Arrives, first-of, path-on}
 use Rattle.works.specs.Laws.PathLimits.{tells-path}
 use Rattle.works.specs.Laws.PathLimits as PathLimits
 use Rattle.works.specs.Laws.PathNodes.{low, Passes, passes}
 use Rattle.works.specs.Laws.Many.{too-many, not-many}
 use Rattle.works.specs.Laws.Sums.{sum, sum-falls, sum-has}
 use Rattle.works.specs.Laws.Onward.{Heard, heard-if, stuck-if}
-
-pub by-way : {A : Type 0} (P : A → Type 0) (n : Next) (f : ℕ → A) (z : A) → ((t : ℕ) → n ≡ Next.Goes t → P (f t)) → (((t : ℕ) → n ≡ Next.Goes t → ⊥) → P z) → P (onWay n f z)
-by-way P Next.Ended f z k g = g (λ t e. ended-goes e)
-by-way P (Next.Goes t) f z k g = k t refl
-by-way P (Next.Waits e) f z k g = g (λ t q. waits-goes q)
 
 module _ (p : Plan) (lawful : Lawful p) (automaton : MeetsAutomaton p) (available : ℕ → ℕ) (log : Log) (base : List ℕ) (v : List Entry) (laws : EngineLaws)
     (psi : Clock) (slack : ℕ) (last : Clock) (halt : Halt) where

@@ -23,7 +23,7 @@ use Rattle.window.specs.declared.Phase.{Phase}
 use Rattle.limits.specs.Window.{entryInLimits}
 use Rattle.run.specs.Limits.{runInLimits, haltInLimits}
 use Rattle.outcomes.specs.Told.{toldOf}
-use Rattle.run.specs.Calls.{answer, heard, cleared, kindOf, isDone, learnt, reported, completedBy, learnsBy, asked, completed, learns, timely, called, onHalt, askOf, completionOf, outcomeOf, callOf}
+use Rattle.run.specs.Calls.{answer, heard, cleared, kindOf, isDone, learnt, reported, completedBy, learnsBy, asked, completed, learns, timely, called, askOf, completionOf, outcomeOf, callOf}
 use Rattle.run.specs.Calls as Calls
 use Rattle.run.specs.declared.Run.{Run}
 use Rattle.run.specs.declared.Halt.{Halt}
@@ -33,6 +33,7 @@ use Rattle.run.specs.declared.Reply.{Reply}
 use Rattle.run.specs.declared.Refusal.{Refusal}
 use Rattle.run.specs.declared.Answer.{Answer}
 use Rattle.log.specs.Log.{Id, Log, said, reading, Failing, Tells, Accepts}
+use Rattle.log.specs.ByCases.{by-halt}
 use Rattle.demand.specs.Way.{Way, keeps, refuses, overdues, lates, begins, idles, completes, Turns, Clear, Clears, Marks, Answers}
 use Rattle.demand.specs.OfPlan.{worldOf}
 use Rattle.demand.specs.Laws.Invariant.{Invariant}
@@ -69,10 +70,6 @@ marks w i e h j f = (
 
 clears : (w : List Entry) (i : ℕ) → Clears (Holds w) (Holds (set w i vacant)) i
 clears w i j f = (λ q. cleared-only w i j f q, λ q. stored-kept w i vacant j f (q .0) (q .1))
-
-pub by-halt : {A : Type 0} (P : A → Type 0) (h : Halt) (f : Stop → A) (z : A) → ((s : Stop) → h ≡ Halt.Stopped s → P (f s)) → (h ≡ Halt.Going → P z) → P (onHalt h f z)
-by-halt P Halt.Going f z k g = g refl
-by-halt P (Halt.Stopped s) f z k g = k s refl
 
 abbrev FailedHalt : Halt → Type 0
 FailedHalt Halt.Going = ⊥
