@@ -3,15 +3,19 @@ use mathlib.Core.Path.{_≡_, sym, subst}
 use mathlib.Core.List.{List, _∷_}
 use mathlib.Core.Logic.{_⊎_, inl, inr, ⊎-elim}
 use Prim.Native.Nat.{ℕ}
+use native.Mathlib.Omega.{arith}
 use Rattle.plan.specs.declared.Plan.{Plan}
 use Rattle.automaton.specs.declared.Next.{Next}
 use Rattle.behaviour.specs.Paths.{Lawful}
+use Rattle.run.specs.declared.Call.{Call}
+use Rattle.run.specs.declared.Halt.{Halt}
 use Rattle.run.specs.declared.Stop.{Stop}
 use Rattle.run.specs.declared.Failure.{Failure}
-use Rattle.log.specs.Log.{Id, Log, Told, FailedIn, StoppedBy}
-use Rattle.demand.specs.TheWord.{nextAfter, Rests, Takes}
-use Rattle.demand.specs.Loading.{Beyond, Silently, stays, goes-on, Onward, NextPath, PathBeyond, PathFull, EndsAt, Loads, ends, later, Fits}
-use Rattle.demand.specs.Laws.Replies.{failed-by}
+use Rattle.log.specs.Log.{Id, Log, said, Told, FailedIn, StoppedBy}
+use Rattle.demand.specs.Way.{haltOf, replyOf}
+use Rattle.demand.specs.TheWord.{nextAfter, Rests, Takes, Stuck}
+use Rattle.demand.specs.Loading.{Beyond, Silently, stays, goes-on, Onward, NextPath, PathBeyond, PathFull, EndsAt, whole, beyond, full, Loads, ends, later, Fits}
+use Rattle.demand.specs.Laws.Replies.{not-going, failed-by}
 use Rattle.demand.specs.Laws.Growth.{Tail, tail-next}
 use Rattle.demand.specs.Laws.TheWord.{last, silent, step-same, tail-takes, tail-extends}
 
@@ -58,10 +62,14 @@ module _ (p : Plan) (lawful : Lawful p) (log : Log) (unique : (x : Id) (o q : �
 
   pub longest : (v is : List ℕ) → Tail v is → Takes p log is → ((FailedIn log → ⊥) → v ≡ is) → (StoppedBy log Stop.Beyond → PathBeyond p available log v) → (StoppedBy log Stop.Full → PathFull p available log v)
       → (u : List ℕ) → Tail u is → Fits p available log u → Tail u v
-  longest v is b h whole beyond full u c fits = ⊎-elim (λ nf. subst (Tail u) (sym (whole nf)) c) (λ q. ⊎-elim (λ a. a) (λ n. absurd (⊎-elim (λ s. not-beyond v u taken fits (n .0) (n .1) (beyond s)) (λ s. not-full v u taken fits (n .0) (n .1) (full s)) q)) (tails u v is c b)) (failed-by log)
+  longest v is b h all past filled u c fits =
+      ⊎-elim (λ nf. subst (Tail u) (sym (all nf)) c) (λ q. ⊎-elim (λ a. a) (λ n. absurd (none (n .0) (n .1) q)) (tails u v is c b)) (failed-by log)
     where
       taken : Takes p log u
       taken = tail-takes p lawful log unique u is c h
+
+      none : (t : ℕ) → Tail (t ∷ v) u → StoppedBy log Stop.Beyond ⊎ StoppedBy log Stop.Full → ⊥
+      none t d = ⊎-elim (λ s. not-beyond v u taken fits t d (past s)) (λ s. not-full v u taken fits t d (filled s))
 
 -- ---- loading leads from a beginning within the limits to another
 
@@ -89,3 +97,24 @@ module _ (p : Plan) (available : ℕ → ℕ) where
   pub loads-end : (log : Log) (us vs : List ℕ) (f : Failure) → Loads p available log us vs f → EndsAt p available log vs f
   loads-end log us vs f (ends e) = e
   loads-end log us vs f (later {vs = ws} n nb few l) = loads-end log ws vs f l
+
+-- ---- where loading ends, by the answer that tells it
+
+full-beyond : {A : Type 0} → Halt.Stopped Stop.Full ≡ Halt.Stopped Stop.Beyond → A
+full-beyond e = absurd (let z : _≡_ {A = ℕ} 0 1 = cc in omega arith)
+
+module _ (p : Plan) (available : ℕ → ℕ) (log1 : Log) (us : List ℕ) where
+  pub ends-whole : (c : Call) (log : Log) (f : Failure) → EndsAt p available log1 us f → (FailedIn (said c (replyOf f) ∷ log) → ⊥) → Stuck p log1 us
+  ends-whole c log f (whole s) nf = s
+  ends-whole c log f (beyond y) nf = absurd (nf (inl tt))
+  ends-whole c log f (full y) nf = absurd (nf (inl tt))
+
+  pub ends-beyond : (f : Failure) → EndsAt p available log1 us f → haltOf f ≡ Halt.Stopped Stop.Beyond → PathBeyond p available log1 us
+  ends-beyond f (whole s) e = absurd (not-going Stop.Beyond (sym e))
+  ends-beyond f (beyond y) e = y
+  ends-beyond f (full y) e = full-beyond e
+
+  pub ends-full : (f : Failure) → EndsAt p available log1 us f → haltOf f ≡ Halt.Stopped Stop.Full → PathFull p available log1 us
+  ends-full f (whole s) e = absurd (not-going Stop.Full (sym e))
+  ends-full f (beyond y) e = full-beyond (sym e)
+  ends-full f (full y) e = y

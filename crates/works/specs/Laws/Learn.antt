@@ -34,23 +34,22 @@ use Rattle.run.specs.declared.Halt.{Halt}
 use Rattle.run.specs.declared.Call.{Call}
 use Rattle.run.specs.declared.Reply.{Reply}
 use Rattle.run.specs.declared.Failure.{Failure}
-use Rattle.run.specs.declared.Stop.{Stop}
 use Rattle.run.specs.Limits.{haltInLimits}
 use Rattle.run.specs.declared.Loading.{Loading}
-use Rattle.log.specs.Log.{Id, Log, Always, said, Accepts, Reports, Reported, FailedIn, StoppedIn}
+use Rattle.log.specs.Log.{Id, Log, Always, said, Accepts, Reports, Reported, StoppedIn}
 use Rattle.log.specs.Log as Log
 use Rattle.demand.specs.Machine.{World, idOf, Held}
 use Rattle.demand.specs.Way.{learns, Agrees, haltOf, replyOf}
 use Rattle.demand.specs.Way as Way
-use Rattle.demand.specs.Loading.{Waits, PathBeyond, PathFull, EndsAt, whole, beyond, full, Loads}
+use Rattle.demand.specs.Loading.{Waits, EndsAt, whole, beyond, full, Loads}
 use Rattle.demand.specs.Laws.Accounts.{always-map}
 use Rattle.demand.specs.OfPlan.{worldOf}
 use Rattle.demand.specs.Nodes.{whose, lengthOf}
 use Rattle.demand.specs.TheWord.{stateAfter, nextAfter, wholeOf, Oldest, Stuck, ended, waits}
 use Rattle.demand.specs.Laws.Invariant.{Invariant}
 use Rattle.demand.specs.Laws.Growth.{here, extends-self}
-use Rattle.demand.specs.Laws.Replies.{not-going, failed-stopped}
-use Rattle.demand.specs.Laws.Longest.{within-loads, loads-end}
+use Rattle.demand.specs.Laws.Replies.{failed-stopped}
+use Rattle.demand.specs.Laws.Longest.{within-loads, loads-end, ends-whole, ends-beyond, ends-full}
 use Rattle.demand.specs.Laws.TheWord.{told-once, takes-follows}
 use Rattle.demand.specs.Laws.World.{old-position, new-start}
 use Rattle.demand.specs.OfRun.{machine}
@@ -79,27 +78,6 @@ tolds-few (x ∷ q) = let u = tolds-few q in let v = one (x .told) in omega arit
     one : (t : Told) → isTold t ≤ 1
     one Told.Nothing = omega arith
     one (Told.Outcome o) = omega arith
-
--- ---- where loading ends, by the answer that tells it
-
-full-beyond : {A : Type 0} → Halt.Stopped Stop.Full ≡ Halt.Stopped Stop.Beyond → A
-full-beyond e = absurd (let z : _≡_ {A = ℕ} 0 1 = cc in omega arith)
-
-module _ (p : Plan) (available : ℕ → ℕ) (log1 : Log) (us : List ℕ) where
-  ends-whole : (c : Call) (log : Log) (f : Failure) → EndsAt p available log1 us f → (FailedIn (said c (replyOf f) ∷ log) → ⊥) → Stuck p log1 us
-  ends-whole c log f (whole s) nf = s
-  ends-whole c log f (beyond y) nf = absurd (nf (inl tt))
-  ends-whole c log f (full y) nf = absurd (nf (inl tt))
-
-  ends-beyond : (f : Failure) → EndsAt p available log1 us f → haltOf f ≡ Halt.Stopped Stop.Beyond → PathBeyond p available log1 us
-  ends-beyond f (whole s) e = absurd (not-going Stop.Beyond (sym e))
-  ends-beyond f (beyond y) e = y
-  ends-beyond f (full y) e = full-beyond e
-
-  ends-full : (f : Failure) → EndsAt p available log1 us f → haltOf f ≡ Halt.Stopped Stop.Full → PathFull p available log1 us
-  ends-full f (whole s) e = absurd (not-going Stop.Full (sym e))
-  ends-full f (beyond y) e = full-beyond (sym e)
-  ends-full f (full y) e = y
 
 failed-limits : (f : Failure) → haltInLimits (haltOf f) ≡ true
 failed-limits Failure.None = refl
