@@ -52,10 +52,10 @@ use Rattle.demands.specs.Conditions.{entryAt, loadingAfter}
 use Rattle.demands.specs.Conditions as Places
 use Rattle.demands.specs.ConditionsHold.{replies}
 use Rattle.demands.specs.ByLog.{Known, Refuses, Asks, After, Halts, Takes as Taken, Answered}
-use Rattle.demands.specs.ByLogPlaces.{known, of-word}
-use Rattle.demands.specs.ByLogConditions.{stopped-by, stopped-in, same-condition}
-use Rattle.demands.specs.AfterCalls.{going-stopped, after-calls}
-use Rattle.demands.specs.AfterCalls as AfterCalls
+use Rattle.demands.specs.Laws.ByLogPlaces.{known, of-word}
+use Rattle.demands.specs.Laws.ByLogConditions.{stopped-by, stopped-in, same-condition}
+use Rattle.demands.specs.Laws.AfterCalls.{going-stopped, after-calls}
+use Rattle.demands.specs.Laws.AfterCalls as AfterCalls
 use Rattle.demands.specs.AnswersByLog.{StatementAnswersByLog}
 
 -- ---- what is known of the run, in terms of a plan, Ψ and slack

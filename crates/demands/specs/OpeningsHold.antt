@@ -28,7 +28,7 @@ use Rattle.run.specs.declared.Unopened.{Unopened}
 use Rattle.run.specs.declared.Opening.{Opening}
 use Rattle.run.specs.declared.Opened.{Opened}
 use Rattle.demands.specs.Openings.{TimeAbove, planOf, Counted, InTime, WithSlack, Lasting, WithinHorizon, OpensBy, StatementOpeningBy, StatementOpeningNumbers}
-use Rattle.demands.specs.OpeningTests.{by-tells, is-true, is-false, tells-time, tells-slack, outside, inside, finds, by-finds, lowest-is, none-is}
+use Rattle.demands.specs.Laws.OpeningTests.{by-tells, is-true, is-false, tells-time, tells-slack, outside, inside, finds, by-finds, lowest-is, none-is}
 use Rattle.demands.specs.Accepted.{Bytes}
 use Rattle.demands.specs.Verdicts.{Judged}
 use Rattle.demands.specs.VerdictsHold.{verdict}

@@ -28,7 +28,7 @@ use Rattle.works.specs.Laws.EngineHolds.{engine-laws}
 use Rattle.works.specs.Laws.AcceptedHolds.{accepted-laws}
 use Rattle.demands.specs.Accepted.{Bytes}
 use Rattle.demands.specs.Openings.{TimeAbove, planOf, Lasting}
-use Rattle.demands.specs.OpeningTests.{tells-slack, is-true, outside}
+use Rattle.demands.specs.Laws.OpeningTests.{tells-slack, is-true, outside}
 use Rattle.demands.specs.VerdictsHold.{verdict}
 
 -- where the behaviour stands at its opening, and the first path from there

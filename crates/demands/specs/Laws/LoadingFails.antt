@@ -20,7 +20,7 @@ use Rattle.outcomes.specs.Way.{wayOn}
 use Rattle.activity.specs.Tells.{Tells, holds, fails, told-true, told-false}
 use Rattle.log.specs.ByCases.{by-way}
 use Rattle.works.specs.Laws.Crosses.{Crosses, tells-crosses}
-use Rattle.demands.specs.OpeningTests.{is-true, is-false}
+use Rattle.demands.specs.Laws.OpeningTests.{is-true, is-false}
 use Rattle.plan.specs.declared.Plan.{Plan}
 use Rattle.timing.specs.declared.Progress.{Progress}
 use Rattle.window.specs.declared.Entry.{Entry}

@@ -27,12 +27,12 @@ use Rattle.log.specs.Log.{Id, id, Log, reading, Stops, StoppedIn, StoppedBy, St
 use Rattle.demand.specs.Nodes.{whose, lengthOf, EmitsAt, here, earlier}
 use Rattle.demand.specs.TheWord.{stateAfter, wholeOf}
 use Rattle.demand.specs.Demand.{Demand3}
-use Rattle.demands.specs.AfterCalls.{going-stopped}
+use Rattle.demands.specs.Laws.AfterCalls.{going-stopped}
 use Rattle.demands.specs.InLimits.{RunInLimits}
 use Rattle.demands.specs.Conditions.{entryAt, DueAt, FirstOf, IsReport, IsAction, RightKind, Condition, NamedAt, loadingAfter}
 use Rattle.demands.specs.Conditions as Places
 use Rattle.demands.specs.ByLog.{Known, lastReading, Open, Overdue, Late, Earliest, Rises, NotOverdue, Timely, Names, Reports, Refuses, Learns, Ended, Asks, After, Halts, Takes, Answered}
-use Rattle.demands.specs.ByLogPlaces.{known, nodeOf, IsHeld, of-word, stands-at, at-stands, started-at, at-started, unstarted-at, at-unstarted, overdue-to, overdue-from, late-to, late-from, due-to, due-from, overdue-earliest, overdue-first, late-earliest, late-first, due-earliest, due-first, named-to, named-from, named-first, kind-same, kind-at}
+use Rattle.demands.specs.Laws.ByLogPlaces.{known, nodeOf, IsHeld, of-word, stands-at, at-stands, started-at, at-started, unstarted-at, at-unstarted, overdue-to, overdue-from, late-to, late-from, due-to, due-from, overdue-earliest, overdue-first, late-earliest, late-first, due-earliest, due-first, named-to, named-from, named-first, kind-same, kind-at}
 
 reading-is : (c : Call) → readingOf c .0 ≡ reading c
 reading-is (Call.Ask t) = refl

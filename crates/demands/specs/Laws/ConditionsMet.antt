@@ -25,7 +25,7 @@ use Rattle.log.specs.ByCases.{by-halt}
 use Rattle.demands.specs.InLimitsIff.{tells-run, in-limits}
 use Rattle.run.specs.Calls.{refuse, readingOf, isDone, asked, kindOf, completedBy, completed, afterLoading, learnsBy, learns, timely, called, askOf, completionOf, outcomeOf, callOf}
 use Rattle.demands.specs.Conditions.{entryAt, OverdueAt, LateAt, DueAt, NodeAt, Going, Rises, NotOverdue, Timely, Reports, Learns, loadingAfter, Ended, Refuses, Halts, Asks, Takes, Condition}
-use Rattle.demands.specs.FirstPlaces.{by-place, overdue-places, late-places, due-places, node-places}
+use Rattle.demands.specs.Laws.FirstPlaces.{by-place, overdue-places, late-places, due-places, node-places}
 
 -- the reply of the answer comes in its condition
 pub record MetBy (run : Run) (c : Call) (a : Answer) : Type 0 where
