@@ -13,12 +13,14 @@ use Rattle.window.specs.declared.Entry.{Entry}
 use Rattle.run.specs.declared.Run.{Run}
 use Rattle.run.specs.declared.Reply.{Reply}
 use Rattle.run.specs.declared.Refusal.{Refusal}
-use Rattle.log.specs.Log.{Id, Said, Log, Always, reading, IsAsk, Starts, Started, Reports, Reported, FailedIn, Finishes}
+use Rattle.run.specs.declared.Stop.{Stop}
+use Rattle.log.specs.Log.{Id, Said, Log, Always, reading, IsAsk, Starts, Started, StoppedBy, Reports, Reported, FailedIn, Finishes}
 use Rattle.log.specs.Host.{Host, Mild}
 use Rattle.log.specs.Drive.{Driven}
 use Rattle.demand.specs.Machine.{idOf}
 use Rattle.demand.specs.Nodes.{whose, Work, EmitsAt}
-use Rattle.demand.specs.TheWord.{stateAfter, wholeOf, Rests, Tail}
+use Rattle.demand.specs.TheWord.{stateAfter, wholeOf, Tail}
+use Rattle.demand.specs.Loading.{PathBeyond, PathFull, Fits}
 
 -- ---- the window
 
@@ -39,15 +41,18 @@ pub record OfTheWord (p : Plan) (is : List ℕ) (S C : Ident → ℕ) (log : Log
   pub end : e .end .0 ≡ C (whose (idOf e))
   pub activity : EmitsAt p is (e .position) (e .activity)
 
--- the transitions v are loaded
-pub record Loaded (p : Plan) (is : List ℕ) (S C : Ident → ℕ) (d : Driven) (v : List ℕ) : Type 0 where
+-- the transitions v are loaded: the longest beginning of the word that fits
+pub record Loaded (p : Plan) (available : ℕ → ℕ) (is : List ℕ) (S C : Ident → ℕ) (d : Driven) (v : List ℕ) : Type 0 where
   pub begins : Tail v is
-  -- "Paths are loaded up to a waiting or final state"
-  pub rests : Rests p v
-  -- the window holds exactly their actions and events not yet reported: a failing path "adds nothing"
-  pub window : (x : Id) → Held (d .run) S C x ↔ (Work (wholeOf p v) x × (Reported (d .log) x → ⊥))
+  pub fits : Fits p available (d .log) v
+  pub longest : (u : List ℕ) → Tail u is → Fits p available (d .log) u → Tail u v
   -- unless a loading has failed they are the whole word
   pub whole : (FailedIn (d .log) → ⊥) → v ≡ is
+  -- and if one has, the next path is the one that fails, by the number answered: 44, 43
+  pub beyond : StoppedBy (d .log) Stop.Beyond → PathBeyond p available (d .log) v
+  pub full : StoppedBy (d .log) Stop.Full → PathFull p available (d .log) v
+  -- the window holds exactly their actions and events not yet reported: a failing path "adds nothing"
+  pub window : (x : Id) → Held (d .run) S C x ↔ (Work (wholeOf p v) x × (Reported (d .log) x → ⊥))
 
 -- ---- done
 
@@ -63,8 +68,8 @@ Ends p is (y ∷ older) = DoneExactly p is y older
 
 -- ---- the claim
 
--- `is`: the word of the log; S and C: its specified times
-pub record Demand3 (p : Plan) (psi slack : ℕ) (is : List ℕ) (S C : Ident → ℕ) (d : Driven) : Type 0 where
+-- `available`: the opening's availabilities; `is`: the word of the log; S and C: its specified times
+pub record Demand3 (p : Plan) (psi slack : ℕ) (available : ℕ → ℕ) (is : List ℕ) (S C : Ident → ℕ) (d : Driven) : Type 0 where
   -- "A node is started by the ask answered start with it"
   pub by-ask : Always (λ y older. (x : Id) → Starts (y .reply) x → IsAsk (y .call)) (d .log)
   -- no node is started twice
@@ -84,8 +89,8 @@ pub record Demand3 (p : Plan) (psi slack : ℕ) (is : List ℕ) (S C : Ident →
   -- "unless a loading has failed, the window holds exactly those of them not yet reported"
   pub window-exact : (FailedIn (d .log) → ⊥) → (x : Id) → Held (d .run) S C x ↔ (Work (wholeOf p is) x × (Reported (d .log) x → ⊥))
   pub window-or-reported : (FailedIn (d .log) → ⊥) → (x : Id) → Work (wholeOf p is) x → Held (d .run) S C x ⊎ Reported (d .log) x
-  -- and if one has failed, those of what was loaded before
-  pub loaded : (v : List ℕ) × Loaded p is S C d v
+  -- and if one has failed, those of the longest beginning of the word that fits
+  pub loaded : (v : List ℕ) × Loaded p available is S C d v
   -- nothing else stands there, each stands there once, and is marked as started if it is
   pub window-only : (i : ℕ) (e : Entry) → Holds (d .run .window) i e → OfTheWord p is S C (d .log) e
   pub window-once : (i j : ℕ) (e f : Entry) → Holds (d .run .window) i e → Holds (d .run .window) j f → idOf e ≡ idOf f → i ≡ j

@@ -15,7 +15,7 @@ use Rattle.timing.specs.Engine.{lastPosition}
 use Rattle.run.specs.declared.Failure.{Failure}
 use Rattle.log.specs.Log.{Id, Log, Reported}
 use Rattle.demand.specs.Nodes.{Work, lengthOf}
-use Rattle.demand.specs.TheWord.{nextAfter, wholeOf, Rests, Takes, Stuck}
+use Rattle.demand.specs.TheWord.{nextAfter, wholeOf, Rests, Tail, Takes, Stuck}
 
 -- ---- 44
 
@@ -71,16 +71,36 @@ pub record TooMany (p : Plan) (log : Log) (us : List ℕ) : Type 0 where
   pub wait : (x : Id) → Among x nodes → Waits p log us x
   pub many : 512 < length nodes
 
--- ---- loading goes on from us
+-- no transition of the next path passes a limit, but with it the window would pass 512
+pub record PathFull (p : Plan) (available : ℕ → ℕ) (log : Log) (us : List ℕ) : Type 0 where
+  pub path : List ℕ
+  pub next : NextPath p log us path
+  pub within : PathBeyond p available log us → ⊥
+  pub many : TooMany p log path
 
-pub data Loads (p : Plan) (available : ℕ → ℕ) (log : Log) : List ℕ → Failure → Type 0 where
+-- ---- loading goes from us to vs, and ends there
+
+pub data EndsAt (p : Plan) (available : ℕ → ℕ) (log : Log) (us : List ℕ) : Failure → Type 0 where
   -- there is no further path
-  whole : {us : List ℕ} → Stuck p log us → Loads p available log us Failure.None
+  whole : Stuck p log us → EndsAt p available log us Failure.None
   -- the next path fails, and adds nothing
-  beyond : {us : List ℕ} → PathBeyond p available log us → Loads p available log us Failure.Beyond
-  full : {us vs : List ℕ} → NextPath p log us vs → (PathBeyond p available log us → ⊥) → TooMany p log vs → Loads p available log us Failure.Full
-  -- it is loaded, "and further ones while their outcomes are already reported"
-  later : {us vs : List ℕ} {f : Failure} → NextPath p log us vs → (PathBeyond p available log us → ⊥) → (TooMany p log vs → ⊥) → Loads p available log vs f → Loads p available log us f
+  beyond : PathBeyond p available log us → EndsAt p available log us Failure.Beyond
+  full : PathFull p available log us → EndsAt p available log us Failure.Full
+
+pub data Loads (p : Plan) (available : ℕ → ℕ) (log : Log) : List ℕ → List ℕ → Failure → Type 0 where
+  ends : {us : List ℕ} {f : Failure} → EndsAt p available log us f → Loads p available log us us f
+  -- the next path is loaded, "and further ones while their outcomes are already reported"
+  later : {us vs ws : List ℕ} {f : Failure} → NextPath p log us vs → (PathBeyond p available log us → ⊥) → (TooMany p log vs → ⊥) → Loads p available log vs ws f → Loads p available log us ws f
+
+-- ---- a beginning of the word that fits
+
+pub record Fits (p : Plan) (available : ℕ → ℕ) (log : Log) (us : List ℕ) : Type 0 where
+  -- "Paths are loaded up to a waiting or final state"
+  pub rests : Rests p us
+  -- none of its transitions passes a limit
+  pub within : (vs : List ℕ) → Tail vs us → Beyond p available vs → ⊥
+  -- "at most 512"
+  pub room : TooMany p log us → ⊥
 
 -- ---- the first path, which an opening loads: nothing is reported yet
 

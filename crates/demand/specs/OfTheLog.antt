@@ -10,28 +10,33 @@ use Rattle.behaviour.specs.Times.{Timing}
 use Rattle.behaviour.specs.Theorems.{plan-times-equal}
 use Rattle.run.specs.declared.Run.{Run}
 use Rattle.run.specs.declared.Call.{Call}
-use Rattle.log.specs.Log.{Id, Log, FailedIn, Told}
+use Rattle.run.specs.declared.Stop.{Stop}
+use Rattle.log.specs.Log.{Id, Log, FailedIn, StoppedBy, Told}
 use Rattle.log.specs.Drive.{Driven, drive}
 use Rattle.demand.specs.Demand.{Demand3}
-use Rattle.demand.specs.TheWord.{stateAfter, wholeOf, Rests, Tail, Takes, Stuck, TheWord}
+use Rattle.demand.specs.TheWord.{stateAfter, wholeOf, Takes, Stuck, TheWord}
+use Rattle.demand.specs.Loading.{PathBeyond, PathFull, Fits}
 use Rattle.demand.specs.OfPlan.{worldOf}
 use Rattle.demand.specs.OfRun.{machine}
 use Rattle.demand.specs.Works.{Works, Opened}
 use Rattle.demand.specs.Theorem.{invariant-open, invariant-drive, claim}
-use Rattle.demand.specs.Laws.Accounts.{always-map, Ended}
+use Rattle.demand.specs.Laws.Accounts.{always-map}
 use Rattle.demand.specs.Laws.Invariant.{Invariant}
+use Rattle.demand.specs.Laws.Longest.{longest}
 use Rattle.demand.specs.Laws.TheWord.{told-once, takes-follows, on-the-way, one-word, tail-extends}
 
--- the transitions loaded are taken by the log, up to a waiting or final state, and as far as it goes unless a loading has failed
-pub record ByTheLog (p : Plan) (log : Log) (is : List ℕ) : Type 0 where
+-- the transitions loaded are taken by the log, fit, and go as far as it does unless a loading has failed: then the next path fails
+pub record ByTheLog (p : Plan) (available : ℕ → ℕ) (log : Log) (is : List ℕ) : Type 0 where
   pub taken : Takes p log is
-  pub rests : Rests p is
+  pub fits : Fits p available log is
   pub whole : (FailedIn log → ⊥) → Stuck p log is
+  pub beyond : StoppedBy log Stop.Beyond → PathBeyond p available log is
+  pub full : StoppedBy log Stop.Full → PathFull p available log is
   -- there is a word of the log
   pub word : (us : List ℕ) × TheWord p log us
 
 module _ (p : Plan) (lawful : Lawful p) (available : ℕ → ℕ) (psi slack : ℕ) (Good : Log → List ℕ → Run → Type 0)
-    (works : Works (worldOf p available) machine psi slack Good) (by-the-log : (log : Log) (is : List ℕ) (run : Run) → Good log is run → ByTheLog p log is)
+    (works : Works (worldOf p available) machine psi slack Good) (by-the-log : (log : Log) (is : List ℕ) (run : Run) → Good log is run → Invariant (worldOf p available) machine psi slack is log run → ByTheLog p available log is)
     (first : List ℕ) (opening : Run) (opened : Opened (worldOf p available) machine Good first opening) (cs : List Call) where
   abbrev D : Driven
   D = drive [] opening cs
@@ -40,8 +45,8 @@ module _ (p : Plan) (lawful : Lawful p) (available : ℕ → ℕ) (psi slack : �
   pub after : (loaded : List ℕ) × Good (D .log) loaded (D .run) × Invariant (worldOf p available) machine psi slack loaded (D .log) (D .run)
   after = invariant-drive (worldOf p available) psi slack Good works cs [] first opening (opened .good) (invariant-open (worldOf p available) psi slack Good first opening opened)
 
-  by : ByTheLog p (D .log) (after .0)
-  by = by-the-log (D .log) (after .0) (D .run) (after .1)
+  by : ByTheLog p available (D .log) (after .0)
+  by = by-the-log (D .log) (after .0) (D .run) (after .1) (after .2)
 
   once : (x : Id) (o q : ℕ) → Told (D .log) x o → Told (D .log) x q → o ≡ q
   once = told-once (D .log) (always-map _ _ (λ y older h x q. h x q .once) (D .log) (after .2 .accounts .reports))
@@ -57,8 +62,9 @@ module _ (p : Plan) (lawful : Lawful p) (available : ℕ → ℕ) (psi slack : �
   pub times : (is : List ℕ) → TheWord p (D .log) is → (S : Ident → ℕ) × (C : Ident → ℕ) × Timing (wholeOf p is) available S C
   times is w = (startIn available (wordOf p is), endIn available (wordOf p is), plan-times-equal p lawful available is (stateAfter p is) (takes-follows p (D .log) is (w .taken)))
 
-  pub of-the-log : (is : List ℕ) → TheWord p (D .log) is → (S C : Ident → ℕ) → Timing (wholeOf p is) available S C → Demand3 p psi slack is S C D
+  pub of-the-log : (is : List ℕ) → TheWord p (D .log) is → (S C : Ident → ℕ) → Timing (wholeOf p is) available S C → Demand3 p psi slack available is S C D
   of-the-log is w S C t =
       let b = on-the-way p lawful (D .log) once (after .0) is (by .taken) w in
-      claim p lawful psi slack available (after .0) is D (after .2) (takes-follows p (D .log) is (w .taken)) b (tail-extends p lawful (D .log) once available (after .0) is b (w .taken)) (by .rests)
-      (λ nf. one-word p lawful (D .log) once (after .0) is (by .taken) (by .whole nf) w) S C t
+      let whole : ((FailedIn (D .log) → ⊥) → after .0 ≡ is) = λ nf. one-word p lawful (D .log) once (after .0) is (by .taken) (by .whole nf) w in
+      claim p lawful psi slack available (after .0) is D (after .2) (takes-follows p (D .log) is (w .taken)) b (tail-extends p lawful (D .log) once available (after .0) is b (w .taken)) whole
+      (by .fits) (longest p lawful (D .log) once available (after .0) is b (w .taken) whole (by .beyond) (by .full)) (by .beyond) (by .full) S C t

@@ -18,19 +18,21 @@ use Rattle.run.specs.Calls.{callOf}
 use Rattle.run.specs.declared.Run.{Run}
 use Rattle.run.specs.declared.Call.{Call}
 use Rattle.run.specs.declared.Reply.{Reply}
-use Rattle.log.specs.Log.{Id, Said, said, Log, Always, Starts, Started, Reports, Reported, FailedIn, Finishes}
+use Rattle.run.specs.declared.Stop.{Stop}
+use Rattle.log.specs.Log.{Id, Said, said, Log, Always, Started, StoppedBy, Reports, Reported, FailedIn, Finishes}
 use Rattle.log.specs.Host.{Reading, None, At}
 use Rattle.log.specs.Drive.{Driven, drive}
 use Rattle.demand.specs.Machine.{World, idOf, Finished, Waiting, before}
 use Rattle.demand.specs.Machine as Machine
 use Rattle.demand.specs.Nodes.{whose, Work}
-use Rattle.demand.specs.TheWord.{stateAfter, wholeOf, Rests, Tail}
+use Rattle.demand.specs.TheWord.{stateAfter, wholeOf, Tail}
+use Rattle.demand.specs.Loading.{PathBeyond, PathFull, Fits}
 use Rattle.demand.specs.OfPlan.{worldOf}
 use Rattle.demand.specs.OfRun.{machine}
-use Rattle.demand.specs.Demand.{Held, OfTheWord, Loaded, DoneExactly, Ends, Demand3}
+use Rattle.demand.specs.Demand.{Held, OfTheWord, Ends, Demand3}
 use Rattle.demand.specs.Way.{Agrees, Extends, RightActivity}
 use Rattle.demand.specs.Works.{Works, Opened}
-use Rattle.demand.specs.Laws.Accounts.{always-map, no-report, right-later, agree-later, Begun, BegunAt, Ended, EndedAt, Accounts, begun-later, ended-later}
+use Rattle.demand.specs.Laws.Accounts.{always-map, no-report, agree-later, BegunAt, EndedAt, Accounts, begun-later, ended-later}
 use Rattle.demand.specs.Laws.Invariant.{MildHalt, Latest, Invariant}
 use Rattle.demand.specs.Laws.Replies.{not-going}
 use Rattle.demand.specs.Laws.Keeping.{kept}
@@ -74,6 +76,7 @@ module _ (W : World) (psi slack : ℕ) (Good : Log → W .Word → Run → Type 
       within = λ u q. absurd (none-at u q);
     };
     halted = λ s e. absurd (not-going s (sym e ∙ o .going));
+    stopped = λ s p. absurd p;
     numbers = tt;
     latest = record { done-final = λ p. absurd p; done-empty = λ p. absurd p; wait-only = λ p. absurd p };
     mild = λ C m h. (tt, subst MildHalt (sym (o .going)) tt);
@@ -91,7 +94,9 @@ module _ (W : World) (psi slack : ℕ) (Good : Log → W .Word → Run → Type 
 
 -- `word` is loaded, and u goes on from it; S and C are times of u
 module _ (p : Plan) (lawful : Lawful p) (psi slack : ℕ) (available : ℕ → ℕ) (word u : List ℕ) (d : Driven) (v : Invariant (worldOf p available) machine psi slack word (d .log) (d .run))
-    (path : Follows p (p .automaton .initial) u (stateAfter p u)) (begins : Tail word u) (x : Extends (worldOf p available) word u) (rests : Rests p word) (same : (FailedIn (d .log) → ⊥) → word ≡ u)
+    (path : Follows p (p .automaton .initial) u (stateAfter p u)) (begins : Tail word u) (x : Extends (worldOf p available) word u) (same : (FailedIn (d .log) → ⊥) → word ≡ u)
+    (fits : Fits p available (d .log) word) (longest : (y : List ℕ) → Tail y u → Fits p available (d .log) y → Tail y word)
+    (beyond : StoppedBy (d .log) Stop.Beyond → PathBeyond p available (d .log) word) (full : StoppedBy (d .log) Stop.Full → PathFull p available (d .log) word)
     (S C : Ident → ℕ) (times : Timing (wholeOf p u) available S C) where
   abbrev W : World
   W = worldOf p available
@@ -154,7 +159,7 @@ module _ (p : Plan) (lawful : Lawful p) (psi slack : ℕ) (available : ℕ → �
       no : FailedIn (d .log) → ⊥
       no q = nf (subst FailedIn (sym e) q)
 
-  pub claim : Demand3 p psi slack u S C d
+  pub claim : Demand3 p psi slack available u S C d
   claim = record {
     by-ask = starts (λ y older h z q. h z q .ask);
     once = starts (λ y older h z q. h z q .once);
@@ -168,7 +173,7 @@ module _ (p : Plan) (lawful : Lawful p) (psi slack : ℕ) (available : ℕ → �
     reported-once = reports (λ y older h z q. h z q .once);
     window-exact = λ nf y. subst (λ (z : List ℕ). Held (d .run) S C y ↔ (Work (wholeOf p z) y × (Reported (d .log) y → ⊥))) (same nf) (window y);
     window-or-reported = λ nf y n. ⊎-elim (λ h. inl (held y h)) (λ q. inr q) (a .held y (old nf y n));
-    loaded = (word, record { begins = begins; rests = rests; window = window; whole = same });
+    loaded = (word, record { begins = begins; fits = fits; longest = longest; whole = same; beyond = beyond; full = full; window = window });
     window-only = of-word;
     window-once = a .distinct;
     window-started = λ i e h. (a .running i e h, λ q. flag i e h q (isStarted (e .phase)) refl);

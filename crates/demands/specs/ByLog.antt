@@ -3,7 +3,6 @@
 use mathlib.Core.Path.{_≡_}
 use mathlib.Core.Bool.{true, cond}
 use mathlib.Core.List.{List, [], _∷_}
-use mathlib.Core.Logic.{_⊎_, _↔_}
 use Prim.Native.Nat.{ℕ, _+_, _≤_, _<_}
 use Rattle.plan.specs.Plan.{isFinal, outcomesOf}
 use Rattle.plan.specs.declared.Kind.{Kind}
@@ -15,7 +14,7 @@ use Rattle.run.specs.declared.Call.{Call}
 use Rattle.run.specs.declared.Reply.{Reply}
 use Rattle.run.specs.declared.Refusal.{Refusal}
 use Rattle.run.specs.declared.Failure.{Failure}
-use Rattle.log.specs.Log.{Id, id, Log, said, reading, Started, Reported, StoppedIn}
+use Rattle.log.specs.Log.{Id, id, Log, said, reading, Started, Reported, StoppedIn, StoppedBy}
 use Rattle.log.specs.Host.{isRefused}
 use Rattle.demand.specs.Nodes.{whose, Work, EmitsAt}
 use Rattle.demand.specs.TheWord.{stateAfter, wholeOf}
@@ -40,11 +39,6 @@ pub record Known : Type 0 where
 abbrev pub lastReading : Log → ℕ
 lastReading [] = 0
 lastReading (y ∷ older) = cond (isRefused (y .reply)) (lastReading older) (reading (y .call))
-
--- some call was answered by the stop s
-abbrev pub StoppedBy : Log → Stop → Type 0
-StoppedBy [] s = ⊥
-StoppedBy (y ∷ older) s = (y .reply ≡ Reply.Stopped s) ⊎ StoppedBy older s
 
 -- ---- nodes
 
@@ -150,7 +144,7 @@ pub data Asks (k : Known) : Call → Reply → Type 0 where
 -- ---- loading after the outcome of c ends with f: the report counts
 
 abbrev pub After : Known → Call → Failure → Type 0
-After k c f = Loads (k .plan) (k .available) (said c Reply.Taken ∷ k .log) (k .word) f
+After k c f = (v : List ℕ) × Loads (k .plan) (k .available) (said c Reply.Taken ∷ k .log) (k .word) v f
 
 pub data Halts (k : Known) : Call → Stop → Type 0 where
   -- "A call to a stopped run .. answers the stop."

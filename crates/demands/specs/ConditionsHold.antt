@@ -3,8 +3,8 @@ use mathlib.Core.Path.{subst}
 use Rattle.run.specs.declared.Reply.{Reply}
 use Rattle.run.specs.declared.Stop.{Stop}
 use Rattle.demands.specs.Conditions.{Condition, StatementReplies, StatementRefusals, StatementLate, StatementOverdue, StatementFull, StatementBeyond, StatementStart, StatementDone, StatementWait, StatementTaken}
-use Rattle.demands.specs.ConditionsMet.{met}
-use Rattle.demands.specs.ConditionsGive.{gives}
+use Rattle.demands.specs.Laws.ConditionsMet.{met}
+use Rattle.demands.specs.Laws.ConditionsGive.{gives}
 
 pub replies : StatementReplies
 replies run c r = (λ q. subst (λ (x : Reply). Condition run c x) q (met run c .condition), gives run c r)

@@ -31,7 +31,7 @@ pub record Demand3Of (p : Plan) (psi : Clock) (slack : ℕ) (ts : List ℕ) (d :
   -- it has specified times, under the opening's availabilities
   pub times : (is : List ℕ) → TheWord p (d .log) is → (S : Ident → ℕ) × (C : Ident → ℕ) × Timing (wholeOf p is) (λ r. getD ts r 0) S C
   -- and of them the claim holds
-  pub claim : (is : List ℕ) → TheWord p (d .log) is → (S C : Ident → ℕ) → Timing (wholeOf p is) (λ r. getD ts r 0) S C → Demand3 p (psi .0) slack is S C d
+  pub claim : (is : List ℕ) → TheWord p (d .log) is → (S C : Ident → ℕ) → Timing (wholeOf p is) (λ r. getD ts r 0) S C → Demand3 p (psi .0) slack (λ r. getD ts r 0) is S C d
 
 -- for every opening that is accepted, with the plan that its bytes hold, and every list of calls
 abbrev pub StatementDemand3 : Type 0

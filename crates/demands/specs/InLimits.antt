@@ -8,7 +8,7 @@ use Rattle.plan.specs.Plan.{sizeOf}
 use Rattle.plan.specs.Limits.{InLimits}
 use Rattle.plan.specs.declared.Plan.{Plan}
 use Rattle.timing.specs.Engine.{lastPosition}
-use Rattle.timing.specs.Limits.{ProgressInLimits}
+use Rattle.path.specs.Pathed.{ProgressIn}
 use Rattle.window.specs.Places.{Holds}
 use Rattle.window.specs.declared.Entry.{Entry}
 use Rattle.run.specs.declared.Run.{Run}
@@ -26,7 +26,7 @@ pub record EntryInLimits (p : Plan) (e : Entry) : Type 0 where
   pub start : e .start .0 ≤ horizon
   pub end : e .end .0 ≤ horizon
 
--- the node that a stop names; "a node count, 1 to 64"
+-- the node that a stop names, by position and number; its activity is not stored, and "a node count" is "1 to 64"
 abbrev pub StopInLimits : Stop → Type 0
 StopInLimits (Stop.Late p n) = (p ≤ lastPosition) × (n < 64)
 StopInLimits (Stop.Overdue p n) = (p ≤ lastPosition) × (n < 64)
@@ -37,15 +37,19 @@ abbrev pub HaltInLimits : Halt → Type 0
 HaltInLimits Halt.Going = Unit {0}
 HaltInLimits (Halt.Stopped s) = StopInLimits s
 
--- the last reading is any number
+-- all that a run stores, but for the last reading, which is any number
 pub record RunInLimits (run : Run) : Type 0 where
-  -- "The plan file": its counts, numbers and durations
+  -- "The plan file": each count, number and duration of it, line by line in plan/Limits
   pub plan : InLimits (run .plan)
-  -- "Ψ .. above 10^15", "a slack of 1 to 1,000,000"
+  -- not "Ψ .. above 10^15" (31)
   pub psi : run .psi .0 ≤ horizon
+  -- "a slack of 1 to 1,000,000"
   pub slack : (1 ≤ run .slack) × (run .slack ≤ 1_000_000)
-  -- availabilities, pending instances, position and state
-  pub progress : ProgressInLimits (run .plan .resources) (run .plan .events) (run .plan .automaton .states) (run .plan .outcomes) (run .progress)
+  -- where the behaviour stands, line by line in timing/Limits: each availability and each event's last completion up to 10^15; at most
+  -- 8 pending instances of an event, each with its position, node, completion and reported outcome; the next position, at most one
+  -- past 1,000,000,000 (its loading is then 44); and the state
+  pub progress : ProgressIn (run .plan) (run .progress)
+  -- each place of the window that holds a node
   pub window : (i : ℕ) (e : Entry) → Holds (run .window) i e → EntryInLimits (run .plan) e
   pub halt : HaltInLimits (run .halt)
 

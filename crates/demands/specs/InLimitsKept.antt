@@ -1,11 +1,10 @@
 -- `limits-kept`: a run in limits is in limits after every call, a made-up one too.
-use mathlib.Core.Path.{_≡_, refl, sym, ap, _∙_, subst}
+use mathlib.Core.Path.{_≡_, refl, sym, ap, subst}
 use mathlib.Core.Bool.{Bool, true, false, cond, true≢false}
-use mathlib.Core.List.{List, [], _∷_, _++_}
+use mathlib.Core.List.{List, [], _++_}
 use mathlib.Core.Logic.{_⊎_, inl, inr, ⊎-elim}
 use Prim.Native.Nat.{ℕ, zero, suc, _+_, _*_, _≤_, _<_}
 use native.Mathlib.Omega.{arith}
-use native.Mathlib.Decide.{decLt}
 use borrow.Author.Tests.{ltb-true}
 use lib.Dec.{ltb}
 use lib.ListN.{length, getD, set}
@@ -18,14 +17,13 @@ use Rattle.plan.specs.declared.Kind.{Kind}
 use Rattle.plan.specs.declared.Output.{Output}
 use Rattle.plan.specs.declared.Plan.{Plan}
 use Rattle.plan.specs.declared.Automaton.{Automaton}
-use Rattle.activity.specs.Tells.{told-false}
 use Rattle.automaton.specs.Next.{nextOf, chosenOf}
 use Rattle.automaton.specs.declared.Next.{Next}
 use Rattle.automaton.specs.declared.Chosen.{Chosen}
 use Rattle.behaviour.specs.Laws.Lists.{among-either}
 use Rattle.timing.specs.Engine.{lastPosition}
 use Rattle.timing.specs.Queues.{noInstance, pendingOf, instanceOf}
-use Rattle.timing.specs.Limits.{InstanceInLimits, ProgressInLimits}
+use Rattle.timing.specs.Limits.{InstanceInLimits}
 use Rattle.timing.specs.declared.Told.{Told}
 use Rattle.timing.specs.declared.Progress.{Progress}
 use Rattle.window.specs.Window.{vacant, startedOf, isHeld, isStarted, isOverdue, isLate, isDue, isNode, startsBefore, endsBefore, placed, vacancies}
@@ -43,7 +41,6 @@ use Rattle.outcomes.specs.Told.{tell, toldFrom, toldOf, oldestTold}
 use Rattle.outcomes.specs.Way.{onTold, onChosen, wayOn}
 use Rattle.run.specs.declared.Run.{Run}
 use Rattle.run.specs.declared.Halt.{Halt}
-use Rattle.run.specs.declared.Stop.{Stop}
 use Rattle.run.specs.declared.Call.{Call}
 use Rattle.run.specs.declared.Answer.{Answer}
 use Rattle.run.specs.declared.Failure.{Failure}
@@ -51,12 +48,12 @@ use Rattle.run.specs.declared.Loading.{Loading}
 use Rattle.run.specs.declared.Refusal.{Refusal}
 use Rattle.run.specs.Loading.{load, onWay, onLoading, further, mostPending}
 use Rattle.run.specs.Limits.{runInLimits}
-use Rattle.run.specs.Calls.{answer, refuse, stops, heard, asked, reported, completedBy, completed, afterLoading, learnt, cleared, learnsBy, learns, onHalt, timely, called, askOf, completionOf, outcomeOf, callOf, isDone, kindOf}
+use Rattle.run.specs.Calls.{answer, refuse, heard, asked, reported, completedBy, completed, afterLoading, cleared, learnsBy, learns, timely, called, askOf, completionOf, outcomeOf, callOf, kindOf}
 use Rattle.demand.specs.Laws.Next.{chosen-found}
-use Rattle.works.specs.Laws.Entries.{among-at, Brought, brought}
+use Rattle.works.specs.Laws.Entries.{among-at, brought}
 use Rattle.works.specs.Laws.Telling.{told-cases}
-use Rattle.demands.specs.Openings.{Exceeds, PathExceeds}
-use Rattle.demands.specs.OpeningTests.{tells-path}
+use Rattle.works.specs.Laws.Loaded.{not-beyond}
+use Rattle.log.specs.ByCases.{by-halt}
 use Rattle.demands.specs.InLimits.{EntryInLimits, HaltInLimits, RunInLimits, StatementLimitsKept}
 
 -- ---- the entries of a path
@@ -83,9 +80,9 @@ module _ (p : Plan) (limits : InLimits p) where
       subst (Named p) (sym (b .entry)) record { position = q; activity = n .0; node = subst (λ (k : ℕ). k < sizeOf p (activityNumber (move (p .automaton) t .output))) z (n .1) }
 
   -- no transition of a path that passes no limit is past the last position
-  low-position : (k t : ℕ) (g : Progress) → pathFrom p (suc k) (Next.Goes t) g .beyond ≡ false → Dec (lastPosition < g .position) → g .position ≤ lastPosition
-  low-position k t g b (yes l) = absurd (told-false (tells-path p (suc k) (Next.Goes t) g) b (PathExceeds.here (Exceeds.position l)))
-  low-position k t g b (no n) = omega arith
+  low-position : (k t : ℕ) (g : Progress) → pathFrom p (suc k) (Next.Goes t) g .beyond ≡ false → g .position ≤ lastPosition
+  unfolding pathFrom
+  low-position k t g = by-test (λ (q : Path). q .beyond ≡ false → g .position ≤ lastPosition) (takenBy p t g .beyond) _ _ (λ c b. absurd (true≢false b)) (λ c b. not-beyond p t g c .0)
 
   named-path : (k : ℕ) (next : Next) (g : Progress) → Leads (p .automaton .count) next → ProgressIn p g → pathFrom p k next g .beyond ≡ false → AllNamed p (pathFrom p k next g .entries)
   unfolding pathFrom
@@ -93,7 +90,7 @@ module _ (p : Plan) (limits : InLimits p) where
   named-path (suc k) Next.Ended g l h b = λ e m. absurd m
   named-path (suc k) (Next.Waits x) g l h b = λ e m. absurd m
   named-path (suc k) (Next.Goes t) g l h b =
-      go (low-position k t g b (decLt lastPosition (g .position)))
+      go (low-position k t g b)
       (λ h. named-path k (nextOf (p .automaton) (takenBy p t g .progress .state)) (takenBy p t g .progress) (next-leads (p .automaton) (takenBy p t g .progress .state)) h) b
     where
       rest : Path
@@ -173,10 +170,6 @@ further-kept (suc k) run r =
 
 record AnswerKept (a : Answer) : Type 0 where
   kept : RunInLimits (a .run)
-
-by-halt : {A : Type 0} (P : A → Type 0) (h : Halt) (f : Stop → A) (z : A) → ((s : Stop) → P (f s)) → P z → P (onHalt h f z)
-by-halt P Halt.Going f z p q = q
-by-halt P (Halt.Stopped s) f z p q = p s
 
 module _ (run : Run) (r : RunInLimits run) where
   next : (t : Clock) (h : Halt) (g : Progress) (w : List Entry) → HaltInLimits h → ProgressIn (run .plan) g → Entries (run .plan) w → RunInLimits (heard run t h g w)
@@ -266,7 +259,7 @@ module _ (run : Run) (r : RunInLimits run) where
 
   called-kept : (t : Clock) (go : Answer) → AnswerKept go → AnswerKept (called run t go)
   called-kept t go h =
-      by-test AnswerKept (runInLimits run) _ _ (λ l. by-halt AnswerKept (run .halt) _ _ (λ s. record { kept = r }) (timely-kept t go h)) (λ l. record { kept = r })
+      by-test AnswerKept (runInLimits run) _ _ (λ l. by-halt AnswerKept (run .halt) _ _ (λ s e. record { kept = r }) (λ e. timely-kept t go h)) (λ l. record { kept = r })
 
   call-kept : (c : Call) → AnswerKept (callOf run c)
   unfolding callOf askOf completionOf outcomeOf

@@ -1,9 +1,24 @@
 -- The proofs of what the statements say.
+-- Plans that differ in nothing but slots past a count
 pub mod LikeActivity
 pub mod LikeAutomaton
 pub mod Zeroed
 pub mod Only
+-- What is printed
 pub mod Leaving
 pub mod Passing
 pub mod Along
 pub mod Printed
+-- Openings
+pub mod Numbers
+pub mod OpeningTests
+pub mod FirstPath
+-- Calls of any run
+pub mod FirstPlaces
+pub mod ConditionsMet
+pub mod ConditionsGive
+pub mod LoadingFails
+-- and over the log
+pub mod AfterCalls
+pub mod ByLogPlaces
+pub mod ByLogConditions

@@ -15,7 +15,6 @@ pub mod Promises
 pub mod Unchanged
 -- Each answer of an opening, in its condition and in no other
 pub mod Openings
-pub mod OpeningTests
 pub mod OpeningsHold
 -- The whole verdict on a file
 pub mod Verdicts
@@ -33,18 +32,11 @@ pub mod InLimitsKept
 pub mod StopRepeated
 -- Each reply of a call, in its condition and in no other
 pub mod Conditions
-pub mod FirstPlaces
-pub mod ConditionsMet
-pub mod ConditionsGive
 pub mod ConditionsHold
-pub mod LoadingFails
 -- and over the log
 pub mod ByLog
-pub mod ByLogPlaces
-pub mod ByLogConditions
-pub mod AfterCalls
 pub mod AnswersByLog
-pub mod OpeningByWord
+pub mod AnswersByLogHold
 -- One plan, printed
 pub mod Horizon
 pub mod Timetables

@@ -1,30 +1,28 @@
 -- "every number of an opening or a call, and done, occurs in its stated condition and order and in no other": the
--- condition of each answer to an opening.
+-- condition of each answer to an opening, over its bytes, Ψ, slack and availabilities and the words of its plan.
 use mathlib.Core.Path.{_≡_}
 use mathlib.Core.List.{List}
 use mathlib.Core.Logic.{_↔_}
-use Prim.Native.Nat.{ℕ, suc, _≤_, _<_}
+use Prim.Native.Nat.{ℕ, _≤_, _<_}
 use lib.ListN.{length, getD}
 use Rattle.time.specs.Time.{horizon}
 use Rattle.time.specs.declared.Clock.{Clock}
-use Rattle.plan.specs.Plan.{activityOf, emittedBy, move}
+use Rattle.plan.specs.Plan.{activityOf}
 use Rattle.plan.specs.declared.Fault.{Fault}
 use Rattle.plan.specs.declared.Plan.{Plan}
 use Rattle.plan.specs.declared.Verdict.{Verdict}
 use Rattle.judge.specs.Judge.{judgeOf}
 use Rattle.activity.specs.Rules.{node}
-use Rattle.automaton.specs.Next.{nextOf}
-use Rattle.automaton.specs.declared.Next.{Next}
 use Rattle.timing.specs.Times.{at}
-use Rattle.timing.specs.Engine.{lastPosition}
-use Rattle.timing.specs.declared.Progress.{Progress}
-use Rattle.path.specs.Path.{Path, takenBy, pathFrom, longestPath}
 use Rattle.run.specs.declared.Unopened.{Unopened}
 use Rattle.run.specs.declared.Opening.{Opening}
 use Rattle.run.specs.Numbers.{openNumber, openPlace}
-use Rattle.opening.specs.Given.{atFirst, availabilities}
+use Rattle.opening.specs.Given.{availabilities}
 use Rattle.run.specs.Opening.{openOf}
 use Rattle.demand.specs.Nodes.{Working}
+use Rattle.demand.specs.Loading.{FirstBeyond, FirstMany}
+use Rattle.demands.specs.Accepted.{Bytes}
+use Rattle.demands.specs.Verdicts.{Judged}
 
 -- ---- what the host that opens can get wrong
 
@@ -54,35 +52,6 @@ pub record LowestShort (p : Plan) (slack a : ℕ) : Type 0 where
   pub here : HasShort p slack a
   pub lower : (b : ℕ) → b < a → HasShort p slack b → ⊥
 
--- ---- the first path
-
--- where the behaviour stands at its opening
-abbrev pub atOpening : Plan → List ℕ → Progress
-atOpening p ts = atFirst (availabilities ts) (p .automaton .initial)
-
--- what the initial state leads to
-abbrev pub firstStep : Plan → Next
-firstStep p = nextOf (p .automaton) (p .automaton .initial)
-
--- the action and event nodes of the first path, and where it ends
-abbrev pub firstPath : Plan → List ℕ → Path
-firstPath p ts = pathFrom p longestPath (firstStep p) (atOpening p ts)
-
--- 44 "a completion or availability of the next path above 10^15, or a position above 1,000,000,000": those of transition t,
--- taken where the behaviour stands at g
-pub data Exceeds (p : Plan) (t : ℕ) (g : Progress) : Type 0 where
-  completion : (n : ℕ) → n < length (emittedBy p (move (p .automaton) t .output)) → horizon < at (takenBy p t g .schedule .end) n → Exceeds p t g
-  availability : (r : ℕ) → r < p .resources → horizon < at (takenBy p t g .progress .available) r → Exceeds p t g
-  position : lastPosition < g .position → Exceeds p t g
-
--- one of the transitions, at most k, of the path from g on
-pub data PathExceeds (p : Plan) : ℕ → Next → Progress → Type 0 where
-  here : {k t : ℕ} {g : Progress} → Exceeds p t g → PathExceeds p (suc k) (Next.Goes t) g
-  later : {k t : ℕ} {g : Progress} → PathExceeds p k (nextOf (p .automaton) (takenBy p t g .progress .state)) (takenBy p t g .progress) → PathExceeds p (suc k) (Next.Goes t) g
-
-abbrev pub FirstExceeds : Plan → List ℕ → Type 0
-FirstExceeds p ts = PathExceeds p longestPath (firstStep p) (atOpening p ts)
-
 -- ---- the order at an opening
 
 module _ (bytes : List ℕ) where
@@ -92,7 +61,7 @@ module _ (bytes : List ℕ) where
 
   -- neither a fault of the plan nor 30
   pub record Counted (ts : List ℕ) : Type 0 where
-    pub accepted : judgeOf bytes .verdict ≡ Verdict.Accepted
+    pub accepted : Judged bytes Verdict.Accepted
     pub each : length ts ≡ planOf .resources
 
   -- nor 31
@@ -113,25 +82,26 @@ module _ (bytes : List ℕ) where
   -- nor 44
   pub record WithinHorizon (psi : Clock) (slack : ℕ) (ts : List ℕ) : Type 0 where
     pub earlier : Lasting psi slack ts
-    pub none : FirstExceeds planOf ts → ⊥
+    pub none : FirstBeyond planOf (λ r. getD ts r 0) → ⊥
 
 -- "Opening checks run 30 to 33, then 44, 43 as refusals.": after the plan's own faults
-pub data Opens (bytes : List ℕ) (psi : Clock) (slack : ℕ) (ts : List ℕ) : Opening → Type 0 where
+pub data OpensBy (bytes : List ℕ) (psi : Clock) (slack : ℕ) (ts : List ℕ) : Opening → Type 0 where
   -- "The plan's author": its fault and place
-  author : {f : Fault} {place : ℕ} → judgeOf bytes .verdict ≡ Verdict.Refused f place → Opens bytes psi slack ts (Opening.Refused (Unopened.Plan f place))
+  author : {f : Fault} {place : ℕ} → Judged bytes (Verdict.Refused f place) → OpensBy bytes psi slack ts (Opening.Refused (Unopened.Plan f place))
   -- "30 wrong number of availabilities"
-  number30 : judgeOf bytes .verdict ≡ Verdict.Accepted → (length ts ≡ planOf bytes .resources → ⊥) → Opens bytes psi slack ts (Opening.Refused Unopened.Availabilities)
-  number31 : Counted bytes ts → TimeAbove psi ts → Opens bytes psi slack ts (Opening.Refused Unopened.Time)
-  number32 : InTime bytes psi ts → SlackOutside slack → Opens bytes psi slack ts (Opening.Refused Unopened.Slack)
-  number33 : WithSlack bytes psi slack ts → {a : ℕ} → LowestShort (planOf bytes) slack a → Opens bytes psi slack ts (Opening.Refused (Unopened.Short a))
-  number44 : Lasting bytes psi slack ts → FirstExceeds (planOf bytes) ts → Opens bytes psi slack ts (Opening.Refused Unopened.Beyond)
-  -- "43 the window would pass 512": it is empty at the opening
-  number43 : WithinHorizon bytes psi slack ts → 512 < length (firstPath (planOf bytes) ts .entries) → Opens bytes psi slack ts (Opening.Refused Unopened.Full)
-  opened : WithinHorizon bytes psi slack ts → length (firstPath (planOf bytes) ts .entries) ≤ 512 → Opens bytes psi slack ts Opening.Opened
+  number30 : Judged bytes Verdict.Accepted → (length ts ≡ planOf bytes .resources → ⊥) → OpensBy bytes psi slack ts (Opening.Refused Unopened.Availabilities)
+  number31 : Counted bytes ts → TimeAbove psi ts → OpensBy bytes psi slack ts (Opening.Refused Unopened.Time)
+  number32 : InTime bytes psi ts → SlackOutside slack → OpensBy bytes psi slack ts (Opening.Refused Unopened.Slack)
+  number33 : WithSlack bytes psi slack ts → {a : ℕ} → LowestShort (planOf bytes) slack a → OpensBy bytes psi slack ts (Opening.Refused (Unopened.Short a))
+  -- a transition of the first path passes a limit
+  number44 : Lasting bytes psi slack ts → FirstBeyond (planOf bytes) (λ r. getD ts r 0) → OpensBy bytes psi slack ts (Opening.Refused Unopened.Beyond)
+  -- it has more than 512 actions and events
+  number43 : WithinHorizon bytes psi slack ts → FirstMany (planOf bytes) → OpensBy bytes psi slack ts (Opening.Refused Unopened.Full)
+  opened : WithinHorizon bytes psi slack ts → (FirstMany (planOf bytes) → ⊥) → OpensBy bytes psi slack ts Opening.Opened
 
-abbrev pub StatementOpening : Type 0
-StatementOpening =
-    (bytes : List ℕ) (psi : Clock) (slack : ℕ) (ts : List ℕ) (o : Opening) → (openOf bytes psi slack ts .opening ≡ o) ↔ Opens bytes psi slack ts o
+abbrev pub StatementOpeningBy : Type 0
+StatementOpeningBy =
+    (bytes : List ℕ) → Bytes bytes → (psi : Clock) (slack : ℕ) (ts : List ℕ) (o : Opening) → (openOf bytes psi slack ts .opening ≡ o) ↔ OpensBy bytes psi slack ts o
 
 -- ---- by number and place
 
@@ -144,4 +114,4 @@ pub record RefusedWith (bytes : List ℕ) (psi : Clock) (slack : ℕ) (ts : List
 
 abbrev pub StatementOpeningNumbers : Type 0
 StatementOpeningNumbers =
-    (bytes : List ℕ) (psi : Clock) (slack : ℕ) (ts : List ℕ) (u : Unopened) → RefusedWith bytes psi slack ts (openNumber u) (openPlace u) ↔ Opens bytes psi slack ts (Opening.Refused u)
+    (bytes : List ℕ) → Bytes bytes → (psi : Clock) (slack : ℕ) (ts : List ℕ) (u : Unopened) → RefusedWith bytes psi slack ts (openNumber u) (openPlace u) ↔ OpensBy bytes psi slack ts (Opening.Refused u)

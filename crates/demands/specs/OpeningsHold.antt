@@ -1,20 +1,21 @@
--- `opening`: each answer of an opening occurs in its stated condition and order and in no other. `opening-numbers`: so does
+-- `opening-by`: each answer of an opening occurs in its stated condition and order and in no other. `opening-numbers`: so does
 -- each number with its place. Forwards by cases of the tests; backwards each condition settles the tests before it.
 use mathlib.Core.Path.{_≡_, refl, sym, ap, _∙_, subst}
 use mathlib.Core.Bool.{true, false, cond, _||_}
-use mathlib.Core.List.{List, [], _∷_}
+use mathlib.Core.List.{List}
 use Prim.Native.Nat.{ℕ, _≤_}
 use native.Mathlib.Omega.{arith}
 use lib.Dec.{ltb, eqb}
-use lib.ListN.{length, getD}
+use borrow.Author.Tests.{ne-eqb}
+use lib.ListN.{length}
 use Rattle.time.specs.Time.{horizon}
 use Rattle.time.specs.declared.Clock.{Clock}
 use Rattle.plan.specs.Fault.{numberOf}
 use Rattle.plan.specs.declared.Fault.{Fault}
 use Rattle.plan.specs.declared.Verdict.{Verdict}
 use Rattle.judge.specs.Judge.{judgeOf}
-use Rattle.activity.specs.Tells.{tells-eqb}
-use Rattle.path.specs.Path.{longestPath}
+use Rattle.activity.specs.Tells.{told-true, told-false, tells-eqb}
+use Rattle.window.specs.Tests.{by-test}
 use Rattle.run.specs.Limits.{slackInLimits}
 use Rattle.run.specs.Loading.{load}
 use Rattle.run.specs.Numbers.{openNumber, openPlace}
@@ -26,34 +27,38 @@ use Rattle.run.specs.declared.Loading.{Loading}
 use Rattle.run.specs.declared.Unopened.{Unopened}
 use Rattle.run.specs.declared.Opening.{Opening}
 use Rattle.run.specs.declared.Opened.{Opened}
-use Rattle.demands.specs.Openings.{TimeAbove, atOpening, firstStep, firstPath, planOf, Counted, InTime, WithSlack, Lasting, WithinHorizon, Opens, StatementOpening, StatementOpeningNumbers}
-use Rattle.demands.specs.OpeningTests.{by-tells, is-true, is-false, tells-time, tells-slack, outside, inside, finds, by-finds, lowest-is, none-is, tells-path, tells-full}
+use Rattle.demands.specs.Openings.{TimeAbove, planOf, Counted, InTime, WithSlack, Lasting, WithinHorizon, OpensBy, StatementOpeningBy, StatementOpeningNumbers}
+use Rattle.demands.specs.Laws.OpeningTests.{by-tells, is-true, is-false, tells-time, tells-slack, outside, inside, finds, by-finds, lowest-is, none-is}
+use Rattle.demands.specs.Accepted.{Bytes}
+use Rattle.demands.specs.Verdicts.{Judged}
+use Rattle.demands.specs.VerdictsHold.{verdict}
+use Rattle.demands.specs.Laws.FirstPath.{atOpening, firstPath, tells-44, tells-43}
+use Rattle.demands.specs.Laws.Numbers.{faultAt, fault-at}
 
 -- ---- from the tests to the condition
 
-module _ (bytes : List ℕ) (psi : Clock) (slack : ℕ) (ts : List ℕ) where
+module _ (bytes : List ℕ) (are : Bytes bytes) (psi : Clock) (slack : ℕ) (ts : List ℕ) where
   record OpensOf (a : Opened) : Type 0 where
-    opens : Opens bytes psi slack ts (a .opening)
+    opens : OpensBy bytes psi slack ts (a .opening)
 
   begins : Lasting bytes psi slack ts → OpensOf (begin (fresh (planOf bytes) psi slack (atOpening (planOf bytes) ts)))
   unfolding load
   begins l =
-      by-tells (λ (x : Loading). OpensOf (firstLoaded x)) _ _ (tells-path (planOf bytes) longestPath (firstStep (planOf bytes)) (atOpening (planOf bytes) ts))
-      (λ h. record { opens = Opens.number44 l h }) λ n.
-      by-tells (λ (x : Loading). OpensOf (firstLoaded x)) _ _ (tells-full (length (firstPath (planOf bytes) ts .entries)))
-      (λ h. record { opens = Opens.number43 (record { earlier = l; none = n }) h })
-      (λ h. record { opens = Opens.opened (record { earlier = l; none = n }) (omega (arith, h)) })
+      by-test (λ (x : Loading). OpensOf (firstLoaded x)) (firstPath (planOf bytes) ts .beyond) _ _ (λ b. record { opens = OpensBy.number44 l (told-true (tells-44 bytes are psi slack ts l) b) }) λ b.
+      by-tells (λ (x : Loading). OpensOf (firstLoaded x)) _ _ (tells-43 bytes are psi slack ts l b)
+      (λ h. record { opens = OpensBy.number43 (record { earlier = l; none = told-false (tells-44 bytes are psi slack ts l) b }) h })
+      (λ h. record { opens = OpensBy.opened (record { earlier = l; none = told-false (tells-44 bytes are psi slack ts l) b }) h })
 
-  open-plan : judgeOf bytes .verdict ≡ Verdict.Accepted → OpensOf (openPlan (planOf bytes) psi slack ts)
+  open-plan : Judged bytes Verdict.Accepted → OpensOf (openPlan (planOf bytes) psi slack ts)
   unfolding openPlan
   open-plan e =
       by-tells OpensOf _ _ (tells-eqb (length ts) (planOf bytes .resources)) (λ c.
-      by-tells OpensOf _ _ (tells-time psi ts) (λ h. record { opens = Opens.number31 (counted c) h }) (λ n.
+      by-tells OpensOf _ _ (tells-time psi ts) (λ h. record { opens = OpensBy.number31 (counted c) h }) (λ n.
       by-tells OpensOf _ _ (tells-slack slack) (λ i.
       by-finds (planOf bytes) slack OpensOf _ _ (finds (planOf bytes) slack (planOf bytes .activities) 0)
-      (λ a h. record { opens = Opens.number33 (slackened c n i) h }) (λ m. begins (record { earlier = slackened c n i; none = m })))
-      (λ o. record { opens = Opens.number32 (record { earlier = counted c; none = n }) (outside slack o) })))
-      (λ n. record { opens = Opens.number30 e n })
+      (λ a h. record { opens = OpensBy.number33 (slackened c n i) h }) (λ m. begins (record { earlier = slackened c n i; none = m })))
+      (λ o. record { opens = OpensBy.number32 (record { earlier = counted c; none = n }) (outside slack o) })))
+      (λ n. record { opens = OpensBy.number30 e n })
     where
       counted : length ts ≡ planOf bytes .resources → Counted bytes ts
       counted c = record { accepted = e; each = c }
@@ -62,8 +67,8 @@ module _ (bytes : List ℕ) (psi : Clock) (slack : ℕ) (ts : List ℕ) where
       slackened c n i = record { earlier = record { earlier = counted c; none = n }; none = inside slack i }
 
   open-judged : (v : Verdict) → judgeOf bytes .verdict ≡ v → OpensOf (openJudged v (planOf bytes) psi slack ts)
-  open-judged Verdict.Accepted e = open-plan e
-  open-judged (Verdict.Refused f place) e = record { opens = Opens.author e }
+  open-judged Verdict.Accepted e = open-plan (verdict bytes Verdict.Accepted are .0 e)
+  open-judged (Verdict.Refused f place) e = record { opens = OpensBy.author (verdict bytes (Verdict.Refused f place) are .0 e) }
 
   forward : OpensOf (openOf bytes psi slack ts)
   unfolding openOf
@@ -71,7 +76,10 @@ module _ (bytes : List ℕ) (psi : Clock) (slack : ℕ) (ts : List ℕ) where
 
 -- ---- from the condition to the answer
 
-module _ (bytes : List ℕ) (psi : Clock) (slack : ℕ) (ts : List ℕ) where
+module _ (bytes : List ℕ) (are : Bytes bytes) (psi : Clock) (slack : ℕ) (ts : List ℕ) where
+  judged : {v : Verdict} → Judged bytes v → judgeOf bytes .verdict ≡ v
+  judged {v} h = verdict bytes v are .1 h
+
   passed-30 : Counted bytes ts → eqb (length ts) (planOf bytes .resources) ≡ true
   passed-30 h = is-true (tells-eqb (length ts) (planOf bytes .resources)) (λ n. n (h .each))
 
@@ -85,72 +93,62 @@ module _ (bytes : List ℕ) (psi : Clock) (slack : ℕ) (ts : List ℕ) where
   passed-33 h = none-is (planOf bytes) slack (finds (planOf bytes) slack (planOf bytes .activities) 0) (h .none)
 
   passed-44 : WithinHorizon bytes psi slack ts → firstPath (planOf bytes) ts .beyond ≡ false
-  passed-44 h = is-false (tells-path (planOf bytes) longestPath (firstStep (planOf bytes)) (atOpening (planOf bytes) ts)) (h .none)
+  passed-44 h = is-false (tells-44 bytes are psi slack ts (h .earlier)) (h .none)
 
-  backward : {o : Opening} → Opens bytes psi slack ts o → openOf bytes psi slack ts .opening ≡ o
+  backward : {o : Opening} → OpensBy bytes psi slack ts o → openOf bytes psi slack ts .opening ≡ o
   unfolding openOf openPlan load
-  backward (Opens.author e) = rw e
-  backward (Opens.number30 e n) = rw (e, is-false (tells-eqb (length ts) (planOf bytes .resources)) n)
-  backward (Opens.number31 c h) = rw (c .accepted, passed-30 c, is-true (tells-time psi ts) (λ n. n h))
-  backward (Opens.number32 t h) =
-      rw (t .earlier .accepted, passed-30 (t .earlier), passed-31 t, is-false (tells-slack slack) (λ i. inside slack i h))
-  backward (Opens.number33 w {a} h) =
+  backward (OpensBy.author e) = rw (judged e)
+  backward (OpensBy.number30 e n) = rw (judged e, is-false (tells-eqb (length ts) (planOf bytes .resources)) n)
+  backward (OpensBy.number31 c h) = rw (judged (c .accepted), passed-30 c, is-true (tells-time psi ts) (λ n. n h))
+  backward (OpensBy.number32 t h) =
+      rw (judged (t .earlier .accepted), passed-30 (t .earlier), passed-31 t, is-false (tells-slack slack) (λ i. inside slack i h))
+  backward (OpensBy.number33 w {a} h) =
       rw (
-        w .earlier .earlier .accepted,
+        judged (w .earlier .earlier .accepted),
         passed-30 (w .earlier .earlier),
         passed-31 (w .earlier),
         passed-32 w,
         lowest-is (planOf bytes) slack a (finds (planOf bytes) slack (planOf bytes .activities) 0) h,
       )
-  backward (Opens.number44 l h) =
+  backward (OpensBy.number44 l h) =
       let w = l .earlier in
       rw (
-        w .earlier .earlier .accepted,
+        judged (w .earlier .earlier .accepted),
         passed-30 (w .earlier .earlier),
         passed-31 (w .earlier),
         passed-32 w,
         passed-33 l,
-        is-true (tells-path (planOf bytes) longestPath (firstStep (planOf bytes)) (atOpening (planOf bytes) ts)) (λ n. n h),
+        is-true (tells-44 bytes are psi slack ts l) (λ n. n h),
       )
-  backward (Opens.number43 r h) =
+  backward (OpensBy.number43 r h) =
       let l = r .earlier in
       let w = l .earlier in
       rw (
-        w .earlier .earlier .accepted,
+        judged (w .earlier .earlier .accepted),
         passed-30 (w .earlier .earlier),
         passed-31 (w .earlier),
         passed-32 w,
         passed-33 l,
         passed-44 r,
-        is-true (tells-full (length (firstPath (planOf bytes) ts .entries))) (λ n. n h),
+        is-true (tells-43 bytes are psi slack ts l (passed-44 r)) (λ n. n h),
       )
-  backward (Opens.opened r h) =
+  backward (OpensBy.opened r h) =
       let l = r .earlier in
       let w = l .earlier in
       rw (
-        w .earlier .earlier .accepted,
+        judged (w .earlier .earlier .accepted),
         passed-30 (w .earlier .earlier),
         passed-31 (w .earlier),
         passed-32 w,
         passed-33 l,
         passed-44 r,
-        is-false (tells-full (length (firstPath (planOf bytes) ts .entries))) (λ m. omega arith),
+        is-false (tells-43 bytes are psi slack ts l (passed-44 r)) h,
       )
 
-pub opening : StatementOpening
-opening bytes psi slack ts o = (λ e. subst (Opens bytes psi slack ts) e (forward bytes psi slack ts .opens), backward bytes psi slack ts)
+pub opening-by : StatementOpeningBy
+opening-by bytes are psi slack ts o = (λ e. subst (OpensBy bytes psi slack ts) e (forward bytes are psi slack ts .opens), backward bytes are psi slack ts)
 
 -- ---- by number and place
-
--- the plan's fault of a number, and any fault where it has none
-abbrev faultAt : ℕ → Fault
-faultAt n =
-    getD
-    (Fault.Ends ∷ Fault.Ends ∷ Fault.Map ∷ Fault.Count ∷ Fault.Names ∷ Fault.NotRising ∷ Fault.LeftOver ∷ Fault.NoAutomaton ∷ Fault.Duration
-    ∷ Fault.Ends ∷ Fault.Ends ∷ Fault.Cycle ∷ Fault.ActionsUnordered ∷ Fault.NamedTwice ∷ Fault.ActionUnheld ∷ Fault.ClaimUnpaired
-    ∷ Fault.ArrowPastEnd ∷ Fault.EventFirst ∷ Fault.EventsUnordered ∷ Fault.Ends ∷ Fault.Ends
-    ∷ Fault.WayOutOfFinal ∷ Fault.ForbiddenBranch ∷ Fault.OutcomeMissing ∷ Fault.NoWayToFinal ∷ Fault.Unbalanced ∷ Fault.TooManyPending ∷ [])
-    n Fault.Ends
 
 -- the refusal of a number and a place
 abbrev refusalAt : ℕ → ℕ → Unopened
@@ -163,57 +161,20 @@ refusalAt n place =
     (cond (eqb n 44) Unopened.Beyond
     (Unopened.Plan (faultAt n) place))))))
 
+-- no fault has a number that none of the list has
+no-fault : (f : Fault) (n : ℕ) → faultAt n ≡ Fault.Ends → (numberOf Fault.Ends ≡ n → ⊥) → numberOf f ≡ n → ⊥
+no-fault f n none other e = other (ap numberOf (sym none ∙ ap faultAt (sym e) ∙ fault-at f) ∙ e)
+
 author-at : (f : Fault) (place : ℕ) → refusalAt (numberOf f) place ≡ Unopened.Plan f place
-author-at Fault.Ends place = refl
-author-at Fault.Map place = refl
-author-at Fault.NoAutomaton place = refl
-author-at Fault.Count place = refl
-author-at Fault.Names place = refl
-author-at Fault.Duration place = refl
-author-at Fault.NotRising place = refl
-author-at Fault.LeftOver place = refl
-author-at Fault.Cycle place = refl
-author-at Fault.ActionsUnordered place = refl
-author-at Fault.NamedTwice place = refl
-author-at Fault.ActionUnheld place = refl
-author-at Fault.ClaimUnpaired place = refl
-author-at Fault.ArrowPastEnd place = refl
-author-at Fault.EventFirst place = refl
-author-at Fault.EventsUnordered place = refl
-author-at Fault.WayOutOfFinal place = refl
-author-at Fault.ForbiddenBranch place = refl
-author-at Fault.OutcomeMissing place = refl
-author-at Fault.NoWayToFinal place = refl
-author-at Fault.Unbalanced place = refl
-author-at Fault.TooManyPending place = refl
-
-fault-at : (f : Fault) → faultAt (numberOf f) ≡ f
-fault-at Fault.Ends = refl
-fault-at Fault.Map = refl
-fault-at Fault.NoAutomaton = refl
-fault-at Fault.Count = refl
-fault-at Fault.Names = refl
-fault-at Fault.Duration = refl
-fault-at Fault.NotRising = refl
-fault-at Fault.LeftOver = refl
-fault-at Fault.Cycle = refl
-fault-at Fault.ActionsUnordered = refl
-fault-at Fault.NamedTwice = refl
-fault-at Fault.ActionUnheld = refl
-fault-at Fault.ClaimUnpaired = refl
-fault-at Fault.ArrowPastEnd = refl
-fault-at Fault.EventFirst = refl
-fault-at Fault.EventsUnordered = refl
-fault-at Fault.WayOutOfFinal = refl
-fault-at Fault.ForbiddenBranch = refl
-fault-at Fault.OutcomeMissing = refl
-fault-at Fault.NoWayToFinal = refl
-fault-at Fault.Unbalanced = refl
-fault-at Fault.TooManyPending = refl
-
--- two faults with one number are the same
-pub same-fault : (f g : Fault) → numberOf f ≡ numberOf g → f ≡ g
-same-fault f g n = sym (fault-at f) ∙ rw n (fault-at g)
+author-at f place =
+    rw (
+      ne-eqb (numberOf f) 30 (no-fault f 30 refl (λ e. omega arith)),
+      ne-eqb (numberOf f) 31 (no-fault f 31 refl (λ e. omega arith)),
+      ne-eqb (numberOf f) 32 (no-fault f 32 refl (λ e. omega arith)),
+      ne-eqb (numberOf f) 33 (no-fault f 33 refl (λ e. omega arith)),
+      ne-eqb (numberOf f) 43 (no-fault f 43 refl (λ e. omega arith)),
+      ne-eqb (numberOf f) 44 (no-fault f 44 refl (λ e. omega arith)),
+    ) (ap (λ (g : Fault). Unopened.Plan g place) (fault-at f))
 
 refusal-at : (u : Unopened) → refusalAt (openNumber u) (openPlace u) ≡ u
 refusal-at (Unopened.Plan f place) = author-at f place
@@ -229,7 +190,7 @@ same-refusal : (u v : Unopened) → openNumber u ≡ openNumber v → openPlace 
 same-refusal u v n p = sym (refusal-at u) ∙ rw (n, p) (refusal-at v)
 
 pub opening-numbers : StatementOpeningNumbers
-opening-numbers bytes psi slack ts u = (
-  λ r. opening bytes psi slack ts (Opening.Refused u) .0 (r .answered ∙ ap Opening.Refused (same-refusal (r .refusal) u (r .numbered) (r .placed))),
-  λ h. record { refusal = u; answered = opening bytes psi slack ts (Opening.Refused u) .1 h; numbered = refl; placed = refl },
+opening-numbers bytes are psi slack ts u = (
+  λ r. opening-by bytes are psi slack ts (Opening.Refused u) .0 (r .answered ∙ ap Opening.Refused (same-refusal (r .refusal) u (r .numbered) (r .placed))),
+  λ h. record { refusal = u; answered = opening-by bytes are psi slack ts (Opening.Refused u) .1 h; numbered = refl; placed = refl },
 )

@@ -1,10 +1,10 @@
 -- `refused-unchanged`, `stop-kept`, `stops-stay`, `refused-opening`, `zeros-get-50`: promise 1 of a run, from the order of
 -- checks at a call. Every answer is right: a refused one has the run that came in, a stopped one a run that has this stop.
-use mathlib.Core.Path.{_≡_, refl, sym, subst}
-use mathlib.Core.Bool.{Bool, true, false, cond, _&&_, _||_}
+use mathlib.Core.Path.{_≡_, refl, subst}
+use mathlib.Core.Bool.{Bool, true, false, cond, _||_}
 use mathlib.Core.List.{List}
 use Prim.Native.Nat.{ℕ}
-use lib.Dec.{ltb, leb, eqb}
+use lib.Dec.{ltb, eqb}
 use lib.ListN.{length}
 use Rattle.time.specs.Time.{horizon}
 use Rattle.time.specs.declared.Clock.{Clock}
@@ -13,8 +13,7 @@ use Rattle.plan.specs.declared.Kind.{Kind}
 use Rattle.plan.specs.declared.Plan.{Plan}
 use Rattle.plan.specs.declared.Verdict.{Verdict}
 use Rattle.window.specs.declared.Entry.{Entry}
-use Rattle.window.specs.declared.Found.{Found}
-use Rattle.window.specs.Window.{onFound, first, isStarted, startsBefore, endsBefore, isDue, isLate, isOverdue, isNode}
+use Rattle.window.specs.Window.{first, isStarted, startsBefore, endsBefore, isDue, isLate, isOverdue, isNode}
 use Rattle.run.specs.declared.Run.{Run}
 use Rattle.run.specs.declared.Halt.{Halt}
 use Rattle.run.specs.declared.Stop.{Stop}
@@ -24,7 +23,6 @@ use Rattle.run.specs.declared.Answer.{Answer}
 use Rattle.run.specs.declared.Refusal.{Refusal}
 use Rattle.run.specs.declared.Failure.{Failure}
 use Rattle.run.specs.declared.Loading.{Loading}
-use Rattle.run.specs.declared.Unopened.{Unopened}
 use Rattle.run.specs.declared.Opening.{Opening}
 use Rattle.run.specs.declared.Opened.{Opened}
 use Rattle.judge.specs.Judge.{judgeOf}
@@ -34,26 +32,15 @@ use Rattle.activity.specs.Tests.{every}
 use Rattle.limits.specs.Limits.{inLimits, partsInLimits, within, nodesInLimits, automatonInLimits}
 use Rattle.run.specs.Loading.{load, further, mostPending}
 use Rattle.outcomes.specs.Told.{toldOf}
-use Rattle.run.specs.Calls.{answer, refuse, asked, reported, completedBy, completed, afterLoading, learnt, cleared, learnsBy, learns, onHalt, timely, called, askOf, completionOf, outcomeOf, callOf, isDone, kindOf}
+use Rattle.run.specs.Calls.{answer, refuse, asked, reported, completedBy, completed, afterLoading, learnt, cleared, learnsBy, learns, timely, called, askOf, completionOf, outcomeOf, callOf, isDone, kindOf}
 use Rattle.opening.specs.declared.Short.{Short}
 use Rattle.opening.specs.Short.{onShort, shortFrom}
 use Rattle.opening.specs.Given.{anyAbove, atFirst, availabilities}
 use Rattle.run.specs.Opening.{openOf, openJudged, openPlan, afterFirst, zeroRun, fresh}
+use Rattle.log.specs.ByCases.{by-cond, by-found, by-halt}
 use Rattle.demands.specs.Promises.{StatementRefusedUnchanged, StatementStopKept, StatementStopsStay, StatementRefusedOpening, StatementZerosGet50}
 
 -- ---- by cases
-
-by-cond : {A : Type 0} (P : A → Type 0) (b : Bool) (x y : A) → P x → P y → P (cond b x y)
-by-cond P true x y p q = p
-by-cond P false x y p q = q
-
-by-found : {A : Type 0} (P : A → Type 0) (r : Found) (f : ℕ → Entry → A) (z : A) → ((i : ℕ) (e : Entry) → P (f i e)) → P z → P (onFound r f z)
-by-found P Found.Nothing f z p q = q
-by-found P (Found.At i e) f z p q = p i e
-
-by-halt : {A : Type 0} (P : A → Type 0) (h : Halt) (f : Stop → A) (z : A) → ((s : Stop) → h ≡ Halt.Stopped s → P (f s)) → P z → P (onHalt h f z)
-by-halt P Halt.Going f z p q = q
-by-halt P (Halt.Stopped s) f z p q = p s refl
 
 -- ---- what is right of an answer
 
@@ -123,7 +110,7 @@ right-timely run t go h =
 right-called : (run : Run) (t : Clock) (go : Answer) → RightOf run go → RightOf run (called run t go)
 right-called run t go h =
     by-cond (RightOf run) (runInLimits run) _ _
-    (by-halt (RightOf run) (run .halt) _ _ (λ s e. record { right = e }) (right-timely run t go h)) (record { right = refl })
+    (by-halt (RightOf run) (run .halt) _ _ (λ s e. record { right = e }) (λ g. right-timely run t go h)) (record { right = refl })
 
 right : (run : Run) (c : Call) → RightOf run (callOf run c)
 unfolding callOf askOf completionOf outcomeOf

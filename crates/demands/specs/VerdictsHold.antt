@@ -31,7 +31,7 @@ use Rattle.automaton.specs.Rules.{Judges, number21, number22, number23, number2
 use Rattle.automaton.specs.Decides as D
 use Rattle.judge.specs.Judge.{onVerdict, accepted, refusedPlan, judgeAutomaton, judgePlan, judgeOf}
 use Rattle.demands.specs.Accepted.{Bytes}
-use Rattle.demands.specs.OpeningsHold.{same-fault}
+use Rattle.demands.specs.Laws.Numbers.{same-fault}
 use Rattle.judge.specs.Laws.{passed}
 use Rattle.demands.specs.Alike.{SamePlan}
 use Rattle.demands.specs.Laws.Zeroed.{zeroed-alike}

@@ -1,13 +1,13 @@
 -- The host's side of demand 3: a well-behaved host.
 use mathlib.Core.Path.{_≡_}
 use mathlib.Core.Bool.{Bool, true, false, cond}
-use mathlib.Core.List.{List, [], _∷_}
+use mathlib.Core.List.{[], _∷_}
 use mathlib.Core.Logic.{_⊎_}
 use Prim.Native.Nat.{ℕ, _+_, _≤_, _<_}
 use Rattle.run.specs.declared.Call.{Call}
 use Rattle.run.specs.declared.Reply.{Reply}
 use Rattle.run.specs.declared.Stop.{Stop}
-use Rattle.log.specs.Log.{Id, Said, Log, Always, reading, Started, Reported}
+use Rattle.log.specs.Log.{Id, Log, Always, reading, Started, Reported}
 
 abbrev pub isRefused : Reply → Bool
 isRefused (Reply.Start p a n) = false

@@ -1,10 +1,10 @@
 -- The opened run keeps the plan that its bytes hold, Ψ and the slack; an answer makes its reading the last one.
-use mathlib.Core.Path.{_≡_, refl, _∙_, subst}
-use mathlib.Core.Bool.{Bool, true, false, cond, _||_}
+use mathlib.Core.Path.{_≡_, refl, subst}
+use mathlib.Core.Bool.{_||_}
 use mathlib.Core.List.{List}
-use Prim.Native.Nat.{ℕ, zero, suc}
+use Prim.Native.Nat.{ℕ}
 use lib.Dec.{ltb, eqb}
-use lib.ListN.{length, length-replicate}
+use lib.ListN.{length}
 use Rattle.time.specs.Time.{horizon}
 use Rattle.time.specs.declared.Clock.{Clock}
 use Rattle.plan.specs.declared.Plan.{Plan}
@@ -12,8 +12,7 @@ use Rattle.plan.specs.declared.Verdict.{Verdict}
 use Rattle.judge.specs.Judge.{judgeOf}
 use Rattle.automaton.specs.Next.{nextOf}
 use Rattle.automaton.specs.declared.Next.{Next}
-use Rattle.window.specs.Window.{vacant, vacancies}
-use Rattle.window.specs.Placed.{placed-length}
+use Rattle.window.specs.Window.{vacancies}
 use Rattle.path.specs.Path.{Path, pathFrom, longestPath}
 use Rattle.opening.specs.declared.Short.{Short}
 use Rattle.opening.specs.Short.{onShort, shortFrom}
@@ -22,15 +21,11 @@ use Rattle.run.specs.declared.Run.{Run}
 use Rattle.run.specs.declared.Halt.{Halt}
 use Rattle.run.specs.declared.Opening.{Opening}
 use Rattle.run.specs.declared.Opened.{Opened}
-use Rattle.run.specs.declared.Failure.{Failure}
 use Rattle.run.specs.declared.Loading.{Loading}
 use Rattle.run.specs.Limits.{slackInLimits}
-use Rattle.run.specs.Loading.{load, loadPath, withPath}
-use Rattle.run.specs.Opening.{openOf, openJudged, openPlan, afterFirst, firstLoaded, fresh}
-
-by-cond : {A : Type 0} (P : A → Type 0) (b : Bool) (x y : A) → P x → P y → P (cond b x y)
-by-cond P true x y p q = p
-by-cond P false x y p q = q
+use Rattle.run.specs.Loading.{load, loadPath}
+use Rattle.run.specs.Opening.{openOf, openJudged, openPlan, firstLoaded, fresh}
+use Rattle.log.specs.ByCases.{by-cond}
 
 pub record Keeps (p : Plan) (psi : Clock) (slack : ℕ) (run : Run) : Type 0 where
   pub same-plan : run .plan ≡ p
@@ -42,8 +37,6 @@ pub record Opens (p : Plan) (psi : Clock) (slack : ℕ) (run : Run) : Type 0 whe
   pub keeps : Keeps p psi slack run
   pub last : run .last .0 ≡ 0
   pub going : run .halt ≡ Halt.Going
-  -- "at most 512": the window has as many places
-  pub window : length (run .window) ≡ 512
 
 abbrev Kept : Plan → Clock → ℕ → Opening → Run → Type 0
 Kept p psi slack Opening.Opened run = Opens p psi slack run
@@ -60,7 +53,7 @@ module _ (p : Plan) (psi : Clock) (slack : ℕ) where
   kept-path run q k =
       by-cond (KeptBy p psi slack) (q .beyond) _ _ (record { kept = record { kept = tt } })
       (by-cond (KeptBy p psi slack) (ltb (vacancies (run .window)) (length (q .entries))) _ _ (record { kept = record { kept = tt } })
-      (record { kept = record { kept = record { keeps = record { same-plan = k .keeps .same-plan; same-psi = k .keeps .same-psi; same-slack = k .keeps .same-slack }; last = k .last; going = k .going; window = placed-length (run .window) (q .entries) ∙ k .window } } }))
+      (record { kept = record { kept = record { keeps = record { same-plan = k .keeps .same-plan; same-psi = k .keeps .same-psi; same-slack = k .keeps .same-slack }; last = k .last; going = k .going } } }))
 
   kept-load : (run : Run) (next : Next) → Opens p psi slack run → KeptBy p psi slack (load run next)
   unfolding load
@@ -77,7 +70,7 @@ module _ (p : Plan) (psi : Clock) (slack : ℕ) where
       (by-cond (KeptOf p psi slack) (ltb horizon (psi .0) || anyAbove ts) _ _ (record { kept = tt })
       (by-cond (KeptOf p psi slack) (slackInLimits slack) _ _
       (kept-short (shortFrom p slack 0 (p .activities)) _ _ (λ a. record { kept = tt })
-      (kept-load (fresh p psi slack (atFirst (availabilities ts) (p .automaton .initial))) (nextOf (p .automaton) (p .automaton .initial)) (record { keeps = record { same-plan = refl; same-psi = refl; same-slack = refl }; last = refl; going = refl; window = length-replicate 512 vacant }) .kept))
+      (kept-load (fresh p psi slack (atFirst (availabilities ts) (p .automaton .initial))) (nextOf (p .automaton) (p .automaton .initial)) (record { keeps = record { same-plan = refl; same-psi = refl; same-slack = refl }; last = refl; going = refl }) .kept))
       (record { kept = tt })))
       (record { kept = tt })
 

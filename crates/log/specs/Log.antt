@@ -3,7 +3,6 @@ use mathlib.Core.Path.{_≡_}
 use mathlib.Core.List.{List, [], _∷_}
 use mathlib.Core.Logic.{_⊎_}
 use Prim.Native.Nat.{ℕ}
-use Rattle.time.specs.declared.Clock.{Clock}
 use Rattle.run.specs.declared.Call.{Call}
 use Rattle.run.specs.declared.Reply.{Reply}
 use Rattle.run.specs.declared.Stop.{Stop}
@@ -70,6 +69,11 @@ Stops (Reply.Stopped s) = Unit {0}
 abbrev pub StoppedIn : Log → Type 0
 StoppedIn [] = ⊥
 StoppedIn (y ∷ older) = Stops (y .reply) ⊎ StoppedIn older
+
+-- some call was answered by the stop s
+abbrev pub StoppedBy : Log → Stop → Type 0
+StoppedBy [] s = ⊥
+StoppedBy (y ∷ older) s = (y .reply ≡ Reply.Stopped s) ⊎ StoppedBy older s
 
 -- the stops of loading, 43 and 44
 abbrev pub Failing : Stop → Type 0

@@ -16,7 +16,6 @@ pub mod Many
 pub mod Sums
 pub mod Onward
 pub mod Further
-pub mod Failing
 pub mod OneLoading
 pub mod Kinds
 pub mod Telling
@@ -24,6 +23,7 @@ pub mod Informed
 pub mod Learn
 pub mod Words
 pub mod Works
+pub mod Short
 pub mod Opening
 pub mod EngineHolds
 pub mod AcceptedHolds

@@ -1,6 +1,6 @@
 -- What a run knows of itself after the calls of a log: it is in limits and keeps the opening's plan, Ψ and slack; its word is
--- taken by what the log tells, up to a waiting or final state, and as far as it goes unless a loading has failed; and where it stands is where the engine's way over
--- that word leads.
+-- taken by what the log tells, up to a waiting or final state, within the limits of 44, and as far as it goes unless a loading has
+-- failed, by the next path; and where it stands is where the engine's way over that word leads.
 use mathlib.Core.Path.{_≡_}
 use mathlib.Core.Bool.{true}
 use mathlib.Core.List.{List, _++_, map}
@@ -24,10 +24,13 @@ use Rattle.window.specs.Window.{vacant}
 use Rattle.limits.specs.Window.{entryInLimits}
 use Rattle.run.specs.Limits.{slackInLimits, haltInLimits}
 use Rattle.run.specs.declared.Run.{Run}
+use Rattle.run.specs.declared.Halt.{Halt}
+use Rattle.run.specs.declared.Stop.{Stop}
 use Rattle.log.specs.Log.{Id, id, Log, FailedIn}
 use Rattle.log.specs.Log as Log
 use Rattle.demand.specs.Nodes.{lengthOf}
-use Rattle.demand.specs.TheWord.{stateAfter, wholeOf, Rests, Takes, Stuck}
+use Rattle.demand.specs.TheWord.{stateAfter, wholeOf, Rests, Tail, Takes, Stuck}
+use Rattle.demand.specs.Loading.{Beyond, PathBeyond, PathFull}
 use Rattle.demand.specs.OfPlan.{Long}
 use Rattle.works.specs.Engine.{Sized, Within, stateOf}
 
@@ -84,6 +87,10 @@ pub record Good (p : Plan) (psi : Clock) (slack : ℕ) (available : ℕ → ℕ)
   pub same-slack : run .slack ≡ slack
   pub stands : Stands p available log is (run .progress)
   pub rests : Rests p is
+  pub within : (us : List ℕ) → Tail us is → Beyond p available us → ⊥
   pub whole : (FailedIn log → ⊥) → Stuck p log is
+  pub beyond : run .halt ≡ Halt.Stopped Stop.Beyond → PathBeyond p available log is
+  pub full : run .halt ≡ Halt.Stopped Stop.Full → PathFull p available log is
+  pub long : length (run .window) ≡ 512
   pub entries : (j : ℕ) → entryInLimits (p .activities) (p .sizes) (getD (run .window) j vacant) ≡ true
   pub halt : haltInLimits (run .halt) ≡ true

@@ -5,7 +5,7 @@ use mathlib.Core.Bool.{true}
 use mathlib.Core.List.{List, [], _∷_}
 use Prim.Native.Nat.{ℕ}
 use lib.Dec.{ltb}
-use lib.ListN.{length, getD}
+use lib.ListN.{getD}
 use Rattle.time.specs.declared.Clock.{Clock}
 use Rattle.plan.specs.Plan.{outcomesOf}
 use Rattle.plan.specs.declared.Kind.{Kind}
@@ -87,12 +87,12 @@ module _ (bytes : List ℕ) (are : Bytes bytes) (psi : Clock) (slack : ℕ) (ts 
     pub place : driven .run .progress .state ≡ stateAfter plan is
     place = after .1 .stands .place ∙ ap (stateAfter plan) loaded
 
-    pub loading : length (driven .run .window) ≡ 512 → (t : Clock) (i : ℕ) (e : Entry) (ev o : ℕ) → driven .run .halt ≡ Halt.Going → Clear (psi .0) slack (driven .run .last .0) (Holds (driven .run .window)) (t .0) → Holds (driven .run .window) i e → isStarted (e .phase) ≡ true
+    pub loading : (t : Clock) (i : ℕ) (e : Entry) (ev o : ℕ) → driven .run .halt ≡ Halt.Going → Clear (psi .0) slack (driven .run .last .0) (Holds (driven .run .window)) (t .0) → Holds (driven .run .window) i e → isStarted (e .phase) ≡ true
         → kindOf (driven .run) e ≡ Kind.Event ev → ltb o (outcomesOf plan ev) ≡ true
-        → Loads plan available (said (Call.Outcome t (e .position) (e .node) o) Reply.Taken ∷ driven .log) is (further mostPending (cleared (driven .run) t i (toldOf (driven .run .progress) ev e o)) .failure)
-    loading long t i e ev o going calm held started kind has =
-        subst (λ (z : List ℕ). Loads plan available (said (Call.Outcome t (e .position) (e .node) o) Reply.Taken ∷ driven .log) z (further mostPending (cleared (driven .run) t i (toldOf (driven .run .progress) ev e o)) .failure)) loaded
-        (loading-says engine-laws plan psi slack (well .given) available (driven .log) (after .0) (driven .run) (after .1) (after .2) long t i e ev o going calm held started kind has)
+        → (us : List ℕ) × Loads plan available (said (Call.Outcome t (e .position) (e .node) o) Reply.Taken ∷ driven .log) is us (further mostPending (cleared (driven .run) t i (toldOf (driven .run .progress) ev e o)) .failure)
+    loading t i e ev o going calm held started kind has =
+        subst (λ (z : List ℕ). (us : List ℕ) × Loads plan available (said (Call.Outcome t (e .position) (e .node) o) Reply.Taken ∷ driven .log) z us (further mostPending (cleared (driven .run) t i (toldOf (driven .run .progress) ev e o)) .failure)) loaded
+        (loading-says engine-laws plan psi slack (well .given) available (driven .log) (after .0) (driven .run) (after .1) (after .2) t i e ev o going calm held started kind has)
 
   pub the-word : (is : List ℕ) × TheWord plan (driven .log) is
   the-word =
@@ -109,7 +109,7 @@ module _ (bytes : List ℕ) (are : Bytes bytes) (psi : Clock) (slack : ℕ) (ts 
       OfTheLog.times plan lawful available (psi .0) slack (Good plan psi slack available) (works engine-laws plan psi slack (well .given) available) (by-the-log engine-laws plan psi slack (well .given) available)
       (well .word) (openOf bytes psi slack ts .run) (well .opened) cs
 
-  pub of-the-log : (is : List ℕ) → TheWord plan (driven .log) is → (S C : Ident → ℕ) → Timing (wholeOf plan is) available S C → Demand3 plan (psi .0) slack is S C driven
+  pub of-the-log : (is : List ℕ) → TheWord plan (driven .log) is → (S C : Ident → ℕ) → Timing (wholeOf plan is) available S C → Demand3 plan (psi .0) slack available is S C driven
   of-the-log =
       OfTheLog.of-the-log plan lawful available (psi .0) slack (Good plan psi slack available) (works engine-laws plan psi slack (well .given) available) (by-the-log engine-laws plan psi slack (well .given) available)
       (well .word) (openOf bytes psi slack ts .run) (well .opened) cs

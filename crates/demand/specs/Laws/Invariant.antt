@@ -6,7 +6,7 @@ use Rattle.run.specs.declared.Reply.{Reply}
 use Rattle.run.specs.declared.Refusal.{Refusal}
 use Rattle.run.specs.declared.Stop.{Stop}
 use Rattle.run.specs.declared.Halt.{Halt}
-use Rattle.log.specs.Log.{Id, Log, Said, Always, Started, StoppedIn}
+use Rattle.log.specs.Log.{Id, Log, Said, Always, Started, StoppedIn, StoppedBy}
 use Rattle.log.specs.Host.{Host, MildStop, Mild}
 use Rattle.demand.specs.Machine.{World, Machine, Window, Finished, Waited}
 use Rattle.demand.specs.Laws.Accounts.{Accounts}
@@ -32,6 +32,7 @@ pub record Invariant (W : World) (M : Machine) (psi slack : ℕ) (word : W .Word
   pub accounts : Accounts W psi slack word log (M .holds run)
   pub clock : M .halt run ≡ Halt.Going → Clock psi slack (M .last run) log (M .holds run)
   pub halted : (s : Stop) → M .halt run ≡ Halt.Stopped s → StoppedIn log
+  pub stopped : (s : Stop) → StoppedBy log s → M .halt run ≡ Halt.Stopped s
   pub numbers : Always Counted log
   pub latest : Latest W word log (M .holds run)
   -- C: the specified completions, of a word that may have grown since

@@ -13,7 +13,7 @@ use Rattle.run.specs.declared.Refusal.{Refusal}
 use Rattle.run.specs.declared.Stop.{Stop}
 use Rattle.run.specs.declared.Halt.{Halt}
 use Rattle.run.specs.declared.Failure.{Failure}
-use Rattle.log.specs.Log.{Id, Said, said, Log, reading, Started, Accepts, Finishes}
+use Rattle.log.specs.Log.{Id, Said, said, Log, reading, Started, Stops, StoppedBy, Accepts, Finishes}
 use Rattle.log.specs.Host.{HostAt, Mild}
 use Rattle.demand.specs.Machine.{World, Machine, idOf, Window, Waiting}
 use Rattle.demand.specs.Way.{Stays, Loads, Turns, haltOf, replyOf, Answers, Way, keeps, refuses, overdues, lates, begins, idles, completes, learns}
@@ -21,7 +21,7 @@ use Rattle.demand.specs.Works.{Works}
 use Rattle.demand.specs.Laws.Accounts.{Accounts, accounts-quiet, accounts-begin, accounts-report, accounts-load}
 use Rattle.demand.specs.Laws.Clock.{Clock, clock-refused, clock-next, never-late}
 use Rattle.demand.specs.Laws.Invariant.{MildHalt, Latest, Invariant}
-use Rattle.demand.specs.Laws.Replies.{not-going, Other, not-50, quiet, stop-accepts, failure-starts, failure-accepts, failure-unfinished, failure-unwaiting, failure-mild, failure-halt, failure-other, failure-halted}
+use Rattle.demand.specs.Laws.Replies.{not-going, same-stop, not-stop, Other, not-50, quiet, stop-accepts, failure-starts, failure-accepts, failure-unfinished, failure-unwaiting, failure-mild, failure-halt, failure-other, failure-halted, failure-stopped}
 
 module _ (W : World) (M : Machine) (psi slack : ℕ) (Good : Log → W .Word → M .Run → Type 0) (w : Works W M psi slack Good) (log : Log) (word : W .Word) (run : M .Run) (g : Good log word run) (v : Invariant W M psi slack word log run) where
   -- an answer that is neither done nor wait
@@ -39,6 +39,10 @@ module _ (W : World) (M : Machine) (psi slack : ℕ) (Good : Log → W .Word →
     wait-only = λ p f. let x = a .wait-only p f in (x .0, x .1, q (x .0) (x .1) .1 (x .2));
   }
 
+  -- a run that goes has not been stopped
+  unstopped : M .halt run ≡ Halt.Going → (s : Stop) → StoppedBy log s → ⊥
+  unstopped e s q = not-going s (sym (v .stopped s q) ∙ e)
+
   -- the run as it was: a kept stop, a refusal
   same : (c : Call) (r : Reply) (run′ : M .Run) → run′ ≡ run → Invariant W M psi slack word (said c r ∷ log) run → Invariant W M psi slack word (said c r ∷ log) run′
   same c r run′ e h = subst (Invariant W M psi slack word (said c r ∷ log)) (sym e) h
@@ -50,6 +54,7 @@ module _ (W : World) (M : Machine) (psi slack : ℕ) (Good : Log → W .Word →
         accounts = accounts-quiet W psi slack word log _ (v .accounts) c (Reply.Stopped s) _ (λ j f. (λ h. h, λ h. h)) (λ id p. p) na;
         clock = λ h. absurd (not-going s (sym e ∙ h));
         halted = λ s′ q. inl tt;
+        stopped = λ u. ⊎-elim (λ q. e ∙ ap Halt.Stopped (same-stop q)) (λ q. v .stopped u q);
         numbers = (not-50 (Reply.Stopped s) tt, v .numbers);
         latest = spoken c (Reply.Stopped s) _ (λ p. p) (λ p. p);
         mild = λ C m h. let b = v .mild C (λ id p. m id (inr p)) (h .1) in ((subst MildHalt e (b .1), b .0), b .1);
@@ -61,20 +66,22 @@ module _ (W : World) (M : Machine) (psi slack : ℕ) (Good : Log → W .Word →
         accounts = accounts-quiet W psi slack word log _ (v .accounts) c (Reply.Refused f) _ (λ j f. (λ h. h, λ h. h)) (λ id p. p) (λ p. p);
         clock = λ h. clock-refused _ _ _ log _ (v .clock e) c f;
         halted = λ s q. absurd (not-going s (sym q ∙ e));
+        stopped = λ s. ⊎-elim (λ q. absurd (not-stop (Reply.Refused f) s (λ p. p) q)) (λ q. v .stopped s q);
         numbers = (not-50 (Reply.Refused f) l, v .numbers);
         latest = spoken c (Reply.Refused f) _ (λ p. p) (λ p. p);
         mild = λ C m h. let b = v .mild C (λ id p. m id (inr p)) (h .1) in ((tt, b .0), b .1);
       }
 
   -- a new stop as late or overdue, which the host's side excludes
-  halt : (c : Call) (s : Stop) (run′ : M .Run) → M .halt run′ ≡ Halt.Stopped s → Stays (M .holds run) (M .holds run′) → (Accepts (Reply.Stopped s) log → ⊥) →
+  halt : (c : Call) (s : Stop) (run′ : M .Run) → M .halt run ≡ Halt.Going → M .halt run′ ≡ Halt.Stopped s → Stays (M .holds run) (M .holds run′) → (Accepts (Reply.Stopped s) log → ⊥) →
       ((C : Id → ℕ) → ((id : Id) → Started log id → C id ≡ W .completion word id) → HostAt psi slack C log (reading c) → ⊥) →
       Invariant W M psi slack word (said c (Reply.Stopped s) ∷ log) run′
-  halt c s run′ e q na never =
+  halt c s run′ going e q na never =
       record {
         accounts = accounts-quiet W psi slack word log _ (v .accounts) c (Reply.Stopped s) _ q (λ id p. p) na;
         clock = λ h. absurd (not-going s (sym e ∙ h));
         halted = λ s′ p. inl tt;
+        stopped = λ u. ⊎-elim (λ p. e ∙ ap Halt.Stopped (same-stop p)) (λ p. absurd (unstopped going u p));
         numbers = (not-50 (Reply.Stopped s) tt, v .numbers);
         latest = spoken c (Reply.Stopped s) _ (λ p. p) (λ p. p);
         mild = λ C m h. absurd (never C (λ id p. m id (inr p)) (h .0 refl));
@@ -89,12 +96,13 @@ module _ (W : World) (M : Machine) (psi slack : ℕ) (Good : Log → W .Word →
       v .accounts .unreported i e h (host .reports (idOf e) r (omega arith))
 
   -- an answer that is neither a refusal nor a stop, and no outcome
-  goes : (c : Call) (r : Reply) (run′ : M .Run) → Turns M run run′ (reading c) Halt.Going → Other r → Mild r → Answers W word (M .holds run′) r →
+  goes : (c : Call) (r : Reply) (run′ : M .Run) → Turns M run run′ (reading c) Halt.Going → (Stops r → ⊥) → Other r → Mild r → Answers W word (M .holds run′) r →
       Accounts W psi slack word (said c r ∷ log) (M .holds run′) → Clock psi slack (reading c) (said c r ∷ log) (M .holds run′) → Invariant W M psi slack word (said c r ∷ log) run′
-  goes c r run′ t ab mi fi a k = record {
+  goes c r run′ t ns ab mi fi a k = record {
     accounts = a;
     clock = λ h. subst (λ (l : ℕ). Clock psi slack l (said c r ∷ log) (M .holds run′)) (sym (t .last)) k;
     halted = λ s p. absurd (not-going s (sym p ∙ t .halt));
+    stopped = λ s. ⊎-elim (λ p. absurd (not-stop r s ns p)) (λ p. absurd (unstopped (t .going) s p));
     numbers = (not-50 r ab, v .numbers);
     latest = record { done-final = fi .done-final; done-empty = fi .done-empty; wait-only = fi .wait-only };
     mild = λ C m h. let b = v .mild C (λ id p. m id (inr p)) (h .1) in ((mi, b .0), subst MildHalt (sym (t .halt)) tt);
@@ -103,23 +111,23 @@ module _ (W : World) (M : Machine) (psi slack : ℕ) (Good : Log → W .Word →
   pub kept : (c : Call) (r : Reply) (run′ : M .Run) (later : W .Word) → Way W M psi slack run run′ word later c r → Invariant W M psi slack later (said c r ∷ log) run′
   kept c r run′ later (keeps {s = s} e q) = same c (Reply.Stopped s) run′ q (keep c s e)
   kept c r run′ later (refuses {f = f} e l q) = same c (Reply.Refused f) run′ q (refuse c f e l)
-  kept c r run′ later (overdues i e t q h s d) = halt c (Stop.Overdue (e .position) (e .node)) run′ (t .halt) q (λ p. p .0) (not-overdue c i e h s d)
+  kept c r run′ later (overdues i e t q h s d) = halt c (Stop.Overdue (e .position) (e .node)) run′ (t .going) (t .halt) q (λ p. p .0) (not-overdue c i e h s d)
   kept c r run′ later (lates i e t q l h s d) =
-      halt c (Stop.Late (e .position) (e .node)) run′ (t .halt) q (λ p. p .0) λ C m host.
+      halt c (Stop.Late (e .position) (e .node)) run′ (t .going) (t .halt) q (λ p. p .0) λ C m host.
       let n = never-late _ _ _ log _ (v .clock (t .going)) C (reading c) host l i e h s in
       omega arith
   kept c r run′ later (begins {t = t} i e u k h s d q) =
-      goes (Call.Ask t) (Reply.Start (e .position) (e .activity) (e .node)) run′ u tt tt (unspoken _ _ (λ p. p) (λ p. p))
+      goes (Call.Ask t) (Reply.Start (e .position) (e .activity) (e .node)) run′ u (λ p. p) tt tt (unspoken _ _ (λ p. p) (λ p. p))
       (accounts-begin W psi slack word log _ (v .accounts) (w .long log word run g) (w .orders log word run g) (w .one run) (M .last run) t k i e h s d _ q)
       (clock-next _ _ _ log _ (v .clock (u .going)) (Call.Ask t) (Reply.Start (e .position) (e .activity) (e .node)) _ refl (λ p. p) k
       (λ j f x y. ⊎-elim (λ p. absurd (true≢false (sym (ap (λ (z : Entry). isStarted (z .phase)) (p .1)) ∙ y))) (λ p. inl (p .1)) (q j f .0 x)) (λ n p. absurd (p .1)))
   kept c r run′ later (idles {t = t} u k n waits fin q) =
-      goes (Call.Ask t) r run′ u (quiet r log n .other) (quiet r log n .mild) (moved r (M .holds run) (M .holds run′) q fin)
+      goes (Call.Ask t) r run′ u (quiet r log n .stops) (quiet r log n .other) (quiet r log n .mild) (moved r (M .holds run) (M .holds run′) q fin)
       (accounts-quiet W psi slack word log _ (v .accounts) (Call.Ask t) r _ q (quiet r log n .starts) (quiet r log n .accepts))
       (clock-next _ _ _ log _ (v .clock (u .going)) (Call.Ask t) r _ (quiet r log n .counts) (quiet r log n .stops) k (λ j f x y. inl (q j f .0 x))
       (λ m p j f x y. let z = p .0 in let l = waits j f (q j f .0 x) y in omega arith))
   kept c r run′ later (completes {t = t} i e u k h s q) =
-      goes (Call.Completion t (e .position) (e .node)) Reply.Taken run′ u tt tt (unspoken _ _ (λ p. p) (λ p. p))
+      goes (Call.Completion t (e .position) (e .node)) Reply.Taken run′ u (λ p. p) tt tt (unspoken _ _ (λ p. p) (λ p. p))
       (accounts-report W psi slack word log _ (v .accounts) (w .one run) (Call.Completion t (e .position) (e .node)) Reply.Taken i e h s (k .not-overdue i e h s) (λ id p. p) (refl, tt) (λ id p. p .0) _ q)
       (clock-next _ _ _ log _ (v .clock (u .going)) (Call.Completion t (e .position) (e .node)) Reply.Taken _ refl (λ p. p) k (λ j f x y. inl (q j f .0 x .1)) (λ n p. absurd p))
   kept c r run′ later (learns {t = t} {o = o} i e f u k h s q) = record {
@@ -127,6 +135,7 @@ module _ (W : World) (M : Machine) (psi slack : ℕ) (Good : Log → W .Word →
         (λ j d p. q .kept j d (p .0) (p .1)) (q .only) (q .distinct) (q .all);
     clock = λ p. subst (λ (l : ℕ). Clock psi slack l (x ∷ log) (M .holds run′)) (sym (u .last)) (clock′ f q (sym (u .halt) ∙ p));
     halted = λ a p. failure-halted f (Call.Outcome t (e .position) (e .node) o) log a (sym (u .halt) ∙ p);
+    stopped = λ a. ⊎-elim (λ p. u .halt ∙ failure-stopped f a p) (λ p. absurd (unstopped (u .going) a p));
     numbers = (not-50 (replyOf f) (failure-other f), v .numbers);
     latest = record { done-final = λ p. absurd (failure-unfinished f p); done-empty = λ p. absurd (failure-unfinished f p); wait-only = λ p. absurd (failure-unwaiting f p) };
     mild = λ C m host. let b = v .mild C (λ id p. m id (inr p) ∙ q .extends .completions id (v .accounts .started-node id p)) (host .1) in ((failure-mild f, b .0), subst MildHalt (sym (u .halt)) (failure-halt f));

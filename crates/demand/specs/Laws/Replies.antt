@@ -1,15 +1,15 @@
 -- What each kind of reply tells, and what it does not: facts by cases for the laws of `Keeping`.
-use mathlib.Core.Path.{_≡_, refl, sym, subst}
+use mathlib.Core.Path.{_≡_, refl, sym, ap, subst}
 use mathlib.Core.Bool.{false}
-use mathlib.Core.List.{_∷_}
-use mathlib.Core.Logic.{inl, inr}
+use mathlib.Core.List.{[], _∷_}
+use mathlib.Core.Logic.{_⊎_, inl, inr, ⊎-elim}
 use Rattle.run.specs.declared.Call.{Call}
 use Rattle.run.specs.declared.Reply.{Reply}
 use Rattle.run.specs.declared.Refusal.{Refusal}
 use Rattle.run.specs.declared.Stop.{Stop}
 use Rattle.run.specs.declared.Halt.{Halt}
 use Rattle.run.specs.declared.Failure.{Failure}
-use Rattle.log.specs.Log.{Id, Log, said, Starts, Stops, StoppedIn, Fails, FailedIn, Accepts, Finishes}
+use Rattle.log.specs.Log.{Id, Log, said, Starts, Stops, StoppedIn, StoppedBy, Fails, FailedIn, Accepts, Finishes}
 use Rattle.log.specs.Host.{isRefused, Mild}
 use Rattle.demand.specs.Machine.{Waiting}
 use Rattle.demand.specs.Way.{Idle, haltOf, replyOf}
@@ -33,6 +33,25 @@ failed-stopped (y ∷ log) (inl p) = inl (go (y .reply) p)
     go (Reply.Refused f) p = p
     go (Reply.Stopped s) p = tt
 failed-stopped (y ∷ log) (inr p) = inr (failed-stopped log p)
+
+-- a log tells whether a loading has failed, and by which number
+pub failed-by : (log : Log) → (FailedIn log → ⊥) ⊎ (StoppedBy log Stop.Beyond ⊎ StoppedBy log Stop.Full)
+failed-by [] = inl (λ q. q)
+failed-by (y ∷ log) = ⊎-elim (λ n. go (y .reply) refl n) (λ q. inr (⊎-elim (λ s. inl (inr s)) (λ s. inr (inr s)) q)) (failed-by log)
+  where
+    passes : (Fails (y .reply) → ⊥) → (FailedIn log → ⊥) → (FailedIn (y ∷ log) → ⊥) ⊎ (StoppedBy (y ∷ log) Stop.Beyond ⊎ StoppedBy (y ∷ log) Stop.Full)
+    passes n m = inl (⊎-elim n m)
+
+    go : (r : Reply) → y .reply ≡ r → (FailedIn log → ⊥) → (FailedIn (y ∷ log) → ⊥) ⊎ (StoppedBy (y ∷ log) Stop.Beyond ⊎ StoppedBy (y ∷ log) Stop.Full)
+    go (Reply.Start q a n) e = passes (λ f. subst Fails e f)
+    go Reply.Wait e = passes (λ f. subst Fails e f)
+    go Reply.Done e = passes (λ f. subst Fails e f)
+    go Reply.Taken e = passes (λ f. subst Fails e f)
+    go (Reply.Refused x) e = passes (λ f. subst Fails e f)
+    go (Reply.Stopped (Stop.Late q n)) e = passes (λ f. subst Fails e f)
+    go (Reply.Stopped (Stop.Overdue q n)) e = passes (λ f. subst Fails e f)
+    go (Reply.Stopped Stop.Full) e = λ m. inr (inr (inl e))
+    go (Reply.Stopped Stop.Beyond) e = λ m. inr (inl (inl e))
 
 -- ---- 50
 
@@ -63,6 +82,13 @@ quiet Reply.Wait log h = record { starts = λ x p. p; accepts = λ p. p; stops =
 quiet Reply.Done log h = record { starts = λ x p. p; accepts = λ p. p; stops = λ p. p; counts = refl; mild = tt; other = tt }
 
 -- ---- stops
+
+pub same-stop : {s u : Stop} → Reply.Stopped s ≡ Reply.Stopped u → s ≡ u
+same-stop e = cc
+
+-- an answer that is no stop
+pub not-stop : (r : Reply) (s : Stop) → (Stops r → ⊥) → r ≡ Reply.Stopped s → ⊥
+not-stop r s n e = n (subst Stops (sym e) tt)
 
 -- a kept stop reports nothing
 pub stop-accepts : (s : Stop) (log : Log) → StoppedIn log → Accepts (Reply.Stopped s) log → ⊥
@@ -109,3 +135,8 @@ pub failure-halted : (f : Failure) (c : Call) (log : Log) (s : Stop) → haltOf 
 failure-halted Failure.None c log s e = absurd (not-going s (sym e))
 failure-halted Failure.Full c log s e = inl tt
 failure-halted Failure.Beyond c log s e = inl tt
+
+pub failure-stopped : (f : Failure) (s : Stop) → replyOf f ≡ Reply.Stopped s → haltOf f ≡ Halt.Stopped s
+failure-stopped Failure.None s e = absurd (not-stop Reply.Taken s (λ p. p) e)
+failure-stopped Failure.Full s e = ap Halt.Stopped (same-stop e)
+failure-stopped Failure.Beyond s e = ap Halt.Stopped (same-stop e)

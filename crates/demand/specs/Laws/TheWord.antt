@@ -137,7 +137,7 @@ module _ (p : Plan) (lawful : Lawful p) (log : Log) (unique : (x : Id) (o q : �
 
   -- ---- beginnings
 
-  tail-takes : (is us : List ℕ) → Tail is us → Takes p log us → Takes p log is
+  pub tail-takes : (is us : List ℕ) → Tail is us → Takes p log us → Takes p log is
   tail-takes is us here h = h
   tail-takes is us (later {us = vs} {t} b) h = tail-takes is vs b (last p log (t ∷ vs) h .0)
 

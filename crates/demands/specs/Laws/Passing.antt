@@ -33,8 +33,7 @@ use Rattle.demand.specs.Loading as L
 use Rattle.works.specs.Laws.Taken.{size-is}
 use Rattle.behaviour.specs.Laws.Shape.{sort}
 use Rattle.behaviour.specs.Laws.Unique.{shape-of}
-use Rattle.demands.specs.Openings.{Exceeds}
-use Rattle.demands.specs.OpeningTests.{tells-exceeds}
+use Rattle.works.specs.Laws.Crosses.{Crosses, tells-crosses}
 use Rattle.demands.specs.Horizon.{Beyond}
 
 last-step : {R : ℕ} {available : ℕ → ℕ} {tr : Trace} {w : Word} {x : Step} → Run R available tr (w ▷ x) → Stepped R x tr (size w)
@@ -140,26 +139,26 @@ module _ (p : Plan) (l : Lawful p) (available : ℕ → ℕ) where
     late n h over (Kind.Release r) e = late-node n h (subst NotClaim (sym e) tt) over
     late n h over (Kind.Event x) e = late-node n h (subst NotClaim (sym e) tt) over
 
-    passes : Exceeds p t g → Beyond p available (t ∷ is)
-    passes (Exceeds.completion n h over) = late n h over (node a n .kind) refl
-    passes (Exceeds.availability r h over) =
+    passes : Crosses p t g → Beyond p available (t ∷ is)
+    passes (Crosses.completion n h over) = late n h over (node a n .kind) refl
+    passes (Crosses.availability r h over) =
         let x = equal .free r h in
         let u = leads .free r in
         let v = x .2 in
         found (L.Exceeds.availability (x .0) r h (x .1) (omega arith))
-    passes (Exceeds.position over) = found (L.Exceeds.position (let u = leads .position in let v = size-is p is in omega arith))
+    passes (Crosses.position over) = found (L.Exceeds.position (let u = leads .position in let v = size-is p is in omega arith))
 
-    exceeds : Beyond p available (t ∷ is) → Exceeds p t g
+    exceeds : Beyond p available (t ∷ is) → Crosses p t g
     exceeds b = by (b .exceeds)
       where
-        by : L.Exceeds p (b .C) (t ∷ is) → Exceeds p t g
+        by : L.Exceeds p (b .C) (t ∷ is) → Crosses p t g
         by (L.Exceeds.completion n k h over) =
             let i : Is (wholeOf p (t ∷ is)) (identity (size (wordOf p is)) n) k = subst (λ (q : ℕ → Ident). Is (wholeOf p (t ∷ is)) (q n) k) (sym place) h in
             let o : horizon < b .C (identity (size (wordOf p is)) n) = subst (λ (q : ℕ → Ident). horizon < b .C (q n)) (sym place) over in
             let u = end-there (b .S) (b .C) (b .times) n k (i .0) (i .1) in
-            Exceeds.completion n (inside n k (i .0) (i .1)) (omega arith)
-        by (L.Exceeds.availability x r h i over) = let u = free-at (b .S) (b .C) (b .times) x r h i in Exceeds.availability r h (omega arith)
-        by (L.Exceeds.position over) = Exceeds.position (let u = leads .position in let v = size-is p is in omega arith)
+            Crosses.completion n (inside n k (i .0) (i .1)) (omega arith)
+        by (L.Exceeds.availability x r h i over) = let u = free-at (b .S) (b .C) (b .times) x r h i in Crosses.availability r h (omega arith)
+        by (L.Exceeds.position over) = Crosses.position (let u = leads .position in let v = size-is p is in omega arith)
 
     pub tells-leads : Tells (takenBy p t g .beyond) (Beyond p available (t ∷ is))
-    tells-leads = tells-iff (passes, exceeds) (tells-exceeds p t g)
+    tells-leads = tells-iff (passes, exceeds) (tells-crosses p t g)

@@ -37,7 +37,7 @@ use Rattle.demand.specs.Loading.{Exceeds}
 use Rattle.works.specs.Laws.Taken.{size-is}
 use Rattle.table.specs.Timetable.{Move, Takes, moveBy, tableFrom, positions}
 use Rattle.table.specs.Timetable as T
-use Rattle.demands.specs.OpeningTests.{is-true, is-false}
+use Rattle.demands.specs.Laws.OpeningTests.{is-true, is-false}
 use Rattle.demands.specs.TimesEqual.{zeros-at, no-lengths}
 use Rattle.demands.specs.Horizon.{Beyond, Within}
 use Rattle.demands.specs.Timetables.{Steps, Walk, Closes}

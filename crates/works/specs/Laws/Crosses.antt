@@ -2,8 +2,8 @@
 -- position.
 use mathlib.Core.Path.{_≡_, refl, sym, ap, _∙_, subst}
 use mathlib.Core.Bool.{Bool, true, false, cond}
-use mathlib.Core.List.{List, [], _∷_}
-use Prim.Native.Nat.{ℕ, zero, suc, _+_, _≤_, _<_, max}
+use mathlib.Core.List.{List, _∷_}
+use Prim.Native.Nat.{ℕ, zero, suc, _+_, _≤_, _<_}
 use native.Mathlib.Omega.{arith}
 use native.Mathlib.Decide.{ℕ-discrete}
 use borrow.Author.Tests.{ltb-true}
@@ -22,19 +22,19 @@ use Rattle.activity.specs.Rules as Rules
 use Rattle.activity.specs.Tells.{Tells, holds, fails, tells-iff}
 use Rattle.automaton.specs.Rules.{MeetsAutomaton}
 use Rattle.limits.specs.Tells.{tells-ltb}
-use Rattle.behaviour.specs.Word.{Word, size, _▷_}
+use Rattle.behaviour.specs.Word.{size}
 use Rattle.behaviour.specs.Combined.{Ident, named, Is, NotClaim, Nodes, Joined, combined, identity}
 use Rattle.behaviour.specs.Accepted.{GoodWord}
 use Rattle.behaviour.specs.Times.{Timing}
 use Rattle.behaviour.specs.Engine.{Trace, startAt, endAt}
-use Rattle.behaviour.specs.Paths.{stepOf, wordOf, Follows, Lawful}
+use Rattle.behaviour.specs.Paths.{wordOf, Follows, Lawful}
 use Rattle.behaviour.specs.Theorems.{plan-times-only, plan-run-equal}
 use Rattle.behaviour.specs.Laws.TimesEqual.{Equal}
 use Rattle.behaviour.specs.Laws.Shape.{sort}
 use Rattle.behaviour.specs.Laws.Unique.{shape-of}
 use Rattle.behaviour.specs.Laws.Plans.{good-path}
 use Rattle.timing.specs.Times.{at}
-use Rattle.timing.specs.Queues.{pendingOf, instanceOf, floorOf}
+use Rattle.timing.specs.Queues.{pendingOf, floorOf}
 use Rattle.timing.specs.Engine.{lastPosition, heldOf, aboveOf, beyondOf, closedOf, emitsOf, timedOf}
 use Rattle.timing.specs.declared.Progress.{Progress}
 use Rattle.path.specs.Path.{takenBy}
@@ -44,7 +44,7 @@ use Rattle.demand.specs.Nodes.{lengthOf}
 use Rattle.demand.specs.Loading.{Exceeds, Beyond}
 use Rattle.demand.specs.TheWord.{stateAfter, wholeOf, Takes}
 use Rattle.demand.specs.Laws.TheWord.{takes-follows}
-use Rattle.works.specs.Engine.{stateOf, Possible, Advances, EngineLaws}
+use Rattle.works.specs.Engine.{Possible, Advances, EngineLaws}
 use Rattle.works.specs.Stands.{Stands}
 use Rattle.works.specs.Laws.Taken.{size-is, next-position, trace, runs-on, state-on, end-on}
 use Rattle.works.specs.Laws.Counts.{possible, pending-length}
@@ -52,7 +52,8 @@ use Rattle.works.specs.Laws.Loaded.{not-beyond}
 
 -- ---- by the engine
 
-data Crosses (p : Plan) (t : ℕ) (g : Progress) : Type 0 where
+-- the engine's times or its position pass a limit, where it stands at g
+pub data Crosses (p : Plan) (t : ℕ) (g : Progress) : Type 0 where
   completion : (n : ℕ) → n < length (emittedBy p (move (p .automaton) t .output)) → horizon < at (takenBy p t g .schedule .end) n → Crosses p t g
   availability : (r : ℕ) → r < p .resources → horizon < at (takenBy p t g .progress .available) r → Crosses p t g
   position : lastPosition < g .position → Crosses p t g
@@ -69,7 +70,7 @@ tells-times ts (suc k) i = step (tells-ltb horizon (at ts i)) (tells-times ts k 
     step (fails n) (fails m) =
         fails (λ s. elim (ℕ-discrete (s .0) i) [ yes z ↦ n (subst (λ (j : ℕ). horizon < at ts j) z (s .3)) | no z ↦ m (s .0, omega (arith, s .1, z), omega (arith, s .2), s .3) ])
 
-tells-crosses : (p : Plan) (t : ℕ) (g : Progress) → Tells (takenBy p t g .beyond) (Crosses p t g)
+pub tells-crosses : (p : Plan) (t : ℕ) (g : Progress) → Tells (takenBy p t g .beyond) (Crosses p t g)
 unfolding timedOf emitsOf closedOf beyondOf heldOf
 tells-crosses p t g =
     step (place _ (g .position) (next-position p t g))

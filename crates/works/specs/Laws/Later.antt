@@ -9,9 +9,10 @@ use Rattle.timing.specs.declared.Progress.{Progress}
 use Rattle.behaviour.specs.Combined.{Graph}
 use Rattle.run.specs.declared.Call.{Call}
 use Rattle.run.specs.declared.Reply.{Reply}
-use Rattle.log.specs.Log.{Id, Log, Said, said, Accepts, Tells}
+use Rattle.log.specs.Log.{Id, Log, Said, said, Accepts, Tells, Reports}
 use Rattle.log.specs.Log as Log
 use Rattle.demand.specs.TheWord.{Takes, none, goes, hears, Stuck, ended, waits}
+use Rattle.demand.specs.Loading.{Onward, PathBeyond, PathFull}
 use Rattle.works.specs.Stands.{idOf, ToldAs, Queued, Stands}
 
 -- what a longer log tells it takes
@@ -37,6 +38,28 @@ module _ (c : Call) (r : Reply) (log : Log) where
   pub stuck-later : (p : Plan) (is : List ℕ) → ((x : Id) → Silent x) → Stuck p log is → Stuck p (said c r ∷ log) is
   stuck-later p is s (ended e) = ended e
   stuck-later p is s (waits e n h) = waits e n (λ x o old. ⊎-elim (λ q. s x o q) (λ q. h x o old q))
+
+  -- it takes no more, and the next path after us stays what it is
+  takes-less : (p : Plan) (is : List ℕ) → ((x : Id) → Silent x) → Takes p (said c r ∷ log) is → Takes p log is
+  takes-less p is s none = none
+  takes-less p is s (goes h e) = goes (takes-less p _ s h) e
+  takes-less p is s (hears e o x h n old told m) = hears e o x (takes-less p _ s h) n old (⊎-elim (λ q. absurd (s x o q)) (λ q. q) told) m
+
+  onward-later : (p : Plan) (us vs : List ℕ) → Onward p log us vs → Onward p (said c r ∷ log) us vs
+  onward-later p us vs o = record { first = o .first; taken = takes-more p log (said c r) (o .first ∷ us) (o .taken); silent = o .silent }
+
+  pub beyond-later : (p : Plan) (available : ℕ → ℕ) (us : List ℕ) → PathBeyond p available log us → PathBeyond p available (said c r ∷ log) us
+  beyond-later p available us y = record { at = y .at; onward = onward-later p us (y .at) (y .onward); beyond = y .beyond }
+
+  pub full-later : (p : Plan) (available : ℕ → ℕ) (us : List ℕ) → ((x : Id) → Silent x) → ((x : Id) → Reports c r log x → ⊥) → PathFull p available log us → PathFull p available (said c r ∷ log) us
+  full-later p available us s n y =
+      let m = y .many in
+      record {
+        path = y .path;
+        next = record { onward = onward-later p us (y .path) (y .next .onward); rests = y .next .rests };
+        within = λ z. y .within (record { at = z .at; onward = record { first = z .onward .first; taken = takes-less p (z .onward .first ∷ us) s (z .onward .taken); silent = z .onward .silent }; beyond = z .beyond });
+        many = record { nodes = m .nodes; distinct = m .distinct; wait = λ x a. let w = m .wait x a in record { node = w .node; unreported = ⊎-elim (λ q. n x q) (λ q. w .unreported q) }; many = m .many };
+      }
 
   pub queued-later : (G : Graph) (e n : ℕ) (q : List Instance) → ((x : Id) → Silent x) → Queued G log e n q → Queued G (said c r ∷ log) e n q
   queued-later G e n q s h = record { past = h .past; count = h .count; listing = h .listing; told = λ x m. told-later (idOf x) (x .told) (s (idOf x)) (h .told x m) }

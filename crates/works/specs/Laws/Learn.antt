@@ -34,19 +34,22 @@ use Rattle.run.specs.declared.Halt.{Halt}
 use Rattle.run.specs.declared.Call.{Call}
 use Rattle.run.specs.declared.Reply.{Reply}
 use Rattle.run.specs.declared.Failure.{Failure}
+use Rattle.run.specs.Limits.{haltInLimits}
 use Rattle.run.specs.declared.Loading.{Loading}
-use Rattle.log.specs.Log.{Id, Log, Always, said, Accepts, Reports, Reported, FailedIn, StoppedIn, Fails, Stops}
+use Rattle.log.specs.Log.{Id, Log, Always, said, Accepts, Reports, Reported, StoppedIn}
 use Rattle.log.specs.Log as Log
 use Rattle.demand.specs.Machine.{World, idOf, Held}
-use Rattle.demand.specs.Way.{learns, Agrees, replyOf}
+use Rattle.demand.specs.Way.{learns, Agrees, haltOf, replyOf}
 use Rattle.demand.specs.Way as Way
-use Rattle.demand.specs.Loading.{Waits, Loads}
+use Rattle.demand.specs.Loading.{Waits, EndsAt, whole, beyond, full, Loads}
 use Rattle.demand.specs.Laws.Accounts.{always-map}
 use Rattle.demand.specs.OfPlan.{worldOf}
 use Rattle.demand.specs.Nodes.{whose, lengthOf}
 use Rattle.demand.specs.TheWord.{stateAfter, nextAfter, wholeOf, Oldest, Stuck, ended, waits}
 use Rattle.demand.specs.Laws.Invariant.{Invariant}
 use Rattle.demand.specs.Laws.Growth.{here, extends-self}
+use Rattle.demand.specs.Laws.Replies.{failed-stopped}
+use Rattle.demand.specs.Laws.Longest.{within-loads, loads-end, ends-whole, ends-beyond, ends-full}
 use Rattle.demand.specs.Laws.TheWord.{told-once, takes-follows}
 use Rattle.demand.specs.Laws.World.{old-position, new-start}
 use Rattle.demand.specs.OfRun.{machine}
@@ -56,23 +59,11 @@ use Rattle.works.specs.Laws.Bounds.{entry-within, vacant-passes}
 use Rattle.works.specs.Laws.Ways.{runOf, Calm, Goes, Learning}
 use Rattle.works.specs.Laws.Counts.{pending-length, pending-few}
 use Rattle.works.specs.Laws.Loaded.{Loaded}
-use Rattle.works.specs.Laws.Paths.{isTold, tolds, Rests, ended-goes, waits-goes}
+use Rattle.works.specs.Laws.Paths.{isTold, tolds}
 use Rattle.works.specs.Laws.Sums.{sum-at-most}
 use Rattle.works.specs.Laws.Further.{Onto, still, hearing, Furthered, further-loads, told}
-use Rattle.works.specs.Laws.Failing.{says}
 use Rattle.works.specs.Laws.Kinds.{kind-is}
 use Rattle.works.specs.Laws.Informed.{stands-informed}
-
-failed-stopped : (log : Log) → FailedIn log → StoppedIn log
-failed-stopped (y ∷ log) (inl q) = inl (go (y .reply) q)
-  where
-    go : (r : Reply) → Fails r → Stops r
-    go (Reply.Stopped s) q = tt
-failed-stopped (y ∷ log) (inr q) = inr (failed-stopped log q)
-
-stuck-rests : (p : Plan) (log : Log) (is : List ℕ) → Stuck p log is → Rests p is
-stuck-rests p log is (ended e) t q = ended-goes (sym e ∙ q)
-stuck-rests p log is (waits e n h) t q = waits-goes (sym n ∙ q)
 
 waits-same : {d e : ℕ} → Next.Waits d ≡ Next.Waits e → d ≡ e
 waits-same e = cc
@@ -87,6 +78,11 @@ tolds-few (x ∷ q) = let u = tolds-few q in let v = one (x .told) in omega arit
     one : (t : Told) → isTold t ≤ 1
     one Told.Nothing = omega arith
     one (Told.Outcome o) = omega arith
+
+failed-limits : (f : Failure) → haltInLimits (haltOf f) ≡ true
+failed-limits Failure.None = refl
+failed-limits Failure.Full = refl
+failed-limits Failure.Beyond = refl
 
 module _ (laws : EngineLaws) (p : Plan) (psi : Clock) (slack : ℕ) (given : Accepted p psi slack) (available : ℕ → ℕ) (log : Log) (is : List ℕ) (g : Progress) (w : List Entry) (last : Clock) (halt : Halt)
     (good : Good p psi slack available log is (runOf p psi slack given available g w last halt))
@@ -161,6 +157,7 @@ module _ (laws : EngineLaws) (p : Plan) (psi : Clock) (slack : ℕ) (given : Acc
         once = cleared-once w i (λ j k x y q r z. v .accounts .distinct j k x y q r (λ n. record { position = z .0 n; node = z .1 n }));
         all = λ x n. inl n;
         entries = stored-each (λ x. entryInLimits (p .activities) (p .sizes) x ≡ true) w i vacant (good .entries) (vacant-passes (p .activities) (p .sizes));
+        long = length-set w i vacant ∙ good .long;
       }
 
       few : told p (given .lawful) (given .automaton) available log1 is w1 laws psi slack t Halt.Going g1 ≤ mostPending
@@ -172,11 +169,6 @@ module _ (laws : EngineLaws) (p : Plan) (psi : Clock) (slack : ℕ) (given : Acc
           omega arith) in
           let x = given .lawful .file .limits .events in
           omega arith
-
-      loads : Furthered p (given .lawful) (given .automaton) available log1 is w1 laws psi slack t Halt.Going is g1 l
-      loads = further-loads p (given .lawful) (given .automaton) available log1 is w1 laws psi slack t Halt.Going mostPending is g1 w1 start (stuck-rests p log is before) few
-
-      -- ---- how loading ends, over words, times and reports
 
       reports-once : Always (λ y older. (x : Id) → Reports (y .call) (y .reply) older x → Reported older x → ⊥) log1
       reports-once = (λ x q r. v .accounts .unreported i e held (subst (Reported log) (sym (q .0)) r), always-map _ _ (λ y older h x q. h x q .once) log (v .accounts .reports))
@@ -196,10 +188,29 @@ module _ (laws : EngineLaws) (p : Plan) (psi : Clock) (slack : ℕ) (given : Acc
       old-report : (x : Id) → Reported log1 x → x .position < lengthOf is
       old-report x = ⊎-elim (λ r. subst (λ (z : Id). z .position < lengthOf is) (r .0) inside) (λ r. old-position p (given .lawful) available is (stateAfter p is) path x (v .accounts .reported-node x r))
 
-      says-loading : length w ≡ 512 → Loads p available log1 is (l .failure)
-      says-loading long =
-          says p (given .lawful) (given .automaton) available log1 is w1 laws psi slack t Halt.Going (told-once log1 reports-once) unreported held-still old-report
-          mostPending is g1 w1 start (stuck-rests p log is before) few (length-set w i vacant ∙ long)
+      loads : Furthered p (given .lawful) (given .automaton) available log1 is w1 laws psi slack t Halt.Going is g1 l
+      loads =
+          further-loads p (given .lawful) (given .automaton) available log1 is w1 laws psi slack t Halt.Going (told-once log1 reports-once) unreported held-still old-report
+          mostPending is g1 w1 start (good .rests) few
+
+      after-loading : l .failure ≡ f → Good p psi slack available log1 (loads .word) (runOf p psi slack given available (loads .progress) (loads .window) t (haltOf f))
+      after-loading q =
+          let x = loads in
+          let e = subst (EndsAt p available log1 (x .word)) q (loads-end p available log1 is (x .word) (l .failure) (x .says)) in
+          record {
+            same-plan = refl;
+            same-psi = refl;
+            same-slack = refl;
+            stands = x .loaded .stands;
+            rests = x .rests;
+            within = within-loads p available log1 is (x .word) (l .failure) (x .says) (good .within);
+            whole = ends-whole p available log1 (x .word) c log f e;
+            beyond = ends-beyond p available log1 (x .word) f e;
+            full = ends-full p available log1 (x .word) f e;
+            entries = x .loaded .entries;
+            long = x .loaded .long;
+            halt = failed-limits f;
+          }
 
       -- what is heard first is the outcome of this call
       heard-now : (d : ℕ) (x : Id) (u : ℕ) → nextAfter p is ≡ Next.Waits d → Log.Told log1 x u → (Log.Told log x u → ⊥) → idOf e ≡ x
@@ -243,26 +254,26 @@ module _ (laws : EngineLaws) (p : Plan) (psi : Clock) (slack : ℕ) (given : Acc
         subst (λ (r : Run). Goes p psi slack given available log is g w last halt good c (afterLoading Failure.None r)) (sym (x .same)) (
           x .word,
           learns i e Failure.None (record { going = going; last = refl; halt = refl }) calm held started (way Failure.None x),
-          record { same-plan = refl; same-psi = refl; same-slack = refl; stands = x .loaded .stands; rests = x .rests; whole = λ nf. x .whole q; entries = x .loaded .entries; halt = refl },
+          after-loading Failure.None q,
         )
     learnt-way Failure.Full q =
         let x = loads Failure.Full in
         subst (λ (r : Run). Goes p psi slack given available log is g w last halt good c (afterLoading Failure.Full r)) (sym (x .same)) (
           x .word,
           learns i e Failure.Full (record { going = going; last = refl; halt = refl }) calm held started (way Failure.Full x),
-          record { same-plan = refl; same-psi = refl; same-slack = refl; stands = x .loaded .stands; rests = x .rests; whole = λ nf. absurd (nf (inl tt)); entries = x .loaded .entries; halt = refl },
+          after-loading Failure.Full q,
         )
     learnt-way Failure.Beyond q =
         let x = loads Failure.Beyond in
         subst (λ (r : Run). Goes p psi slack given available log is g w last halt good c (afterLoading Failure.Beyond r)) (sym (x .same)) (
           x .word,
           learns i e Failure.Beyond (record { going = going; last = refl; halt = refl }) calm held started (way Failure.Beyond x),
-          record { same-plan = refl; same-psi = refl; same-slack = refl; stands = x .loaded .stands; rests = x .rests; whole = λ nf. absurd (nf (inl tt)); entries = x .loaded .entries; halt = refl },
+          after-loading Failure.Beyond q,
         )
 
-  pub learning-says : (t : Clock) (i : ℕ) (e : Entry) (ev o : ℕ) → halt ≡ Halt.Going → Calm p psi slack given available log is g w last halt good t → Holds w i e → isStarted (e .phase) ≡ true → kindOf run e ≡ Kind.Event ev → ltb o (outcomesOf p ev) ≡ true → length w ≡ 512
-      → Loads p available (said (Call.Outcome t (e .position) (e .node) o) Reply.Taken ∷ log) is (further mostPending (cleared run t i (toldOf g ev e o)) .failure)
-  learning-says t i e ev o going calm held started kind has = says-loading t i e ev o going calm held started kind has Failure.None
+  pub learning-says : (t : Clock) (i : ℕ) (e : Entry) (ev o : ℕ) → halt ≡ Halt.Going → Calm p psi slack given available log is g w last halt good t → Holds w i e → isStarted (e .phase) ≡ true → kindOf run e ≡ Kind.Event ev → ltb o (outcomesOf p ev) ≡ true
+      → (us : List ℕ) × Loads p available (said (Call.Outcome t (e .position) (e .node) o) Reply.Taken ∷ log) is us (further mostPending (cleared run t i (toldOf g ev e o)) .failure)
+  learning-says t i e ev o going calm held started kind has = let x = loads t i e ev o going calm held started kind has Failure.None in (x .word, x .says)
 
   pub learning : Learning p psi slack given available log is g w last halt good
   learning t i e ev o going calm held started kind has = learnt-way t i e ev o going calm held started kind has (further mostPending (cleared run t i (toldOf g ev e o)) .failure) refl

@@ -36,7 +36,7 @@ use Rattle.timing.specs.declared.Schedule.{Schedule}
 use Rattle.path.specs.Path.{isWork, loaded, activityNumber, takenBy, entriesBy}
 use Rattle.window.specs.Window.{vacant, isHeld, isStarted, placed, vacancies}
 use Rattle.window.specs.Places.{Holds, SameNode, Once}
-use Rattle.window.specs.Placed.{Took, placed-kept, placed-holds, placed-only, placed-each, placed-once, freePlace}
+use Rattle.window.specs.Placed.{Took, placed-length, placed-kept, placed-holds, placed-only, placed-each, placed-once, freePlace}
 use Rattle.window.specs.declared.Entry.{Entry}
 use Rattle.limits.specs.Window.{entryInLimits}
 use Rattle.log.specs.Log.{Id, id, Log}
@@ -130,6 +130,7 @@ module _ (p : Plan) (lawful : Lawful p) (automaton : MeetsAutomaton p) (availabl
     pub once : Once w
     pub all : (x : Id) → worldOf p available .Node us x → worldOf p available .Node base x ⊎ Held (Holds w) x
     pub entries : (j : ℕ) → entryInLimits (p .activities) (p .sizes) (getD w j vacant) ≡ true
+    pub long : length w ≡ 512
 
   module _ (laws : EngineLaws) (us : List ℕ) (g : Progress) (w : List Entry) (h : Loaded us g w) (t : ℕ) (next : Takes p log (t ∷ us)) (in-time : takenBy p t g .beyond ≡ false) where
     abbrev W : World
@@ -256,6 +257,7 @@ module _ (p : Plan) (lawful : Lawful p) (automaton : MeetsAutomaton p) (availabl
       once = placed-once w es (h .once) (λ k l x y q. different (g .position) number s 0 a k l x y (q .1)) unheld;
       all = all-held room;
       entries = placed-each w es (λ e. entryInLimits (p .activities) (p .sizes) e ≡ true) (h .entries) (λ k l. each (λ e. entryInLimits (p .activities) (p .sizes) e ≡ true) (λ n m x. entry-passes (p .activities) (p .sizes) (loaded (g .position) number s n) refl (new-within n m)) (getD es k vacant) (new-at k l));
+      long = placed-length w es ∙ h .long;
     }
       where
         further : Extends W us (t ∷ us)

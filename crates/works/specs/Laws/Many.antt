@@ -5,11 +5,11 @@ use mathlib.Core.List.{List, [], _∷_, _++_, map}
 use mathlib.Core.Logic.{_⊎_, inl, inr, ⊎-elim}
 use Prim.Native.Nat.{ℕ, zero, suc, _+_, _≤_, _<_}
 use native.Mathlib.Omega.{arith}
-use lib.ListN.{length, getD, length-append, length-map}
+use lib.ListN.{length, length-append, length-map}
 use Rattle.lists.specs.Lists.{Among, Distinct}
 use Rattle.plan.specs.declared.Plan.{Plan}
 use Rattle.behaviour.specs.Laws.Lists.{among-left, among-right, among-either, map-among, distinct-both, fewer}
-use Rattle.window.specs.Window.{vacant, isFree, isHeld, vacancies}
+use Rattle.window.specs.Window.{isFree, vacancies}
 use Rattle.window.specs.Tests.{by-test, unfree-held, held-unfree}
 use Rattle.window.specs.Places.{Holds, Once}
 use Rattle.window.specs.declared.Entry.{Entry}
@@ -73,6 +73,17 @@ ids-once (e ∷ w) o = by-test Distinct (isFree (e .phase)) _ _ (λ b. ids-once 
         let z = o 0 (suc (r .0)) e (r .1) (record { entry = refl; held = unfree-held (e .phase) b }) (record { entry = r .2 .entry; held = r .2 .held }) (ap (λ (x : Id). x .position) (sym (r .3)), ap (λ (x : Id). x .node) (sym (r .3))) in
         omega arith
 
+standing : (w : List Entry) (x : Id) → Held (Holds w) x → Among x (ids w)
+standing w x h = subst (λ (z : Id). Among z (ids w)) (h .3) (at-ids w (h .0) (h .1) (h .2))
+
+-- a window of 512 places that holds what waits is not passed
+pub room : (p : Plan) (log : Log) (us : List ℕ) (w : List Entry) → length w ≡ 512 → ((x : Id) → Waits p log us x → Held (Holds w) x) → TooMany p log us → ⊥
+room p log us w long held m =
+    let f = fewer (m .nodes) (ids w) (m .distinct) (λ x k. standing w x (held x (m .wait x k))) in
+    let u = ids-length w in
+    let y = m .many in
+    omega arith
+
 -- ---- a path that brings es after us, into the window w
 
 module _ (p : Plan) (log : Log) (us ws : List ℕ) (w es : List Entry) (long : length w ≡ 512) (once : Once w) (b : Brings p us ws es)
@@ -107,12 +118,9 @@ module _ (p : Plan) (log : Log) (us ws : List ℕ) (w es : List Entry) (long : l
 
   pub not-many : length es ≤ vacancies w → TooMany p log ws → ⊥
   not-many l m =
-      let f = fewer (m .nodes) (ids w ++ map idOf es) (m .distinct) (λ x k. ⊎-elim (λ n. among-left x (ids w) (map idOf es) (standing x n (m .wait x k .unreported))) (λ n. among-right x (ids w) (map idOf es) n) (b .all x (m .wait x k .node))) in
+      let f = fewer (m .nodes) (ids w ++ map idOf es) (m .distinct) (λ x k. ⊎-elim (λ n. among-left x (ids w) (map idOf es) (standing w x (held x (record { node = n; unreported = m .wait x k .unreported })))) (λ n. among-right x (ids w) (map idOf es) n) (b .all x (m .wait x k .node))) in
       let u = ids-length w in
       let v = length-append (ids w) (map idOf es) in
       let z = length-map es idOf in
       let y = m .many in
       omega arith
-    where
-      standing : (x : Id) → Work (wholeOf p us) x → (Reported log x → ⊥) → Among x (ids w)
-      standing x n u = let h = held x (record { node = n; unreported = u }) in subst (λ (z : Id). Among z (ids w)) (h .3) (at-ids w (h .0) (h .1) (h .2))

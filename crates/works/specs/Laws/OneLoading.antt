@@ -1,5 +1,5 @@
--- Words, their times and the reports say of loading one thing only.
-use mathlib.Core.Path.{_≡_, refl, sym, subst}
+-- Words, their times and the reports say of loading one thing only: what it reaches, and how it ends.
+use mathlib.Core.Path.{_≡_, refl, subst}
 use mathlib.Core.List.{List, _∷_}
 use Prim.Native.Nat.{ℕ}
 use Rattle.plan.specs.declared.Plan.{Plan}
@@ -7,7 +7,7 @@ use Rattle.behaviour.specs.Paths.{Lawful}
 use Rattle.run.specs.declared.Failure.{Failure}
 use Rattle.log.specs.Log.{Id, Log, Told}
 use Rattle.demand.specs.TheWord.{Takes, goes, Stuck}
-use Rattle.demand.specs.Loading.{Silently, stays, goes-on, NextPath, PathBeyond, TooMany, Loads, whole, beyond, full, later}
+use Rattle.demand.specs.Loading.{Silently, stays, goes-on, Onward, NextPath, PathBeyond, TooMany, EndsAt, whole, beyond, full, Loads, ends, later}
 use Rattle.demand.specs.Laws.TheWord.{last, step-same, not-stuck}
 use Rattle.works.specs.Laws.Silent.{one-rest}
 
@@ -25,24 +25,30 @@ module _ (p : Plan) (lawful : Lawful p) (available : ℕ → ℕ) (log : Log) (u
   path-takes : (us vs : List ℕ) → NextPath p log us vs → Takes p log vs
   path-takes us vs a = silent-takes (a .onward .first ∷ us) vs (a .onward .taken) (a .onward .silent)
 
-  stuck-first : (us : List ℕ) (t : ℕ) → Stuck p log us → Takes p log (t ∷ us) → ⊥
-  stuck-first us t s h = not-stuck p lawful log unique us t (last p log (t ∷ us) h .1) s
+  no-path : (us vs : List ℕ) → Stuck p log us → Onward p log us vs → ⊥
+  no-path us vs s o = not-stuck p lawful log unique us (o .first) (last p log (o .first ∷ us) (o .taken) .1) s
 
-  pub one-loading : {us : List ℕ} {f g : Failure} → Takes p log us → Loads p available log us f → Loads p available log us g → f ≡ g
-  one-loading h (whole s) (whole r) = refl
-  one-loading {us} h (whole s) (beyond y) = absurd (stuck-first us (y .onward .first) s (y .onward .taken))
-  one-loading {us} h (whole s) (full n nb m) = absurd (stuck-first us (n .onward .first) s (n .onward .taken))
-  one-loading {us} h (whole s) (later n nb m l) = absurd (stuck-first us (n .onward .first) s (n .onward .taken))
-  one-loading {us} h (beyond y) (whole s) = absurd (stuck-first us (y .onward .first) s (y .onward .taken))
-  one-loading h (beyond y) (beyond z) = refl
-  one-loading h (beyond y) (full n nb m) = absurd (nb y)
-  one-loading h (beyond y) (later n nb m l) = absurd (nb y)
-  one-loading {us} h (full n nb m) (whole s) = absurd (stuck-first us (n .onward .first) s (n .onward .taken))
-  one-loading h (full n nb m) (beyond y) = absurd (nb y)
-  one-loading h (full n nb m) (full k nc m′) = refl
-  one-loading {us} h (full {vs = vs} n nb m) (later {vs = ws} k nc few l) = absurd (few (subst (TooMany p log) (one-path us vs ws h n k) m))
-  one-loading {us} h (later n nb few l) (whole s) = absurd (stuck-first us (n .onward .first) s (n .onward .taken))
-  one-loading h (later n nb few l) (beyond y) = absurd (nb y)
-  one-loading {us} h (later {vs = vs} n nb few l) (full {vs = ws} k nc m) = absurd (few (subst (TooMany p log) (one-path us ws vs h k n) m))
-  one-loading {us} {f} {g} h (later {vs = vs} n nb few l) (later {vs = ws} k nc few′ l′) =
-      one-loading (path-takes us ws k) (subst (λ (z : List ℕ). Loads p available log z f) (one-path us vs ws h n k) l) l′
+  one-end : {us : List ℕ} {f g : Failure} → EndsAt p available log us f → EndsAt p available log us g → f ≡ g
+  one-end (whole s) (whole r) = refl
+  one-end {us} (whole s) (beyond y) = absurd (no-path us (y .at) s (y .onward))
+  one-end {us} (whole s) (full y) = absurd (no-path us (y .path) s (y .next .onward))
+  one-end {us} (beyond y) (whole s) = absurd (no-path us (y .at) s (y .onward))
+  one-end (beyond y) (beyond z) = refl
+  one-end (beyond y) (full z) = absurd (z .within y)
+  one-end {us} (full y) (whole s) = absurd (no-path us (y .path) s (y .next .onward))
+  one-end (full y) (beyond z) = absurd (y .within z)
+  one-end (full y) (full z) = refl
+
+  -- where loading ends it does not go on
+  at-end : {us vs : List ℕ} {f : Failure} → Takes p log us → EndsAt p available log us f → NextPath p log us vs → (PathBeyond p available log us → ⊥) → (TooMany p log vs → ⊥) → ⊥
+  at-end {us} {vs} h (whole s) n nb few = no-path us vs s (n .onward)
+  at-end h (beyond y) n nb few = nb y
+  at-end {us} {vs} h (full y) n nb few = few (subst (TooMany p log) (one-path us (y .path) vs h (y .next) n) (y .many))
+
+  -- it reaches one word, and ends in one way
+  pub one-loading : {us vs ws : List ℕ} {f g : Failure} → Takes p log us → Loads p available log us vs f → Loads p available log us ws g → (vs ≡ ws) × (f ≡ g)
+  one-loading h (ends a) (ends b) = (refl, one-end a b)
+  one-loading h (ends a) (later n nb few l) = absurd (at-end h a n nb few)
+  one-loading h (later n nb few l) (ends b) = absurd (at-end h b n nb few)
+  one-loading {us} {vs} {ws} {f} h (later {vs = xs} n nb few l) (later {vs = ys} k nc fewer l′) =
+      one-loading (path-takes us ys k) (subst (λ (z : List ℕ). Loads p available log z vs f) (one-path us xs ys h n k) l) l′

@@ -1,13 +1,13 @@
 -- An accepted opening gives a good run: in limits, with the first path loaded and at rest.
 use mathlib.Core.Path.{_≡_, refl, sym, ap, _∙_, subst}
-use mathlib.Core.Bool.{Bool, true, false, cond, _&&_, _||_, true≢false}
+use mathlib.Core.Bool.{true, false, _||_, true≢false}
 use mathlib.Core.Logic.{inl, ⊎-elim}
-use mathlib.Core.List.{List, [], _∷_, _++_, map}
-use Prim.Native.Nat.{ℕ, zero, suc, _+_, _*_, _-_, _≤_, _<_}
+use mathlib.Core.List.{List, [], _∷_, map}
+use Prim.Native.Nat.{ℕ, _*_, _-_, _≤_, _<_}
 use native.Mathlib.Omega.{arith}
-use native.Mathlib.Decide.{ℕ-discrete}
-use borrow.Author.Tests.{ltb-false, leb-false, eqb-true}
-use lib.Dec.{ltb, leb, eqb}
+use native.Mathlib.Decide.{decLt}
+use borrow.Author.Tests.{ltb-false, eqb-true}
+use lib.Dec.{ltb, eqb}
 use lib.ListN.{length, getD, replicate, length-append, length-map, length-replicate}
 use Rattle.lists.specs.Lists.{Among}
 use Rattle.lists.specs.Parts.{part}
@@ -16,7 +16,6 @@ use Rattle.time.specs.declared.Clock.{Clock}
 use Rattle.time.specs.declared.Specified.{Specified}
 use Rattle.plan.specs.Plan.{activityOf, resourceOf}
 use Rattle.plan.specs.Limits.{FileRules}
-use Rattle.plan.specs.declared.Node.{Node}
 use Rattle.plan.specs.declared.Plan.{Plan}
 use Rattle.plan.specs.declared.Verdict.{Verdict}
 use Rattle.activity.specs.Rules.{node, Meets}
@@ -32,46 +31,51 @@ use Rattle.timing.specs.Times.{specified, at}
 use Rattle.timing.specs.Queues.{noInstance, pendingOf, queueOf}
 use Rattle.timing.specs.declared.Instance.{Instance}
 use Rattle.timing.specs.declared.Progress.{Progress}
-use Rattle.path.specs.Path.{isWork, pathFrom, longestPath}
+use Rattle.path.specs.Path.{pathFrom, longestPath}
 use Rattle.window.specs.Window.{vacant, isHeld, vacancies}
 use Rattle.window.specs.Tests.{by-test}
-use Rattle.window.specs.Places.{Holds}
+use Rattle.window.specs.Places.{Holds, Once}
 use Rattle.window.specs.declared.Entry.{Entry}
 use Rattle.limits.specs.Window.{entryInLimits}
 use Rattle.run.specs.Limits.{slackInLimits}
 use Rattle.run.specs.Loading.{load}
 use Rattle.opening.specs.Given.{atFirst, availabilities, anyAbove}
-use Rattle.opening.specs.Short.{anyShort, shortFrom, onShort}
+use Rattle.opening.specs.Short.{shortFrom}
 use Rattle.opening.specs.declared.Short.{Short}
 use Rattle.opening.specs.Laws.{all-same, given-at, or-false, none-above}
 use Rattle.run.specs.Opening.{fresh, firstLoaded, begin, openPlan, openJudged, openOf}
 use Rattle.run.specs.Opening as Opening
+use Rattle.run.specs.declared.Stop.{Stop}
 use Rattle.run.specs.declared.Loading.{Loading}
 use Rattle.run.specs.declared.Unopened.{Unopened}
 use Rattle.run.specs.declared.Opening.{Opening as Outcome}
 use Rattle.run.specs.declared.Opened.{Opened as Answer}
 use Rattle.log.specs.Log.{Id}
 use Rattle.demand.specs.Works.{Opened}
-use Rattle.demand.specs.OfPlan.{worldOf, Outlast}
+use Rattle.demand.specs.OfPlan.{worldOf}
 use Rattle.demand.specs.TheWord.{none, wholeOf}
 use Rattle.demand.specs.Laws.Next.{lawful}
-use Rattle.demand.specs.Laws.Growth.{here, extends-self}
+use Rattle.demand.specs.Laws.Growth.{Tail, here, extends-self}
+use Rattle.demand.specs.Laws.Longest.{silent-before}
+use Rattle.demand.specs.Laws.Replies.{not-going}
 use Rattle.demand.specs.Laws.World.{old-position}
 use Rattle.demand.specs.OfRun.{machine}
-use Rattle.activity.specs.Tells.{Tells, tells-iff}
+use Rattle.activity.specs.Tells.{Tells, told-false, tells-iff}
+use Rattle.limits.specs.Tells.{tells-ltb}
+use Rattle.demand.specs.Machine.{Held}
 use Rattle.behaviour.specs.Combined.{Ident}
 use Rattle.path.specs.Path.{Path}
 use Rattle.demand.specs.Nodes.{Work}
-use Rattle.demand.specs.Loading.{Silently, stays, goes-on, Exceeds, Beyond, TooMany, FirstBeyond, FirstMany}
+use Rattle.demand.specs.Loading.{Silently, stays, goes-on, Exceeds, Beyond, Waits, TooMany, FirstBeyond, FirstMany}
 use Rattle.works.specs.Laws.Silent.{one-rest}
 use Rattle.works.specs.Laws.PathLimits.{Quiet, tells-quiet}
 use Rattle.works.specs.Laws.PathNodes.{low, Passes, passes-quiet}
 use Rattle.works.specs.Laws.Many.{too-many, not-many}
 use Rattle.works.specs.Engine.{stateOf, Settles, EngineLaws}
 use Rattle.works.specs.Stands.{identOf, Stands, Accepted, Good}
-use Rattle.works.specs.Laws.Bools.{and-false}
 use Rattle.works.specs.Laws.Bounds.{vacant-passes}
-use Rattle.works.specs.Laws.Loaded.{Loaded, working-work}
+use Rattle.works.specs.Laws.Short.{short-none, by-shortest}
+use Rattle.works.specs.Laws.Loaded.{Loaded}
 use Rattle.works.specs.Laws.Paths.{path-on}
 use Rattle.works.specs.Laws.Onward.{heard-if, stuck-if}
 
@@ -85,30 +89,6 @@ pub record Judged (p : Plan) : Type 0 where
 abbrev pub AcceptedLaws : List ℕ → Type 0
 AcceptedLaws bytes = (p : Plan) → judgeOf bytes ≡ accepted p → Judged p
 
--- ---- 33
-
-none-short : (slack : ℕ) (ns : List Node) → anyShort slack ns ≡ false → Outlast slack ns
-unfolding anyShort
-none-short slack [] e n l w = absurd (omega arith)
-none-short slack (x ∷ ns) e zero l w =
-    leb-false (x .duration) slack (and-false (isWork (x .kind)) (leb (x .duration) slack) (or-false (isWork (x .kind) && leb (x .duration) slack) (anyShort slack ns) e .0) (working-work (x .kind) w))
-none-short slack (x ∷ ns) e (suc n) l w = none-short slack ns (or-false (isWork (x .kind) && leb (x .duration) slack) (anyShort slack ns) e .1) n (omega arith) w
-
-short-none : (p : Plan) (slack k a : ℕ) → shortFrom p slack a k ≡ Short.Nothing → (b : ℕ) → a ≤ b → b < a + k → Outlast slack (activityOf p b)
-unfolding shortFrom
-short-none p slack zero a e b h l = absurd (omega arith)
-short-none p slack (suc k) a e b h l = go (anyShort slack (activityOf p a)) refl e (ℕ-discrete b a) (λ q m. short-none p slack k (a + 1) q b m (omega arith))
-  where
-    go : (c : Bool) → anyShort slack (activityOf p a) ≡ c → cond c (Short.Activity a) (shortFrom p slack (a + 1) k) ≡ Short.Nothing → Dec (b ≡ a)
-        → (shortFrom p slack (a + 1) k ≡ Short.Nothing → a + 1 ≤ b → Outlast slack (activityOf p b)) → Outlast slack (activityOf p b)
-    go true f q d more = absurd (let z : _≡_ {A = ℕ} 0 1 = cc in omega arith)
-    go false f q (yes z) more = subst (λ (n : ℕ). Outlast slack (activityOf p n)) (sym z) (none-short slack (activityOf p a) f)
-    go false f q (no z) more = more q (omega arith)
-
-by-shortest : {A : Type 0} (P : A → Type 0) (s : Short) (f : ℕ → A) (z : A) → ((a : ℕ) → P (f a)) → (s ≡ Short.Nothing → P z) → P (onShort s f z)
-by-shortest P Short.Nothing f z k g = g refl
-by-shortest P (Short.Activity a) f z k g = k a
-
 -- a word that passes a limit has a transition
 abbrev Some : List ℕ → Type 0
 Some [] = ⊥
@@ -118,6 +98,9 @@ exceeds-some : (p : Plan) (C : Ident → ℕ) (us : List ℕ) → Exceeds p C us
 exceeds-some p C us (Exceeds.completion n k i h) = tt
 exceeds-some p C us (Exceeds.availability x r l i h) = tt
 exceeds-some p C us (Exceeds.position l) = tt
+
+exceeds-none : (p : Plan) (available : ℕ → ℕ) (us : List ℕ) → Tail us [] → Beyond p available us → ⊥
+exceeds-none p available us here y = exceeds-some p (y .C) [] (y .exceeds)
 
 -- ---- the run at its opening
 
@@ -188,6 +171,7 @@ module _ (laws : EngineLaws) (p : Plan) (psi : Clock) (slack : ℕ) (given : Acc
     once = λ i j e f q r s. unheld i e q;
     all = λ x n. inl n;
     entries = λ j. subst (λ (e : Entry). entryInLimits (p .activities) (p .sizes) e ≡ true) (sym (all-same 512 j vacant)) (vacant-passes (p .activities) (p .sizes));
+    long = length-replicate 512 vacant;
   }
 
   -- ---- 44 and 43 of the opening, over words and times
@@ -213,22 +197,24 @@ module _ (laws : EngineLaws) (p : Plan) (psi : Clock) (slack : ℕ) (given : Acc
     low-first : (x : Id) → Work (wholeOf p []) x → x .position < 0
     low-first = low p (given .lawful) (given .automaton) available [] laws [] none
 
-    all-vacant : vacancies w ≡ 512
-    unfolding vacancies
-    all-vacant = refl
+    -- none of its transitions passes a limit
+    first-within : (vs : List ℕ) → Silently p [] vs → (us : List ℕ) → Tail us vs → Beyond p available us → ⊥
+    first-within vs s us c y = ⊎-elim (λ d. exceeds-none p available us d y) (λ q. told-false tells-first b (record { at = us; silent = q; beyond = y })) (silent-before p available [] vs us s c)
 
-    pub first-many : 512 < length (firstOf .entries) → FirstMany p
-    first-many l = record {
-      path = passed .word;
-      silent = passed .silent;
-      rests = passed .rests;
-      many = too-many p [] [] (passed .word) w (firstOf .entries) refl (λ i j e f h k s. unheld i e h) (passed .brings) (λ i e h. unheld i e h) (λ x q. absurd (let u = low-first x (q .node) in omega arith)) low-first (λ x r. absurd r) (let u = all-vacant in omega arith);
-    }
+    pub tells-many : Tells (ltb (vacancies w) (length (firstOf .entries))) (FirstMany p)
+    tells-many = tells-iff (λ l. record { path = passed .word; silent = passed .silent; rests = passed .rests; many = too-many p [] [] (passed .word) w (firstOf .entries) refl once (passed .brings) (λ i e h. unheld i e h) none-waits low-first (λ x r. absurd r) l }, λ m. go m (decLt (vacancies w) (length (firstOf .entries)))) (tells-ltb (vacancies w) (length (firstOf .entries)))
+      where
+        once : Once w
+        once i j e f h k s = unheld i e h
 
-    pub not-first-many : length (firstOf .entries) ≤ 512 → FirstMany p → ⊥
-    not-first-many l m =
-        not-many p [] [] (passed .word) w (firstOf .entries) refl (λ i j e f h k s. unheld i e h) (passed .brings) (λ i e h. unheld i e h) (λ x q. absurd (let u = low-first x (q .node) in omega arith)) low-first (λ x r. absurd r) (let u = all-vacant in omega arith)
-        (subst (TooMany p []) (one-rest p [] (m .path) (passed .word) (m .silent) (m .rests) (passed .silent) (passed .rests)) (m .many))
+        none-waits : (x : Id) → Waits p [] [] x → Held (Holds w) x
+        none-waits x q = absurd (let u = low-first x (q .node) in omega arith)
+
+        go : FirstMany p → Dec (vacancies w < length (firstOf .entries)) → vacancies w < length (firstOf .entries)
+        go m (yes l) = l
+        go m (no n) =
+            absurd (not-many p [] [] (passed .word) w (firstOf .entries) refl once (passed .brings) (λ i e h. unheld i e h) none-waits low-first (λ x r. absurd r) (omega arith)
+            (subst (TooMany p []) (one-rest p [] (m .path) (passed .word) (m .silent) (m .rests) (passed .silent) (passed .rests)) (m .many)))
 
   abbrev Well : Answer → Type 0
   Well a = a .opening ≡ Outcome.Opened → OpensWell psi slack ts a
@@ -252,8 +238,12 @@ module _ (laws : EngineLaws) (p : Plan) (psi : Clock) (slack : ℕ) (given : Acc
             same-slack = refl;
             stands = r .loaded .stands;
             rests = r .rests;
+            within = first-within b (r .word) (r .silent);
             whole = λ nf. stuck-if p (given .lawful) (given .automaton) available [] (r .word) _ (r .loaded .stands) laws (r .rests) (λ t e. heard-if p (given .lawful) (given .automaton) available [] (r .word) _ (r .loaded .stands) t e .told);
+            beyond = λ e. absurd (not-going Stop.Beyond (sym e));
+            full = λ e. absurd (not-going Stop.Full (sym e));
             entries = r .loaded .entries;
+            long = r .loaded .long;
             halt = refl;
           };
           going = refl;

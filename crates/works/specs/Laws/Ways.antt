@@ -6,7 +6,7 @@ use mathlib.Core.Logic.{_⊎_, inl, inr, ⊎-elim}
 use Prim.Native.Nat.{ℕ, suc, _+_, _≤_, _<_}
 use native.Mathlib.Omega.{arith}
 use lib.Dec.{ltb}
-use lib.ListN.{getD, set}
+use lib.ListN.{length, getD, set, length-set}
 use borrow.Author.Tests.{ltb-false}
 use Rattle.time.specs.declared.Clock.{Clock}
 use Rattle.plan.specs.Plan.{outcomesOf, isFinal}
@@ -23,7 +23,7 @@ use Rattle.window.specs.declared.Phase.{Phase}
 use Rattle.limits.specs.Window.{entryInLimits}
 use Rattle.run.specs.Limits.{runInLimits, haltInLimits}
 use Rattle.outcomes.specs.Told.{toldOf}
-use Rattle.run.specs.Calls.{answer, heard, cleared, kindOf, isDone, learnt, reported, completedBy, learnsBy, asked, completed, learns, timely, called, onHalt, askOf, completionOf, outcomeOf, callOf}
+use Rattle.run.specs.Calls.{answer, heard, cleared, kindOf, isDone, learnt, reported, completedBy, learnsBy, asked, completed, learns, timely, called, askOf, completionOf, outcomeOf, callOf}
 use Rattle.run.specs.Calls as Calls
 use Rattle.run.specs.declared.Run.{Run}
 use Rattle.run.specs.declared.Halt.{Halt}
@@ -32,14 +32,17 @@ use Rattle.run.specs.declared.Call.{Call}
 use Rattle.run.specs.declared.Reply.{Reply}
 use Rattle.run.specs.declared.Refusal.{Refusal}
 use Rattle.run.specs.declared.Answer.{Answer}
-use Rattle.log.specs.Log.{Id, Log, said, reading, Tells, Accepts}
+use Rattle.log.specs.Log.{Id, Log, said, reading, Failing, Tells, Accepts}
+use Rattle.log.specs.ByCases.{by-halt}
 use Rattle.demand.specs.Way.{Way, keeps, refuses, overdues, lates, begins, idles, completes, Turns, Clear, Clears, Marks, Answers}
 use Rattle.demand.specs.OfPlan.{worldOf}
 use Rattle.demand.specs.Laws.Invariant.{Invariant}
+use Rattle.demand.specs.Laws.Accounts.{no-report}
+use Rattle.demand.specs.Laws.Replies.{not-going}
 use Rattle.demand.specs.OfRun.{machine}
 use Rattle.works.specs.Stands.{Accepted, Good}
 use Rattle.works.specs.Laws.Bools.{and-left, and-right, and-false}
-use Rattle.works.specs.Laws.Later.{tells-not, stuck-later, stands-later}
+use Rattle.works.specs.Laws.Later.{tells-not, stuck-later, beyond-later, full-later, stands-later}
 use Rattle.works.specs.Laws.Bounds.{entry-passes, entry-within, vacant-passes, run-passes, late-passes}
 
 -- ---- the window
@@ -68,9 +71,9 @@ marks w i e h j f = (
 clears : (w : List Entry) (i : ℕ) → Clears (Holds w) (Holds (set w i vacant)) i
 clears w i j f = (λ q. cleared-only w i j f q, λ q. stored-kept w i vacant j f (q .0) (q .1))
 
-pub by-halt : {A : Type 0} (P : A → Type 0) (h : Halt) (f : Stop → A) (z : A) → ((s : Stop) → h ≡ Halt.Stopped s → P (f s)) → (h ≡ Halt.Going → P z) → P (onHalt h f z)
-by-halt P Halt.Going f z k g = g refl
-by-halt P (Halt.Stopped s) f z k g = k s refl
+abbrev FailedHalt : Halt → Type 0
+FailedHalt Halt.Going = ⊥
+FailedHalt (Halt.Stopped s) = Failing s
 
 -- ---- a run of an accepted opening
 
@@ -98,16 +101,21 @@ module _ (p : Plan) (psi : Clock) (slack : ℕ) (given : Accepted p psi slack) (
         → Goes (Call.Outcome t (e .position) (e .node) o) (learnt (cleared run t i (toldOf g ev e o)))
 
     -- nothing is told, and the word stays
-    stays-good : (c : Call) (r : Reply) → (Accepts r log → ⊥) ⊎ ((x : Id) (o : ℕ) → Tells c r log x o → ⊥) → (v : List Entry) (t : Clock) (h : Halt) → Entries v → haltInLimits h ≡ true
+    stays-good : (c : Call) (r : Reply) → (Accepts r log → ⊥) ⊎ ((x : Id) (o : ℕ) → Tells c r log x o → ⊥) → (v : List Entry) (t : Clock) (h : Halt) → Entries v → length v ≡ 512 → haltInLimits h ≡ true
+        → ((s : Stop) → Failing s → h ≡ Halt.Stopped s → (halt ≡ Halt.Stopped s) × (Accepts r log → ⊥))
         → Good p psi slack available (said c r ∷ log) is (runOf g v t h)
-    stays-good c r n v t h entries stop = record {
+    stays-good c r n v t h entries long stop old = record {
       same-plan = refl;
       same-psi = refl;
       same-slack = refl;
       stands = stands-later c r log p available is g silent (good .stands);
       rests = good .rests;
+      within = good .within;
       whole = λ nf. stuck-later c r log p is silent (good .whole (λ q. nf (inr q)));
+      beyond = λ e. beyond-later c r log p available is (good .beyond (old Stop.Beyond tt e .0));
+      full = λ e. let o = old Stop.Full tt e in full-later c r log p available is silent (λ x q. no-report c r log x (o .1) q) (good .full (o .0));
       entries = entries;
+      long = long;
       halt = stop;
     }
       where
@@ -115,7 +123,7 @@ module _ (p : Plan) (psi : Clock) (slack : ℕ) (given : Accepted p psi slack) (
         silent = ⊎-elim (λ a x o q. tells-not c r log a x o q) (λ a. a) n
 
     refuse : (c : Call) (f : Refusal) → halt ≡ Halt.Going → (f ≡ Refusal.OutOfLimits → ⊥) → Goes c (Calls.refuse run f)
-    refuse c f h n = (is, refuses h n refl, stays-good c (Reply.Refused f) (inl (λ a. a)) w last halt (good .entries) (good .halt))
+    refuse c f h n = (is, refuses h n refl, stays-good c (Reply.Refused f) (inl (λ a. a)) w last halt (good .entries) (good .long) (good .halt) (λ s x e. (e, λ a. a)))
 
     entry-of : (i : ℕ) (e : Entry) → Holds w i e → entryInLimits (p .activities) (p .sizes) e ≡ true
     entry-of i e h = subst (λ (x : Entry). entryInLimits (p .activities) (p .sizes) x ≡ true) (h .entry) (good .entries i)
@@ -146,7 +154,7 @@ module _ (p : Plan) (psi : Clock) (slack : ℕ) (given : Accepted p psi slack) (
             let held : Holds w i e = record { entry = f .stands; held = ap isHeld (q .0) } in (
               is,
               overdues {c = c} i e (record { going = h; last = rd; halt = refl }) (λ j x. (λ z. z, λ z. z)) held (ap isStarted (q .0)) (let u = q .1 in omega arith),
-              stays-good c (Reply.Stopped (Stop.Overdue (e .position) (e .node))) (inl (λ a. a .0)) w t (Halt.Stopped (Stop.Overdue (e .position) (e .node))) (good .entries) (late-passes p psi slack given e (held .held) (entry-of i e held)),
+              stays-good c (Reply.Stopped (Stop.Overdue (e .position) (e .node))) (inl (λ a. a .0)) w t (Halt.Stopped (Stop.Overdue (e .position) (e .node))) (good .entries) (good .long) (late-passes p psi slack given e (held .held) (entry-of i e held)) (λ s x z. absurd (subst FailedHalt (sym z) x)),
             )
 
         late : last .0 ≤ t .0 → (i : ℕ) (e : Entry) → First (isLate psi slack t) startsBefore w i e → Goes c (Calls.stops run t (Stop.Late (e .position) (e .node)))
@@ -155,7 +163,7 @@ module _ (p : Plan) (psi : Clock) (slack : ℕ) (given : Accepted p psi slack) (
             let held : Holds w i e = record { entry = f .stands; held = ap isHeld (q .0) } in (
               is,
               lates {c = c} i e (record { going = h; last = rd; halt = refl }) (λ j x. (λ z. z, λ z. z)) (omega arith) held (ap isStarted (q .0)) (let u = q .1 in omega arith),
-              stays-good c (Reply.Stopped (Stop.Late (e .position) (e .node))) (inl (λ a. a .0)) w t (Halt.Stopped (Stop.Late (e .position) (e .node))) (good .entries) (late-passes p psi slack given e (held .held) (entry-of i e held)),
+              stays-good c (Reply.Stopped (Stop.Late (e .position) (e .node))) (inl (λ a. a .0)) w t (Halt.Stopped (Stop.Late (e .position) (e .node))) (good .entries) (good .long) (late-passes p psi slack given e (held .held) (entry-of i e held)) (λ s x z. absurd (subst FailedHalt (sym z) x)),
             )
 
     -- ---- ask
@@ -177,8 +185,8 @@ module _ (p : Plan) (psi : Clock) (slack : ℕ) (given : Accepted p psi slack) (
     ask-way t h k =
         by-first (isDue psi t) startsBefore starts-order w (Goes (Call.Ask t)) _ _ (λ i e f. start i e f) λ none-due.
         by-test (λ (r : Reply). Goes (Call.Ask t) (answer r (heard run t Halt.Going g w))) (isDone run) Reply.Done Reply.Wait
-        (λ b. (is, idles (turns t w h) k tt (not-due none-due) (done b) (λ j x. (λ z. z, λ z. z)), stays-good (Call.Ask t) Reply.Done (inl (λ a. a)) w t Halt.Going (good .entries) refl))
-        (λ b. (is, idles (turns t w h) k tt (not-due none-due) (wait b) (λ j x. (λ z. z, λ z. z)), stays-good (Call.Ask t) Reply.Wait (inl (λ a. a)) w t Halt.Going (good .entries) refl))
+        (λ b. (is, idles (turns t w h) k tt (not-due none-due) (done b) (λ j x. (λ z. z, λ z. z)), stays-good (Call.Ask t) Reply.Done (inl (λ a. a)) w t Halt.Going (good .entries) (good .long) refl (λ s x z. absurd (not-going s (sym z)))))
+        (λ b. (is, idles (turns t w h) k tt (not-due none-due) (wait b) (λ j x. (λ z. z, λ z. z)), stays-good (Call.Ask t) Reply.Wait (inl (λ a. a)) w t Halt.Going (good .entries) (good .long) refl (λ s x z. absurd (not-going s (sym z)))))
       where
         start : (i : ℕ) (e : Entry) → First (isDue psi t) startsBefore w i e → Goes (Call.Ask t) (answer (Reply.Start (e .position) (e .activity) (e .node)) (heard run t Halt.Going g (set w i (startedOf e))))
         start i e f =
@@ -186,7 +194,7 @@ module _ (p : Plan) (psi : Clock) (slack : ℕ) (given : Accepted p psi slack) (
             let held : Holds w i e = record { entry = f .stands; held = ap isHeld (q .0) } in (
               is,
               begins i e (turns t (set w i (startedOf e)) h) k held (ap isStarted (q .0)) (q .1) (marks w i e held),
-              stays-good (Call.Ask t) (Reply.Start (e .position) (e .activity) (e .node)) (inl (λ a. a)) (set w i (startedOf e)) t Halt.Going (started-entries i e held) refl,
+              stays-good (Call.Ask t) (Reply.Start (e .position) (e .activity) (e .node)) (inl (λ a. a)) (set w i (startedOf e)) t Halt.Going (started-entries i e held) (length-set w i (startedOf e) ∙ good .long) refl (λ s x z. absurd (not-going s (sym z))),
             )
 
         not-due : NonePass (isDue psi t) w → (i : ℕ) (e : Entry) → Holds w i e → isStarted (e .phase) ≡ false → t .0 < psi .0 + e .start .0
@@ -241,7 +249,7 @@ module _ (p : Plan) (psi : Clock) (slack : ℕ) (given : Accepted p psi slack) (
           is,
           completes i e (turns t (set w i vacant) h) k held s (clears w i),
           stays-good (Call.Completion t (e .position) (e .node)) Reply.Taken (inr (λ x o q. q)) (set w i vacant) t Halt.Going
-              (stored-each (λ (x : Entry). entryInLimits (p .activities) (p .sizes) x ≡ true) w i vacant (good .entries) (vacant-passes (p .activities) (p .sizes))) refl,
+              (stored-each (λ (x : Entry). entryInLimits (p .activities) (p .sizes) x ≡ true) w i vacant (good .entries) (vacant-passes (p .activities) (p .sizes))) (length-set w i vacant ∙ good .long) refl (λ s x z. absurd (not-going s (sym z))),
         )
         by i e held s (Kind.Claim r) = refuse (Call.Completion t (e .position) (e .node)) Refusal.OtherKind h other-kind
         by i e held s (Kind.Release r) = refuse (Call.Completion t (e .position) (e .node)) Refusal.OtherKind h other-kind
@@ -265,7 +273,7 @@ module _ (p : Plan) (psi : Clock) (slack : ℕ) (given : Accepted p psi slack) (
     called-way v c t rd go k =
         by-test (Goes c) (runInLimits run) _ _
         (λ b. by-halt (Goes c) halt _ _
-        (λ s e. (is, keeps e refl, stays-good c (Reply.Stopped s) (inl (λ a. a .1 (v .halted s e))) w last halt (good .entries) (good .halt)))
+        (λ s e. (is, keeps e refl, stays-good c (Reply.Stopped s) (inl (λ a. a .1 (v .halted s e))) w last halt (good .entries) (good .long) (good .halt) (λ u x z. (z, λ a. a .1 (v .halted s e)))))
         (λ e. timely-way c t rd e go (k e)))
         (λ b. absurd (true≢false (sym (run-passes p psi slack given g w last halt (good .stands .within) (good .entries) (good .halt)) ∙ b)))
 

@@ -2,9 +2,9 @@
 use mathlib.Core.Path.{_≡_, refl, sym, _∙_, subst}
 use mathlib.Core.List.{List, _∷_}
 use mathlib.Core.Bool.{true}
+use mathlib.Core.Logic.{⊎-elim}
 use Prim.Native.Nat.{ℕ}
 use lib.Dec.{ltb}
-use lib.ListN.{length}
 use Rattle.time.specs.declared.Clock.{Clock}
 use Rattle.plan.specs.Plan.{outcomesOf}
 use Rattle.plan.specs.declared.Kind.{Kind}
@@ -16,6 +16,7 @@ use Rattle.outcomes.specs.Told.{toldOf}
 use Rattle.run.specs.Loading.{further, mostPending}
 use Rattle.run.specs.declared.Halt.{Halt}
 use Rattle.run.specs.declared.Reply.{Reply}
+use Rattle.run.specs.declared.Stop.{Stop}
 use Rattle.demand.specs.Loading.{Loads}
 use Rattle.run.specs.Calls.{kindOf, cleared, callOf}
 use Rattle.run.specs.declared.Run.{Run}
@@ -33,6 +34,7 @@ use Rattle.demand.specs.OfRun.{machine}
 use Rattle.works.specs.Engine.{EngineLaws}
 use Rattle.works.specs.Stands.{Accepted, Good}
 use Rattle.works.specs.Laws.Ways.{runOf, call-way}
+use Rattle.works.specs.Laws.Many.{room}
 use Rattle.works.specs.Laws.Learn.{learning, learning-says}
 use Rattle.works.specs.Laws.Words.{there-is}
 
@@ -45,18 +47,18 @@ module _ (laws : EngineLaws) (p : Plan) (psi : Clock) (slack : ℕ) (given : Acc
     same = λ i. record { plan = sym (good .same-plan) i; psi = sym (good .same-psi) i; slack = sym (good .same-slack) i; progress = run .progress; window = run .window; last = run .last; halt = run .halt }
 
     here : Good p psi slack available log is (runOf p psi slack given available (run .progress) (run .window) (run .last) (run .halt))
-    here = record { same-plan = refl; same-psi = refl; same-slack = refl; stands = good .stands; rests = good .rests; whole = good .whole; entries = good .entries; halt = good .halt }
+    here = record { same-plan = refl; same-psi = refl; same-slack = refl; stands = good .stands; rests = good .rests; within = good .within; whole = good .whole; beyond = good .beyond; full = good .full; long = good .long; entries = good .entries; halt = good .halt }
 
     v1 : Invariant (worldOf p available) machine (psi .0) slack is log (runOf p psi slack given available (run .progress) (run .window) (run .last) (run .halt))
     v1 = subst (Invariant (worldOf p available) machine (psi .0) slack is log) (sym same) v
 
     -- how loading after an accepted outcome ends
-    pub loading-says : length (run .window) ≡ 512 → (t : Clock) (i : ℕ) (e : Entry) (ev o : ℕ) → run .halt ≡ Halt.Going → Clear (psi .0) slack (run .last .0) (Holds (run .window)) (t .0) → Holds (run .window) i e → isStarted (e .phase) ≡ true
+    pub loading-says : (t : Clock) (i : ℕ) (e : Entry) (ev o : ℕ) → run .halt ≡ Halt.Going → Clear (psi .0) slack (run .last .0) (Holds (run .window)) (t .0) → Holds (run .window) i e → isStarted (e .phase) ≡ true
         → kindOf run e ≡ Kind.Event ev → ltb o (outcomesOf p ev) ≡ true
-        → Loads p available (said (Call.Outcome t (e .position) (e .node) o) Reply.Taken ∷ log) is (further mostPending (cleared run t i (toldOf (run .progress) ev e o)) .failure)
-    loading-says long t i e ev o going calm held started =
-        subst (λ (r : Run). kindOf r e ≡ Kind.Event ev → ltb o (outcomesOf p ev) ≡ true → Loads p available (said (Call.Outcome t (e .position) (e .node) o) Reply.Taken ∷ log) is (further mostPending (cleared r t i (toldOf (run .progress) ev e o)) .failure)) same
-        (λ kind has. learning-says laws p psi slack given available log is (run .progress) (run .window) (run .last) (run .halt) here v1 t i e ev o going calm held started kind has long)
+        → (us : List ℕ) × Loads p available (said (Call.Outcome t (e .position) (e .node) o) Reply.Taken ∷ log) is us (further mostPending (cleared run t i (toldOf (run .progress) ev e o)) .failure)
+    loading-says t i e ev o going calm held started =
+        subst (λ (r : Run). kindOf r e ≡ Kind.Event ev → ltb o (outcomesOf p ev) ≡ true → (us : List ℕ) × Loads p available (said (Call.Outcome t (e .position) (e .node) o) Reply.Taken ∷ log) is us (further mostPending (cleared r t i (toldOf (run .progress) ev e o)) .failure)) same
+        (λ kind has. learning-says laws p psi slack given available log is (run .progress) (run .window) (run .last) (run .halt) here v1 t i e ev o going calm held started kind has)
 
   ways : (log : Log) (is : List ℕ) (run : Run) → Good p psi slack available log is run → Invariant (worldOf p available) machine (psi .0) slack is log run → (c : Call) → Stays log is c run
   ways log is run good v c =
@@ -72,10 +74,16 @@ module _ (laws : EngineLaws) (p : Plan) (psi : Clock) (slack : ℕ) (given : Acc
     ways = ways;
   }
 
-  pub by-the-log : (log : Log) (is : List ℕ) (run : Run) → Good p psi slack available log is run → ByTheLog p log is
-  by-the-log log is run good = record {
+  pub by-the-log : (log : Log) (is : List ℕ) (run : Run) → Good p psi slack available log is run → Invariant (worldOf p available) machine (psi .0) slack is log run → ByTheLog p available log is
+  by-the-log log is run good v = record {
     taken = good .stands .taken;
-    rests = good .rests;
+    fits = record {
+      rests = good .rests;
+      within = good .within;
+      room = room p log is (run .window) (good .long) (λ x q. ⊎-elim (λ h. h) (λ r. absurd (q .unreported r)) (v .accounts .held x (q .node)));
+    };
     whole = good .whole;
+    beyond = λ q. good .beyond (v .stopped Stop.Beyond q);
+    full = λ q. good .full (v .stopped Stop.Full q);
     word = there-is p (given .lawful) (given .automaton) log laws available is (run .progress) (good .stands);
   }

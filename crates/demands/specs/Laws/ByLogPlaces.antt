@@ -2,12 +2,10 @@
 -- the conditions over places (Conditions) and those over nodes (ByLog) are the same.
 use mathlib.Core.Path.{_≡_, refl, sym, ap, _∙_, subst}
 use mathlib.Core.Bool.{Bool, true, false, true≢false}
-use mathlib.Core.List.{List, [], _∷_}
-use mathlib.Core.Logic.{_⊎_, inl, inr, _↔_}
-use Prim.Native.Nat.{ℕ, _+_, _≤_, _<_}
+use mathlib.Core.List.{List}
+use Prim.Native.Nat.{ℕ, _<_}
 use native.Mathlib.Omega.{arith}
 use Rattle.time.specs.declared.Clock.{Clock}
-use Rattle.plan.specs.Plan.{resourceOf}
 use Rattle.plan.specs.declared.Kind.{Kind}
 use Rattle.behaviour.specs.Combined.{Ident, Is}
 use Rattle.behaviour.specs.Paths.{Follows, Lawful}
@@ -15,19 +13,18 @@ use Rattle.behaviour.specs.Laws.Plans.{good-path}
 use Rattle.window.specs.Window.{before, startsBefore, isHeld, isStarted}
 use Rattle.window.specs.Tests.{started-true}
 use Rattle.window.specs.Order.{AtMost, earlier, position, node, not-before, at-most-not, at-most-both}
-use Rattle.window.specs.Places.{Holds}
 use Rattle.window.specs.declared.Entry.{Entry}
 use Rattle.window.specs.declared.Phase.{Phase}
 use Rattle.run.specs.declared.Run.{Run}
 use Rattle.run.specs.declared.Call.{Call}
 use Rattle.run.specs.Calls.{kindOf}
-use Rattle.log.specs.Log.{Id, id, Log, Started, FailedIn}
+use Rattle.log.specs.Log.{Id, Log, Started, FailedIn}
 use Rattle.demand.specs.Machine.{idOf}
-use Rattle.demand.specs.Nodes.{whose, EmitsAt}
+use Rattle.demand.specs.Nodes.{whose}
 use Rattle.demand.specs.TheWord.{stateAfter, wholeOf}
 use Rattle.demand.specs.Demand.{Demand3, OfTheWord}
 use Rattle.works.specs.Laws.Kinds.{kind-is}
-use Rattle.demands.specs.Conditions.{entryAt, OverdueAt, LateAt, DueAt, NodeAt, NamedAt, FirstOf}
+use Rattle.demands.specs.Conditions.{entryAt, OverdueAt, LateAt, DueAt, NamedAt, FirstOf}
 use Rattle.demands.specs.ByLog.{Known, Open, Overdue, Late, Due, NotAfter, Earliest, Names}
 
 held-loaded : (s : Phase) → isHeld s ≡ true → (isStarted s ≡ true → ⊥) → s ≡ Phase.Loaded
@@ -35,7 +32,7 @@ held-loaded Phase.Free h n = absurd (true≢false (sym h))
 held-loaded Phase.Loaded h n = refl
 held-loaded Phase.Started h n = absurd (n refl)
 
-module _ (run : Run) (log : Log) (is : List ℕ) (S C : Ident → ℕ) (available : ℕ → ℕ) (d : Demand3 (run .plan) (run .psi .0) (run .slack) is S C (record { log = log; run = run })) (nf : FailedIn log → ⊥) where
+module _ (run : Run) (log : Log) (is : List ℕ) (S C : Ident → ℕ) (available : ℕ → ℕ) (d : Demand3 (run .plan) (run .psi .0) (run .slack) available is S C (record { log = log; run = run })) (nf : FailedIn log → ⊥) where
   abbrev pub known : Known
   known = record { plan = run .plan; psi = run .psi .0; slack = run .slack; available = available; word = is; S = S; C = C; log = log }
 

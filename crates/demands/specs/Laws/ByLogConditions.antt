@@ -1,12 +1,12 @@
 -- Of a run whose window is what demand 3 says, the condition of each reply over its places is the one over the log.
 use mathlib.Core.Path.{_≡_, refl, sym, ap, _∙_, subst}
 use mathlib.Core.Bool.{true, true≢false}
-use mathlib.Core.List.{List, [], _∷_}
+use mathlib.Core.List.{List, _∷_}
 use mathlib.Core.Logic.{inl, inr, ⊎-elim, _↔_}
-use Prim.Native.Nat.{ℕ, _≤_, _<_}
+use Prim.Native.Nat.{ℕ, _<_}
 use native.Mathlib.Omega.{arith}
 use Rattle.time.specs.declared.Clock.{Clock}
-use Rattle.plan.specs.Plan.{isFinal, outcomesOf}
+use Rattle.plan.specs.Plan.{isFinal}
 use Rattle.plan.specs.declared.Kind.{Kind}
 use Rattle.plan.specs.declared.Output.{Output}
 use Rattle.plan.specs.declared.Plan.{Plan}
@@ -23,15 +23,16 @@ use Rattle.run.specs.declared.Reply.{Reply}
 use Rattle.run.specs.declared.Refusal.{Refusal}
 use Rattle.run.specs.declared.Failure.{Failure}
 use Rattle.run.specs.Calls.{readingOf, kindOf}
-use Rattle.log.specs.Log.{Id, id, Log, reading, Stops, StoppedIn, Started, FailedIn}
+use Rattle.log.specs.Log.{Id, id, Log, reading, Stops, StoppedIn, StoppedBy, Started, FailedIn}
 use Rattle.demand.specs.Nodes.{whose, lengthOf, EmitsAt, here, earlier}
 use Rattle.demand.specs.TheWord.{stateAfter, wholeOf}
 use Rattle.demand.specs.Demand.{Demand3}
+use Rattle.demands.specs.Laws.AfterCalls.{going-stopped}
 use Rattle.demands.specs.InLimits.{RunInLimits}
-use Rattle.demands.specs.Conditions.{entryAt, DueAt, FirstOf, IsReport, IsAction, IsEvent, RightKind, Condition, NamedAt, loadingAfter}
+use Rattle.demands.specs.Conditions.{entryAt, DueAt, FirstOf, IsReport, IsAction, RightKind, Condition, NamedAt, loadingAfter}
 use Rattle.demands.specs.Conditions as Places
-use Rattle.demands.specs.ByLog.{Known, lastReading, StoppedBy, Open, Overdue, Late, Earliest, Rises, NotOverdue, Timely, Names, Reports, Refuses, Learns, Ended, Asks, After, Halts, Takes, Answered}
-use Rattle.demands.specs.ByLogPlaces.{known, nodeOf, IsHeld, of-word, stands-at, at-stands, started-at, at-started, unstarted-at, at-unstarted, overdue-to, overdue-from, late-to, late-from, due-to, due-from, overdue-earliest, overdue-first, late-earliest, late-first, due-earliest, due-first, named-to, named-from, named-first, kind-same, kind-at}
+use Rattle.demands.specs.ByLog.{Known, lastReading, Open, Overdue, Late, Earliest, Rises, NotOverdue, Timely, Names, Reports, Refuses, Learns, Ended, Asks, After, Halts, Takes, Answered}
+use Rattle.demands.specs.Laws.ByLogPlaces.{known, nodeOf, IsHeld, of-word, stands-at, at-stands, started-at, at-started, unstarted-at, at-unstarted, overdue-to, overdue-from, late-to, late-from, due-to, due-from, overdue-earliest, overdue-first, late-earliest, late-first, due-earliest, due-first, named-to, named-from, named-first, kind-same, kind-at}
 
 reading-is : (c : Call) → readingOf c .0 ≡ reading c
 reading-is (Call.Ask t) = refl
@@ -45,12 +46,9 @@ pub stopped-by : (log : Log) → StoppedIn log → (s : Stop) × StoppedBy log s
 stopped-by (y ∷ log) (inl q) = let r = is-stop (y .reply) q in (r .0, inl (r .1))
 stopped-by (y ∷ log) (inr q) = let r = stopped-by log q in (r .0, inr (r .1))
 
-stopped-in : (log : Log) (s : Stop) → StoppedBy log s → StoppedIn log
+pub stopped-in : (log : Log) (s : Stop) → StoppedBy log s → StoppedIn log
 stopped-in (y ∷ log) s (inl q) = inl (subst Stops (sym q) tt)
 stopped-in (y ∷ log) s (inr q) = inr (stopped-in log s q)
-
-going-stopped : {A : Type 0} {s : Stop} → Halt.Going ≡ Halt.Stopped s → A
-going-stopped e = absurd (let z : _≡_ {A = ℕ} 0 1 = cc in omega arith)
 
 -- the activity at a position is one
 emits-below : (p : Plan) (is : List ℕ) (q a : ℕ) → EmitsAt p is q a → q < lengthOf is
@@ -71,7 +69,7 @@ free-phase Phase.Free e = refl
 free-phase Phase.Loaded e = absurd (true≢false (sym e))
 free-phase Phase.Started e = absurd (true≢false (sym e))
 
-module _ (run : Run) (log : Log) (is : List ℕ) (S C : Ident → ℕ) (available : ℕ → ℕ) (d : Demand3 (run .plan) (run .psi .0) (run .slack) is S C (record { log = log; run = run })) (nf : FailedIn log → ⊥)
+module _ (run : Run) (log : Log) (is : List ℕ) (S C : Ident → ℕ) (available : ℕ → ℕ) (d : Demand3 (run .plan) (run .psi .0) (run .slack) available is S C (record { log = log; run = run })) (nf : FailedIn log → ⊥)
     (lawful : Lawful (run .plan)) (path : Follows (run .plan) (run .plan .automaton .initial) is (stateAfter (run .plan) is))
     (limits : RunInLimits run) (place : run .progress .state ≡ stateAfter (run .plan) is)
     (last : (StoppedIn log → ⊥) → run .last .0 ≡ lastReading log) (halted : (s : Stop) → (run .halt ≡ Halt.Stopped s) ↔ StoppedBy log s)

@@ -14,8 +14,6 @@ use Rattle.window.specs.Tests.{by-test, started-true}
 use Rattle.window.specs.Order.{starts-order, ends-order}
 use Rattle.window.specs.Places.{empty-none, none-empty}
 use Rattle.run.specs.declared.Run.{Run}
-use Rattle.run.specs.declared.Halt.{Halt}
-use Rattle.run.specs.declared.Stop.{Stop}
 use Rattle.run.specs.declared.Call.{Call}
 use Rattle.run.specs.declared.Reply.{Reply}
 use Rattle.run.specs.declared.Answer.{Answer}
@@ -23,10 +21,11 @@ use Rattle.run.specs.declared.Refusal.{Refusal}
 use Rattle.run.specs.declared.Failure.{Failure}
 use Rattle.run.specs.Limits.{runInLimits}
 use Rattle.activity.specs.Tells.{told-false}
+use Rattle.log.specs.ByCases.{by-halt}
 use Rattle.demands.specs.InLimitsIff.{tells-run, in-limits}
-use Rattle.run.specs.Calls.{refuse, readingOf, isDone, asked, kindOf, completedBy, completed, afterLoading, learnsBy, learns, onHalt, timely, called, askOf, completionOf, outcomeOf, callOf}
+use Rattle.run.specs.Calls.{refuse, readingOf, isDone, asked, kindOf, completedBy, completed, afterLoading, learnsBy, learns, timely, called, askOf, completionOf, outcomeOf, callOf}
 use Rattle.demands.specs.Conditions.{entryAt, OverdueAt, LateAt, DueAt, NodeAt, Going, Rises, NotOverdue, Timely, Reports, Learns, loadingAfter, Ended, Refuses, Halts, Asks, Takes, Condition}
-use Rattle.demands.specs.FirstPlaces.{by-place, overdue-places, late-places, due-places, node-places}
+use Rattle.demands.specs.Laws.FirstPlaces.{by-place, overdue-places, late-places, due-places, node-places}
 
 -- the reply of the answer comes in its condition
 pub record MetBy (run : Run) (c : Call) (a : Answer) : Type 0 where
@@ -36,10 +35,6 @@ refused : (run : Run) (c : Call) (f : Refusal) → Refuses run c f → MetBy run
 refused run c f h = record { condition = h }
 
 -- ---- the order of checks
-
-by-halt : {A : Type 0} (P : A → Type 0) (h : Halt) (f : Stop → A) (z : A) → ((s : Stop) → h ≡ Halt.Stopped s → P (f s)) → (h ≡ Halt.Going → P z) → P (onHalt h f z)
-by-halt P Halt.Going f z p q = q refl
-by-halt P (Halt.Stopped s) f z p q = p s refl
 
 module _ (run : Run) (c : Call) (go : Answer) (next : Timely run (readingOf c) → MetBy run c go) where
   met-timely : Going run → MetBy run c (timely run (readingOf c) go)

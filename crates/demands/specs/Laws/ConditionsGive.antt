@@ -23,9 +23,9 @@ use Rattle.run.specs.Calls.{answer, refuse, stops, readingOf, isDone, asked, ki
 use Rattle.demands.specs.Conditions.{entryAt, OverdueAt, LateAt, DueAt, NodeAt, NamedAt, IsReport, RightKind, IsAction, IsEvent, Nowhere, FirstOf, Going, Rises, NotOverdue, Timely, Reports, Learns, loadingAfter, Ended, Refuses, Halts, Asks, Takes, Condition}
 use Rattle.demands.specs.InLimits.{RunInLimits}
 use Rattle.demands.specs.InLimitsIff.{tells-run, in-limits}
-use Rattle.demands.specs.OpeningTests.{is-false}
-use Rattle.demands.specs.FirstPlaces.{first-place, none-place, overdue-places, late-places, due-places, node-places}
-use Rattle.demands.specs.ConditionsMet.{done-ended, ended-done}
+use Rattle.demands.specs.Laws.OpeningTests.{is-false}
+use Rattle.demands.specs.Laws.FirstPlaces.{first-place, none-place, overdue-places, late-places, due-places, node-places}
+use Rattle.demands.specs.Laws.ConditionsMet.{done-ended, ended-done}
 
 abbrev replyOf : Answer → Reply
 replyOf a = a .reply

@@ -1,37 +1,28 @@
 -- Every test of an opening tells its condition.
 use mathlib.Core.Path.{_≡_, refl, ap, subst}
 use mathlib.Core.Bool.{Bool, true, false, cond, _||_}
-use mathlib.Core.List.{List, [], _∷_, _++_}
+use mathlib.Core.List.{List, [], _∷_}
 use mathlib.Core.Logic.{_⊎_, inl, inr, ⊎-elim}
 use Prim.Native.Nat.{ℕ, zero, suc, _+_, _≤_, _<_}
 use native.Mathlib.Omega.{arith}
 use native.Mathlib.Decide.{ℕ-discrete, decLt}
 use lib.Dec.{ltb}
-use lib.ListN.{length, getD, replicate}
+use lib.ListN.{length, getD}
 use Rattle.time.specs.Time.{horizon}
 use Rattle.time.specs.declared.Clock.{Clock}
-use Rattle.time.specs.declared.Specified.{Specified}
-use Rattle.plan.specs.Plan.{pastNode, activityOf, emittedBy, move}
+use Rattle.plan.specs.Plan.{pastNode, activityOf}
 use Rattle.plan.specs.declared.Kind.{Kind}
 use Rattle.plan.specs.declared.Node.{Node}
 use Rattle.plan.specs.declared.Plan.{Plan}
 use Rattle.activity.specs.Tells.{Tells, holds, fails, tells-iff, tells-and, tells-or}
 use Rattle.limits.specs.Tells.{tells-ltb, tells-leb}
-use Rattle.automaton.specs.Next.{nextOf}
-use Rattle.automaton.specs.declared.Next.{Next}
-use Rattle.timing.specs.Times.{at}
-use Rattle.timing.specs.Engine.{lastPosition, aboveOf, heldOf, beyondOf, closedOf, emitsOf, timedOf}
-use Rattle.timing.specs.declared.Progress.{Progress}
-use Rattle.window.specs.Window.{vacant, vacancies}
-use Rattle.window.specs.declared.Entry.{Entry}
-use Rattle.path.specs.Path.{Path, isWork, takenBy, entriesBy, pathFrom}
+use Rattle.path.specs.Path.{isWork}
 use Rattle.run.specs.Limits.{slackInLimits}
 use Rattle.opening.specs.declared.Short.{Short}
 use Rattle.opening.specs.Short.{onShort, anyShort, shortFrom}
 use Rattle.opening.specs.Given.{anyAbove}
 use Rattle.demand.specs.Nodes.{Working}
-use Rattle.works.specs.Laws.Taken.{next-position}
-use Rattle.demands.specs.Openings.{TimeAbove, SlackOutside, HasShort, LowestShort, Exceeds, PathExceeds}
+use Rattle.demands.specs.Openings.{TimeAbove, SlackOutside, HasShort, LowestShort}
 
 -- ---- a test that tells P
 
@@ -147,75 +138,3 @@ module _ (p : Plan) (slack : ℕ) where
   pub none-is : {s : Short} → Finds (λ b. SomeShort slack (activityOf p b)) 0 (p .activities) s → ((a : ℕ) → HasShort p slack a → ⊥) → s ≡ Short.Nothing
   none-is (nothing g) n = refl
   none-is (lowest {c} l m s g) n = absurd (n c (has-short c (omega arith) s))
-
--- ---- 44 and 43
-
-tells-times : (ts : List Specified) (k i : ℕ) → Tells (aboveOf ts i k) ((j : ℕ) × (i ≤ j) × (j < i + k) × (horizon < at ts j))
-unfolding aboveOf
-tells-times ts zero i = fails (λ s. omega (arith, s .1, s .2))
-tells-times ts (suc k) i = step (tells-ltb horizon (at ts i)) (tells-times ts k (i + 1))
-  where
-    step : {b c : Bool} → Tells b (horizon < at ts i) → Tells c ((j : ℕ) × (i + 1 ≤ j) × (j < i + 1 + k) × (horizon < at ts j))
-        → Tells (cond b true c) ((j : ℕ) × (i ≤ j) × (j < i + suc k) × (horizon < at ts j))
-    step (holds h) t = holds (i, omega arith, omega arith, h)
-    step (fails n) (holds s) = holds (s .0, omega (arith, s .1), omega (arith, s .2), s .3)
-    step (fails n) (fails m) =
-        fails (λ s. elim (ℕ-discrete (s .0) i) [ yes z ↦ n (subst (λ (j : ℕ). horizon < at ts j) z (s .3)) | no z ↦ m (s .0, omega (arith, s .1, z), omega (arith, s .2), s .3) ])
-
-pub tells-full : (n : ℕ) → Tells (ltb (vacancies (replicate 512 vacant)) n) (512 < n)
-unfolding vacancies
-tells-full n = tells-ltb 512 n
-
--- one transition
-pub tells-exceeds : (p : Plan) (t : ℕ) (g : Progress) → Tells (takenBy p t g .beyond) (Exceeds p t g)
-unfolding timedOf emitsOf closedOf beyondOf heldOf
-tells-exceeds p t g =
-    step (place _ (g .position) (next-position p t g))
-    (tells-times (takenBy p t g .schedule .end) (length (emittedBy p (move (p .automaton) t .output))) 0)
-    (tells-times (takenBy p t g .progress .available) (p .resources) 0)
-  where
-    place : (x y : ℕ) → x + 1 ≡ y + 1 → Tells (ltb lastPosition x) (lastPosition < y)
-    place x y e = tells-iff (λ l. omega arith, λ l. omega arith) (tells-ltb lastPosition x)
-
-    step : {b c d : Bool} → Tells b (lastPosition < g .position)
-        → Tells c ((n : ℕ) × (0 ≤ n) × (n < 0 + length (emittedBy p (move (p .automaton) t .output))) × (horizon < at (takenBy p t g .schedule .end) n))
-        → Tells d ((r : ℕ) × (0 ≤ r) × (r < 0 + p .resources) × (horizon < at (takenBy p t g .progress .available) r))
-        → Tells (cond b true (cond c true d)) (Exceeds p t g)
-    step (holds l) x y = holds (Exceeds.position l)
-    step (fails m) (holds s) y = holds (Exceeds.completion (s .0) (omega (arith, s .2)) (s .3))
-    step (fails m) (fails n) (holds s) = holds (Exceeds.availability (s .0) (omega (arith, s .2)) (s .3))
-    step (fails m) (fails n) (fails o) = fails none
-      where
-        none : Exceeds p t g → ⊥
-        none (Exceeds.completion i l h) = n (i, omega arith, omega arith, h)
-        none (Exceeds.availability i l h) = o (i, omega arith, omega arith, h)
-        none (Exceeds.position l) = m l
-
--- a path passes the limits at its first transition or later
-abbrev Splits : Plan → ℕ → Next → Progress → Type 0
-Splits p zero next g = ⊥
-Splits p (suc k) Next.Ended g = ⊥
-Splits p (suc k) (Next.Waits e) g = ⊥
-Splits p (suc k) (Next.Goes t) g = Exceeds p t g ⊎ PathExceeds p k (nextOf (p .automaton) (takenBy p t g .progress .state)) (takenBy p t g .progress)
-
-splits : {p : Plan} {k : ℕ} {next : Next} {g : Progress} → PathExceeds p k next g → Splits p k next g
-splits (PathExceeds.here h) = inl h
-splits (PathExceeds.later h) = inr h
-
-pub tells-path : (p : Plan) (k : ℕ) (next : Next) (g : Progress) → Tells (pathFrom p k next g .beyond) (PathExceeds p k next g)
-unfolding pathFrom
-tells-path p zero next g = fails splits
-tells-path p (suc k) Next.Ended g = fails splits
-tells-path p (suc k) (Next.Waits e) g = fails splits
-tells-path p (suc k) (Next.Goes t) g =
-    step (entriesBy p t g ++ onward .entries) (onward .progress) (tells-exceeds p t g) (tells-path p k (nextOf (p .automaton) (takenBy p t g .progress .state)) (takenBy p t g .progress))
-  where
-    onward : Path
-    onward = pathFrom p k (nextOf (p .automaton) (takenBy p t g .progress .state)) (takenBy p t g .progress)
-
-    step : {b c : Bool} (es : List Entry) (h : Progress) → Tells b (Exceeds p t g)
-        → Tells c (PathExceeds p k (nextOf (p .automaton) (takenBy p t g .progress .state)) (takenBy p t g .progress))
-        → Tells (cond {A = Path} b (record { beyond = true; entries = []; progress = g }) (record { beyond = c; entries = es; progress = h }) .beyond) (PathExceeds p (suc k) (Next.Goes t) g)
-    step es h (holds x) y = holds (PathExceeds.here x)
-    step es h (fails n) (holds y) = holds (PathExceeds.later y)
-    step es h (fails n) (fails m) = fails (λ x. ⊎-elim n m (splits x))

@@ -1,11 +1,9 @@
--- After any calls the run's last reading and its stop are those of the log, it is in limits, and its window has 512 places.
+-- After any calls the run's last reading and its stop are those of the log, and it is in limits.
 use mathlib.Core.Path.{_≡_, refl, sym, ap, _∙_, subst}
-use mathlib.Core.Bool.{true, false}
 use mathlib.Core.List.{List, [], _∷_}
 use mathlib.Core.Logic.{inl, inr, ⊎-elim, _↔_}
 use Prim.Native.Nat.{ℕ}
 use native.Mathlib.Omega.{arith}
-use lib.ListN.{length}
 use Rattle.time.specs.declared.Clock.{Clock}
 use Rattle.run.specs.declared.Run.{Run}
 use Rattle.run.specs.declared.Halt.{Halt}
@@ -15,29 +13,26 @@ use Rattle.run.specs.declared.Reply.{Reply}
 use Rattle.run.specs.declared.Answer.{Answer}
 use Rattle.run.specs.declared.Refusal.{Refusal}
 use Rattle.run.specs.Calls.{answer, callOf, readingOf}
-use Rattle.log.specs.Log.{Log, said, reading, StoppedIn}
-use Rattle.log.specs.Drive.{Driven, drive}
+use Rattle.log.specs.Log.{Log, said, reading, StoppedIn, StoppedBy}
+use Rattle.log.specs.Drive.{drive}
 use Rattle.log.specs.Latest.{Right, reading-last}
+use Rattle.demand.specs.Laws.Replies.{same-stop}
 use Rattle.demands.specs.InLimits.{RunInLimits}
 use Rattle.demands.specs.InLimitsIff.{in-limits}
 use Rattle.demands.specs.InLimitsKept.{limits-kept}
 use Rattle.demands.specs.Unchanged.{refused-unchanged, stop-kept}
-use Rattle.demands.specs.ByLog.{lastReading, StoppedBy}
+use Rattle.demands.specs.ByLog.{lastReading}
 
 pub record After (log : Log) (run : Run) : Type 0 where
   pub limits : RunInLimits run
   pub last : (StoppedIn log → ⊥) → run .last .0 ≡ lastReading log
   pub halted : (s : Stop) → (run .halt ≡ Halt.Stopped s) ↔ StoppedBy log s
-  pub long : length (run .window) ≡ 512
 
-going-stopped : {A : Type 0} {s : Stop} → Halt.Going ≡ Halt.Stopped s → A
+pub going-stopped : {A : Type 0} {s : Stop} → Halt.Going ≡ Halt.Stopped s → A
 going-stopped e = absurd (let z : _≡_ {A = ℕ} 0 1 = cc in omega arith)
 
 same-halt : {s u : Stop} → Halt.Stopped s ≡ Halt.Stopped u → s ≡ u
 same-halt e = cc
-
-same-stop : {s u : Stop} → Reply.Stopped s ≡ Reply.Stopped u → s ≡ u
-same-stop e = cc
 
 reading-is : (c : Call) → readingOf c .0 ≡ reading c
 reading-is (Call.Ask t) = refl
@@ -59,7 +54,6 @@ module _ (log : Log) (run : Run) (a : After log run) (c : Call) where
     limits = a .limits;
     last = λ n. absurd (n (inl tt));
     halted = λ u. (λ q. inl (ap Reply.Stopped (same-halt (sym h ∙ q))), ⊎-elim (λ q. h ∙ ap Halt.Stopped (same-stop q)) (λ q. a .halted u .1 q));
-    long = a .long;
   }
 
   module _ (going : run .halt ≡ Halt.Going) where
@@ -71,25 +65,23 @@ module _ (log : Log) (run : Run) (a : After log run) (c : Call) where
     unstopped r o s (inr q) = never s q
 
     -- an answer that is neither refused nor stopped
-    goes-on : (r : Reply) (next : Run) → Other r → RunInLimits next → next .last ≡ readingOf c → next .halt ≡ Halt.Going → length (next .window) ≡ length (run .window) → reading c ≡ lastReading (said c r ∷ log) → After (said c r ∷ log) next
-    goes-on r next o l q h z e = record { long = z ∙ a .long; limits = l; last = λ n. ap (λ (t : Clock). t .0) q ∙ reading-is c ∙ e; halted = λ s. (λ z. going-stopped (sym h ∙ z), λ z. absurd (unstopped r o s z)) }
+    goes-on : (r : Reply) (next : Run) → Other r → RunInLimits next → next .last ≡ readingOf c → next .halt ≡ Halt.Going → reading c ≡ lastReading (said c r ∷ log) → After (said c r ∷ log) next
+    goes-on r next o l q h e = record { limits = l; last = λ n. ap (λ (t : Clock). t .0) q ∙ reading-is c ∙ e; halted = λ s. (λ z. going-stopped (sym h ∙ z), λ z. absurd (unstopped r o s z)) }
 
-    by-reply : (r : Reply) (next : Run) → RunInLimits next → Right (length (run .window)) (readingOf c) r next → ((f : Refusal) → r ≡ Reply.Refused f → next ≡ run) → After (said c r ∷ log) next
-    by-reply (Reply.Start p x n) next l q u = goes-on (Reply.Start p x n) next tt l (q .0) (q .1) (q .2) refl
-    by-reply Reply.Wait next l q u = goes-on Reply.Wait next tt l (q .0) (q .1) (q .2) refl
-    by-reply Reply.Done next l q u = goes-on Reply.Done next tt l (q .0) (q .1) (q .2) refl
-    by-reply Reply.Taken next l q u = goes-on Reply.Taken next tt l (q .0) (q .1) (q .2) refl
+    by-reply : (r : Reply) (next : Run) → RunInLimits next → Right (readingOf c) r next → ((f : Refusal) → r ≡ Reply.Refused f → next ≡ run) → After (said c r ∷ log) next
+    by-reply (Reply.Start p x n) next l q u = goes-on (Reply.Start p x n) next tt l (q .0) (q .1) refl
+    by-reply Reply.Wait next l q u = goes-on Reply.Wait next tt l (q .0) (q .1) refl
+    by-reply Reply.Done next l q u = goes-on Reply.Done next tt l (q .0) (q .1) refl
+    by-reply Reply.Taken next l q u = goes-on Reply.Taken next tt l (q .0) (q .1) refl
     by-reply (Reply.Refused f) next l q u = subst (After (said c (Reply.Refused f) ∷ log)) (sym (u f refl)) record {
       limits = a .limits;
       last = λ n. a .last (λ z. n (inr z));
       halted = λ s. (λ z. going-stopped (sym going ∙ z), λ z. absurd (unstopped (Reply.Refused f) tt s z));
-      long = a .long;
     }
     by-reply (Reply.Stopped s) next l q u = record {
       limits = l;
       last = λ n. absurd (n (inl tt));
       halted = λ v. (λ z. inl (ap Reply.Stopped (same-halt (sym (q .1) ∙ z))), ⊎-elim (λ z. q .1 ∙ ap Halt.Stopped (same-stop z)) (λ z. absurd (never v z)));
-      long = q .2 ∙ a .long;
     }
 
     goes : After (said c (callOf run c .reply) ∷ log) (callOf run c .run)
