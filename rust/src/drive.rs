@@ -116,10 +116,16 @@ pub fn reply_record(reply: Reply) -> [u8; RECORD] {
     }
 }
 
-/// Runs an input and writes its records: "stops where the input ends inside a part or the next
-/// record does not fit, and returns how many bytes it wrote".
+/// What a short buffer gets: number 36, place 0.
+pub const TOO_SHORT: usize = 36 << 32;
+
+/// Runs an input and writes its records, one for the opening and one for each call up to where
+/// the input ends or ends inside a part: how many bytes it wrote. A buffer that does not hold all
+/// of them stays as it was.
 pub fn drive(input: &[u8], out: &mut [u8]) -> usize {
     let Some((opening, calls)) = decode(input) else { return 0 };
+    let size = (calls.len() + 1) * RECORD;
+    let Some(room) = out.get_mut(..size) else { return TOO_SHORT };
     let (answer, mut run) = Run::open(&opening);
     let mut records = vec![opening_record(answer)];
     for call in calls {
@@ -127,10 +133,6 @@ pub fn drive(input: &[u8], out: &mut [u8]) -> usize {
         run = next;
         records.push(reply_record(reply));
     }
-    let mut written = 0;
-    for (place, record) in out.chunks_exact_mut(RECORD).zip(records) {
-        place.copy_from_slice(&record);
-        written += RECORD;
-    }
-    written
+    room.copy_from_slice(records.as_flattened());
+    size
 }

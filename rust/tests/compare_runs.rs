@@ -8,49 +8,71 @@ use jidlekuvo_reference::compare::hits::{wanted_of_runs, Hits};
 use jidlekuvo_reference::compare::smaller::smallest_call_list;
 use jidlekuvo_reference::compare::threads::in_threads;
 use jidlekuvo_reference::compare::{rattle, settings, Failure};
-use jidlekuvo_reference::drive::{decode, drive, RECORD};
+use jidlekuvo_reference::drive::{decode, drive, RECORD, TOO_SHORT};
 use jidlekuvo_reference::generate::{inputs, Random};
 use jidlekuvo_reference::verdict::judge;
 
-/// A buffer with room for so many records and a few bytes over.
-fn buffer(records: usize) -> Vec<u8> {
-    vec![0x3C; records * RECORD + 5]
+fn buffer(length: usize) -> Vec<u8> {
+    vec![0x3C; length]
 }
 
-fn records_of(input: &[u8]) -> usize {
-    decode(input).map_or(0, |(_, calls)| calls.len() + 1)
+/// The bytes of the records that answer an input.
+fn length_of(input: &[u8]) -> usize {
+    decode(input).map_or(0, |(_, calls)| (calls.len() + 1) * RECORD)
 }
 
-/// Where the two builds differ on an input, if they do.
-fn difference(input: &[u8], records: usize) -> Option<String> {
-    let (mut ours, mut theirs) = (buffer(records), buffer(records));
+/// Where the two builds differ on an input and a buffer so long, if they do.
+fn difference(input: &[u8], length: usize) -> Option<String> {
+    let (mut ours, mut theirs) = (buffer(length), buffer(length));
     let wanted = drive(input, &mut ours);
     let written = rattle::drive(input, &mut theirs);
     if wanted == written && ours == theirs {
         return None;
     }
-    let at = (0..records).find(|n| ours[n * RECORD..][..RECORD] != theirs[n * RECORD..][..RECORD]);
+    let at = (0..length / RECORD).find(|n| ours[n * RECORD..][..RECORD] != theirs[n * RECORD..][..RECORD]);
     let told = |out: &[u8]| at.map(|n| out[n * RECORD..][..RECORD].to_vec());
     Some(format!(
-        "record {at:?} (0 is the opening): Rust {:?}, Rattle {:?}; bytes written {wanted}, {written}",
+        "record {at:?} (0 is the opening): Rust {:?}, Rattle {:?}; answers {wanted}, {written}",
         told(&ours),
         told(&theirs)
     ))
 }
 
-fn compared(input: &[u8], records: usize) -> Result<(), Failure> {
-    if difference(input, records).is_none() {
+fn compared(input: &[u8], length: usize) -> Result<(), Failure> {
+    if difference(input, length).is_none() {
         return Ok(());
     }
-    let smallest = smallest_call_list(input, |tried| difference(tried, records).is_some());
-    Err(Failure::new(difference(&smallest, records).unwrap_or_default(), &smallest))
+    let smallest = smallest_call_list(input, |tried| difference(tried, length).is_some());
+    Err(Failure::new(difference(&smallest, length).unwrap_or_default(), &smallest))
+}
+
+/// A buffer that is too short: 36, and it stays as it was.
+fn refused_for(input: &[u8], length: usize) -> Result<(), Failure> {
+    let mut out = buffer(length);
+    if rattle::drive(input, &mut out) == TOO_SHORT && out == buffer(length) {
+        return Ok(());
+    }
+    Err(Failure::new(format!("no 36 for a buffer of {length} bytes"), input))
+}
+
+/// A few bytes over; and now and then an exact fit, one byte too few, and any length below.
+fn buffers_compared(random: &mut Random, input: &[u8]) -> Result<(), Failure> {
+    let length = length_of(input);
+    compared(input, length + 5)?;
+    if length == 0 || !random.one_in(30) {
+        return Ok(());
+    }
+    compared(input, length)?;
+    refused_for(input, length - 1)?;
+    refused_for(input, random.below(length))
 }
 
 /// Demand 3 on what the Rattle side answered.
 fn demand_3_holds(input: &[u8], hits: &mut Hits) -> Result<(), Failure> {
-    let mut out = buffer(records_of(input));
+    let mut out = buffer(length_of(input));
     let written = rattle::drive(input, &mut out);
-    let Some(log) = log::from_records(input, &out[..written]) else { return Ok(()) };
+    let records = out.get(..written).ok_or_else(|| Failure::new("36 for an exact fit", input))?;
+    let Some(log) = log::from_records(input, records) else { return Ok(()) };
     hits.log(&log);
     if log.answer.is_err() || log.calls.len() > 60 {
         return Ok(());
@@ -68,11 +90,7 @@ fn demand_3_holds(input: &[u8], hits: &mut Hits) -> Result<(), Failure> {
 fn call_lists_agree() {
     let case = |random: &mut Random, hits: &mut Hits| {
         let input = inputs::call_list(random);
-        let records = records_of(&input);
-        compared(&input, records)?;
-        if random.one_in(30) {
-            compared(&input, random.below(records + 1))?;
-        }
+        buffers_compared(random, &input)?;
         demand_3_holds(&input, hits)
     };
     let cases = settings::cases(50_000);

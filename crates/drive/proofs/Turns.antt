@@ -1,9 +1,8 @@
--- One turn of the loop over the calls, and the opening before it.
-use mathlib.Core.Path.{_≡_, refl, sym, subst}
+-- One turn of the loops over the calls, and the opening before them.
+use mathlib.Core.Path.{_≡_, refl, sym, _∙_, ap, subst}
 use mathlib.Core.Bool.{Bool, true, false, cond}
-use mathlib.Core.List.{List, _++_}
-use Prim.Native.Nat.{ℕ, suc, _+_, _*_, _-_, _≤_, _<_}
-use native.Mathlib.Numerals.{add-one}
+use mathlib.Core.List.{List, [], _∷_, _++_}
+use Prim.Native.Nat.{ℕ, zero, suc, _+_, _*_, _≤_, _<_}
 use native.Mathlib.Decide.{decLe}
 use native.Mathlib.Omega.{arith}
 use lib.ListN.{length}
@@ -15,13 +14,15 @@ use Rattle.run.specs.declared.Call.{Call}
 use Rattle.run.specs.declared.Answer.{Answer}
 use Rattle.run.specs.declared.Opened.{Opened}
 use Rattle.run.specs.Calls.{callOf}
+use Rattle.log.specs.Log.{Log, said}
+use Rattle.log.specs.Drive.{drive}
 use Rattle.drive.specs.declared.Head.{Head}
 use Rattle.drive.specs.declared.HeadRead.{HeadRead}
 use Rattle.drive.specs.declared.CallRead.{CallRead}
 use Rattle.drive.specs.declared.Record.{Record}
 use Rattle.drive.specs.Input.{byteAt, callsAt, head, headOf, openedBy, askAt, completionAt, outcomeAt, callAt}
 use Rattle.drive.specs.Records.{recordBytes, openingRecord, replyRecord}
-use Rattle.drive.specs.Loop.{drivenFrom, driven}
+use Rattle.drive.specs.Drive.{onCall, callsFrom, callsOf, answersOf, recordsFrom, recordsOf, joined, textOf}
 
 -- ---- a call lies within the input, after the offset where it begins
 
@@ -62,7 +63,57 @@ module _ (b : List ℕ) (at : ℕ) where
   pub call-ahead : (call : Call) (next : ℕ) → callAt b at ≡ CallRead.Some call next → (at < next) × (next ≤ length b)
   call-ahead call next e = subst (Ahead b at) e any-ahead
 
+-- ---- counting
+
+module _ (b : List ℕ) (at left k : ℕ) (more : left ≡ suc k) where
+  pub count-ends : callAt b at ≡ CallRead.None → length (callsFrom left b at) ≡ 0
+  unfolding callsFrom
+  count-ends e = rw (more, e)
+
+  pub count-goes : (call : Call) (next : ℕ) → callAt b at ≡ CallRead.Some call next
+      → length (callsFrom left b at) ≡ suc (length (callsFrom k b next))
+  unfolding callsFrom
+  count-goes call next e = rw (more, e)
+
+pub count-over : (b : List ℕ) (at left : ℕ) → left ≡ 0 → length (callsFrom left b at) ≡ 0
+unfolding callsFrom
+count-over b at left e = rw e
+
+-- as many as there are, are all of them
+pub counted : (left : ℕ) (b : List ℕ) (at : ℕ) → callsFrom (length (callsFrom left b at)) b at ≡ callsFrom left b at
+unfolding callsFrom
+counted zero b at = refl
+counted (suc left) b at = go (callAt b at) refl (λ next. counted left b next)
+  where
+    go : (c : CallRead) → callAt b at ≡ c
+        → ((next : ℕ) → callsFrom (length (callsFrom left b next)) b next ≡ callsFrom left b next)
+        → callsFrom (length (onCall c (λ call next. call ∷ callsFrom left b next) [])) b at
+        ≡ onCall c (λ call next. call ∷ callsFrom left b next) []
+    go CallRead.None e f = refl
+    go (CallRead.Some call next) e f = rw e (ap (λ (cs : List Call). call ∷ cs) (f next))
+
+-- ---- the records of a list of calls, one call at a time
+
+-- the log before a list adds its answers in front
+records-log : (log : Log) (run : Run) (cs : List Call) → answersOf (drive log run cs .log) [] ≡ answersOf log (recordsFrom run cs)
+records-log log run [] = refl
+records-log log run (c ∷ cs) =
+    let y = said c (callOf run c .reply) in
+    records-log (y ∷ log) (callOf run c .run) cs ∙ ap (answersOf log) (sym (records-log (y ∷ []) (callOf run c .run) cs))
+
+pub records-one : (run : Run) (c : Call) (cs : List Call)
+    → recordsFrom run (c ∷ cs) ≡ replyRecord (callOf run c .reply) ∷ recordsFrom (callOf run c .run) cs
+records-one run c cs = records-log (said c (callOf run c .reply) ∷ []) (callOf run c .run) cs
+
+pub records-length : (run : Run) (cs : List Call) → length (recordsFrom run cs) ≡ length cs
+records-length run [] = refl
+records-length run (c ∷ cs) = ap length (records-one run c cs) ∙ ap suc (records-length (callOf run c .run) cs)
+
 -- ---- the loop
+
+-- the bytes of so many calls from `at` on
+abbrev pub drivenFrom : ℕ → Run → List ℕ → ℕ → List ℕ
+drivenFrom left run b at = joined (recordsFrom run (callsFrom left b at))
 
 -- what puts the rest of the records puts all of them
 abbrev pub Leads : List ℕ → ℕ → List ℕ → List ℕ → ℕ → List ℕ → Type 0
@@ -70,8 +121,13 @@ Leads out₀ written all out end rest = (after : List ℕ) (next : ℕ) → Puts
 
 module _ (b : List ℕ) (at : ℕ) (run : Run) (left k : ℕ) (more : left ≡ suc k) where
   pub turn-ends : callAt b at ≡ CallRead.None → (out : List ℕ) (end : ℕ) → Puts out end (drivenFrom left run b at) out end
-  unfolding drivenFrom
+  unfolding callsFrom
   turn-ends e out end = rw (more, e) (puts-none out end)
+
+  driven-one : (call : Call) (next : ℕ) → callAt b at ≡ CallRead.Some call next
+      → drivenFrom left run b at ≡ recordBytes (replyRecord (callOf run call .reply)) ++ drivenFrom k (callOf run call .run) b next
+  unfolding callsFrom
+  driven-one call next e = rw (more, e) (ap joined (records-one run call (callsFrom k b next)))
 
   pub turn-goes : (call : Call) (next : ℕ) → callAt b at ≡ CallRead.Some call next
       → (a : Answer) → a ≡ callOf run call
@@ -79,13 +135,12 @@ module _ (b : List ℕ) (at : ℕ) (run : Run) (left k : ℕ) (more : left ≡ s
       → {out mid after : List ℕ} {end past last : ℕ} → Puts out end (recordBytes r) mid past
       → Puts mid past (drivenFrom k (a .run) b next) after last
       → Puts out end (drivenFrom left run b at) after last
-  unfolding drivenFrom
   turn-goes call next e a is r answers {out} {mid} {after} {end} {past} {last} p q =
-      rw (more, e, ← is, ← answers) (puts-join p q)
+      rw (driven-one call next e, ← is, ← answers) (puts-join p q)
 
 pub turn-over : (b : List ℕ) (at : ℕ) (run : Run) (left : ℕ) → left ≡ 0 → (out : List ℕ) (end : ℕ) → Puts out end (drivenFrom left run b at) out end
-unfolding drivenFrom
-turn-over b at run left z out end = rw z (puts-none out end)
+unfolding callsFrom
+turn-over b at run left e out end = rw e (puts-none out end)
 
 -- ---- the opening
 
@@ -112,18 +167,22 @@ whole-fits b h e = let w = whole-is b h e in subst (λ (g : Head). g .length + 1
 pub whole-calls : (b : List ℕ) (h : Head) → headOf b ≡ HeadRead.Whole h → h .calls ≤ length b
 whole-calls b h e = let w = whole-is b h e in subst (λ (g : Head). g .calls ≤ length b) (sym (w .is)) (w .fits)
 
-module _ (b : List ℕ) (room : ℕ) where
-  from-head : (h : Head) → h ≡ head b → callsAt b ≤ length b
-      → recordBytes (openingRecord (openedBy b h .opening)) ++ drivenFrom room (openedBy b h .run) b (h .calls) ≡ driven (suc room) b
-  unfolding driven
-  from-head h is f = rw (is, le-leb (callsAt b) (length b) f)
+module _ (b : List ℕ) (h : Head) (e : headOf b ≡ HeadRead.Whole h) where
+  pub text-whole : textOf b ≡ recordBytes (openingRecord (openedBy b h .opening)) ++ joined (recordsFrom (openedBy b h .run) (callsOf b))
+  unfolding recordsOf
+  text-whole = let w = whole-is b h e in rw (w .is, le-leb (callsAt b) (length b) (w .fits))
 
-  pub opens : (h : Head) → headOf b ≡ HeadRead.Whole h
+  pub calls-same : callsFrom (length b) b (h .calls) ≡ callsOf b
+  calls-same = rw (whole-is b h e .is)
+
+  pub opens : (calls : ℕ) → calls ≡ length (callsOf b)
       → (o : Opened) → o ≡ openedBy b h
       → (r : Record) → r ≡ openingRecord (o .opening)
       → {out mid after : List ℕ} {past last : ℕ} → Puts out 0 (recordBytes r) mid past
-      → Puts mid past (drivenFrom room (o .run) b (h .calls)) after last
-      → Puts out 0 (driven (room + 1) b) after last
-  opens h e o is r answers {out} {mid} {after} {past} {last} p q =
-      let w = whole-is b h e in
-      rw (add-one room, ← from-head h (w .is) (w .fits), ← is, ← answers) (puts-join p q)
+      → Puts mid past (drivenFrom calls (o .run) b (h .calls)) after last
+      → Puts out 0 (textOf b) after last
+  opens calls all o is r answers {out} {mid} {after} {past} {last} p q =
+      let s : callsFrom calls b (h .calls) ≡ callsOf b =
+      ap (λ (n : ℕ). callsFrom n b (h .calls)) (all ∙ ap length (sym calls-same)) ∙ counted (length b) b (h .calls) ∙ calls-same
+      in
+      rw (text-whole, ← s, ← is, ← answers) (puts-join p q)

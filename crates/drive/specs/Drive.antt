@@ -1,14 +1,18 @@
--- A list of calls driven through a run: the records that answer the opening and each call. "It stops where the input ends
--- inside a part or the next record does not fit, and returns how many bytes it wrote."
+-- A list of calls driven through a run: the records that answer the opening and each call, up to where the input ends or
+-- ends inside a part, and what is left in a lent buffer.
 use mathlib.Core.Bool.{cond}
 use mathlib.Core.List.{List, [], _∷_, _++_}
-use Prim.Native.Nat.{ℕ, zero, suc, _/_}
-use lib.ListN.{length, take, drop}
+use Prim.Native.Nat.{ℕ, zero, suc}
+use lib.ListN.{length, drop}
+use lib.Dec.{leb}
 use Rattle.run.specs.declared.Run.{Run}
 use Rattle.run.specs.declared.Call.{Call}
-use Rattle.run.specs.Calls.{callOf}
+use Rattle.log.specs.Log.{Log}
+use Rattle.log.specs.Drive.{drive}
 use Rattle.drive.specs.declared.CallRead.{CallRead}
 use Rattle.drive.specs.declared.Record.{Record}
+use Rattle.drive.specs.declared.NotRecorded.{NotRecorded}
+use Rattle.drive.specs.declared.Recorded.{Recorded}
 use Rattle.drive.specs.Input.{isWhole, callsAt, opened, callAt}
 use Rattle.drive.specs.Records.{recordBytes, openingRecord, replyRecord}
 
@@ -25,28 +29,41 @@ callsFrom (suc left) b at = onCall (callAt b at) (λ call next. call ∷ callsFr
 abbrev pub callsOf : List ℕ → List Call
 callsOf b = callsFrom (length b) b (callsAt b)
 
--- the records of a list of calls, "each given the run that the call before it returned"
-unfoldable pub recordsFrom : Run → List Call → List Record
-recordsFrom run [] = []
-recordsFrom run (call ∷ calls) = replyRecord (callOf run call .reply) ∷ recordsFrom (callOf run call .run) calls
+-- the records of the answers of a log, the oldest first, before others
+abbrev pub answersOf : Log → List Record → List Record
+answersOf [] later = later
+answersOf (y ∷ log) later = answersOf log (replyRecord (y .reply) ∷ later)
+
+-- the records of a list of calls: those of the log that they leave
+abbrev pub recordsFrom : Run → List Call → List Record
+recordsFrom run calls = answersOf (drive [] run calls .log) []
 
 -- the records of the whole input; after a refused opening the run of zeros is driven on, and an input that ends inside the
 -- opening has none
 unfoldable pub recordsOf : List ℕ → List Record
 recordsOf b = cond (isWhole b) (openingRecord (opened b .opening) ∷ recordsFrom (opened b .run) (callsOf b)) []
 
--- the records that fit into a buffer
-abbrev pub fitting : List ℕ → List Record → List Record
-fitting out records = take (length out / 16) records
-
 abbrev pub joined : List Record → List ℕ
 joined [] = []
 joined (r ∷ rs) = recordBytes r ++ joined rs
 
--- what is written into a buffer
-abbrev pub writtenInto : List ℕ → List ℕ → List ℕ
-writtenInto out b = joined (fitting out (recordsOf b))
+abbrev pub textOf : List ℕ → List ℕ
+textOf b = joined (recordsOf b)
 
--- the buffer that is left: the records, and everything after them unchanged
-abbrev pub bufferAfter : List ℕ → List ℕ → List ℕ
-bufferAfter out b = writtenInto out b ++ drop (length (writtenInto out b)) out
+-- ---- a lent buffer: "Number 36 and the unchanged bytes after hold for every writer into a lent buffer."
+
+-- the number of the refusal; its place is 0
+abbrev pub numberOf : NotRecorded → ℕ
+numberOf NotRecorded.TooShort = 36
+
+abbrev pub placeOf : NotRecorded → ℕ
+placeOf n = 0
+
+-- what is answered: how many bytes were written, or why none were
+unfoldable pub recordedOf : List ℕ → List ℕ → Recorded
+recordedOf b out =
+    cond (leb (length (textOf b)) (length out)) (Recorded.Bytes (length (textOf b))) (Recorded.Refused NotRecorded.TooShort)
+
+-- the buffer that is left: all records, and everything after them unchanged; a refusal leaves it as it was
+unfoldable pub bufferOf : List ℕ → List ℕ → List ℕ
+bufferOf b out = cond (leb (length (textOf b)) (length out)) (textOf b ++ drop (length (textOf b)) out) out

@@ -2,4 +2,3 @@
 pub mod Input
 pub mod Records
 pub mod Drive
-pub mod Loop

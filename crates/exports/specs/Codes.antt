@@ -8,6 +8,8 @@ use Rattle.activity.specs.Number.{activitiesVerdict}
 use Rattle.judge.specs.Judge.{onVerdict}
 use Rattle.writing.specs.Writing.{writtenOf, bufferOf, numberOf as numberOfWriter}
 use Rattle.writing.specs.declared.Written.{Written}
+use Rattle.drive.specs.Drive.{numberOf as numberOfDrive}
+use Rattle.drive.specs.declared.Recorded.{Recorded}
 
 -- 0 for an accepted plan; otherwise its number times 2^32 plus its place, or plus 2^32 - 1 where the place is larger
 unfoldable pub codeOf : Verdict → ℕ
@@ -29,3 +31,8 @@ backCode r out = onVerdict (r .verdict) (writtenCode (writtenOf (r .plan) out)) 
 
 unfoldable pub backBuffer : PlanRead → List ℕ → List ℕ
 backBuffer r out = onVerdict (r .verdict) (bufferOf (r .plan) out) (λ f place. out)
+
+-- what a drive answers: how many bytes of records it wrote, or its number times 2^32
+unfoldable pub recordedCode : Recorded → ℕ
+recordedCode (Recorded.Bytes n) = n
+recordedCode (Recorded.Refused w) = numberOfDrive w * 4_294_967_296

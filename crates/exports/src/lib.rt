@@ -1,4 +1,6 @@
 // What Rust and C link: functions on numbers and byte slices.
+use drive::NotRecorded;
+use drive::Recorded;
 use plan::Fault;
 use plan::Plan;
 use plan::Verdict;
@@ -11,9 +13,8 @@ ghost use Rattle.plan.specs.Reading.{readPlan};
 ghost use Rattle.plan.specs.Limits.{InLimits};
 ghost use Rattle.activity.specs.Number.{activitiesVerdict};
 ghost use Rattle.judge.specs.Judge.{judgeOf};
-ghost use lib.ListN.{length};
-ghost use Rattle.drive.specs.Drive.{writtenInto, bufferAfter};
-ghost use Rattle.exports.specs.Codes.{codeOf, activitiesCode, writtenCode, backCode, backBuffer};
+ghost use Rattle.drive.specs.Drive.{recordedOf, bufferOf};
+ghost use Rattle.exports.specs.Codes.{codeOf, activitiesCode, writtenCode, backCode, backBuffer, recordedCode};
 
 // Document 01's number of a fault.
 fn number(f: Fault) -> u64
@@ -115,10 +116,22 @@ pub extern "C" fn jidlekuvo_write_back(bytes: &[u8], out: &mut [u8]) -> u64
     }
 }
 
-// Drives a list of calls through a run, and writes a record for the opening and for each call: how many bytes it wrote.
+fn recorded_code(r: Recorded) -> usize
+    ensures { λ n. ⌜ n ≡ recordedCode r ⌝ }
+{
+    match r {
+        Recorded::Bytes(n) => n,
+        Recorded::Refused(why) => match why {
+            NotRecorded::TooShort => 154618822656,
+        },
+    }
+}
+
+// Drives a list of calls through a run, and writes a record for the opening and for each call: how many bytes it wrote, or
+// 36 * 2^32 for a buffer that is too short, which stays as it was.
 #[no_mangle]
 pub extern "C" fn jidlekuvo_drive(input: &[u8], out: &mut [u8]) -> usize
-    ensures { λ r. ⌜ (r ≡ length (writtenInto (now (out .entry)) (now (input .entry)))) × (now (out .exit) ≡ bufferAfter (now (out .entry)) (now (input .entry))) ⌝ }
+    ensures { λ r. ⌜ (r ≡ recordedCode (recordedOf (now (input .entry)) (now (out .entry)))) × (now (out .exit) ≡ bufferOf (now (input .entry)) (now (out .entry))) ⌝ }
 {
-    drive::drive(input, out)
+    recorded_code(drive::drive(input, out))
 }

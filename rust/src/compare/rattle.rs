@@ -51,7 +51,7 @@ pub fn judge(bytes: &[u8]) -> u64 {
     unsafe { linked::jidlekuvo_judge(bytes.as_ptr(), bytes.len()) }
 }
 
-/// An opening and its calls: how many bytes of records were written.
+/// An opening and its calls: how many bytes of records were written, or 36 * 2^32.
 #[cfg(feature = "rattle_drive")]
 pub fn drive(input: &[u8], out: &mut [u8]) -> usize {
     // SAFETY: the function reads one slice and writes inside the other.

@@ -5,9 +5,8 @@ use denote.Ref.{now}
 use Prim.Native.Nat.{_+_, _*_, _-_, _≤_}
 use lib.ListN.{length}
 use Rattle.puts.specs.Puts.{puts-length}
-use Rattle.drive.specs.Loop.{drivenFrom}
 use Rattle.drive.proofs.Placed.{record-length}
-use Rattle.drive.proofs.Turns.{Leads, call-ahead, turn-ends, turn-goes, turn-over}
+use Rattle.drive.proofs.Turns.{drivenFrom, Leads, call-ahead, turn-ends, turn-goes, turn-over}
 use borrow.Author.Needs.{needs}
 use Rattle.drive.proofs.calls_from.Statement.{statement}
 use Rattle.drive.proofs.calls_from.Tie as tie
@@ -19,12 +18,12 @@ use Rattle.drive.proofs.records.reply_record.Reads as reply-record-read
 use Rattle.run.proofs.Run.call.Reads as call-reads
 
 abbrev Inv-loop : tie.InvT-loop
-Inv-loop input from out₀ written room run₀ at₀ end₀ left₀ out run at end left =
+Inv-loop input from out₀ written calls run₀ at₀ end₀ left₀ out run at end left =
     (at ≤ length input) × (end + 16 * left ≤ length out) × (length out ≡ length out₀)
-    × Leads out₀ written (drivenFrom room run₀ input from) out end (drivenFrom left run input at)
+    × Leads out₀ written (drivenFrom calls run₀ input from) out end (drivenFrom left run input at)
 
 abbrev μ-loop : tie.MeasureT-loop
-μ-loop input from out₀ written room run₀ at₀ end₀ left₀ out run at end left = left
+μ-loop input from out₀ written calls run₀ at₀ end₀ left₀ out run at end left = left
 
 loop-holds : tie.Need-loop-holds Inv-loop μ-loop
 loop-holds c = (search needs, search needs, refl, (λ after next p. p))

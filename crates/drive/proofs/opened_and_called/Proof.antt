@@ -25,13 +25,13 @@ put-at-requires : tie.Need-put-at-requires
 put-at-requires c κs = search needs
 
 calls-from-requires : tie.Need-calls-from-requires
-calls-from-requires c κs = let m = c .before .before .before .before in let s = m .before .before .before .before .before .before in let a = s .args in (whole-calls (now (a .input)) (a .head) (s .pre .0), omega (arith, s .pre .1, record-length (m .before .before .opening-record .result), m .put-at .ensures .past, puts-length (m .put-at .ensures)))
+calls-from-requires c κs = let m = c .before .before .before .before in let s = m .before .before .before .before .before .before in let a = s .args in (whole-calls (now (a .input)) (a .head) (s .pre .0), omega (arith, s .pre .2, record-length (m .before .before .opening-record .result), m .put-at .ensures .past, puts-length (m .put-at .ensures)))
 
 same-length : tie.Need-same-length
 same-length c = search needs
 
 returns : tie.Need-returns
-returns c = let m = c .before .before .before .before .before .before .before in let s = m .before .before .before .before .before .before in let a = s .args in opens (now (a .input)) (a .room) (a .head) (s .pre .0) _ (m .before .before .before .«open» .ensures) _ (m .before .before .opening-record .ensures) (m .put-at .ensures) (c .before .before .calls-from .ensures)
+returns c = let m = c .before .before .before .before .before .before .before in let s = m .before .before .before .before .before .before in let a = s .args in opens (now (a .input)) (a .head) (s .pre .0) (a .calls) (s .pre .1) _ (m .before .before .before .«open» .ensures) _ (m .before .before .opening-record .ensures) (m .put-at .ensures) (c .before .before .calls-from .ensures)
 
 pub opened-and-called-spec : {M : Type 1} → statement M
 opened-and-called-spec =

@@ -1,0 +1,69 @@
+-- Counting the calls: those counted and those left are all.
+use mathlib.Core.Path.{_≡_, sym, _∙_}
+use native.Mathlib.Omega.{arith}
+use denote.Ref.{now}
+use Prim.Native.Nat.{_+_, _-_, _≤_}
+use lib.ListN.{length}
+use Rattle.drive.specs.Drive.{callsFrom}
+use Rattle.drive.proofs.Turns.{call-ahead, count-ends, count-goes, count-over}
+use borrow.Author.Needs.{needs}
+use Rattle.drive.proofs.count_from.Statement.{statement}
+use Rattle.drive.proofs.count_from.Tie as tie
+use Rattle.drive.proofs.count_from.Reads as reads
+use Rattle.drive.proofs.count_from.Lts as lts
+use Rattle.drive.proofs.input.call_at.Reads as call-at-reads
+
+abbrev Inv-loop : tie.InvT-loop
+Inv-loop input from at₀ count₀ left₀ at count left =
+    (at ≤ length input) × (count + left ≡ length input)
+    × (count + length (callsFrom left input at) ≡ length (callsFrom (length input) input from))
+
+abbrev μ-loop : tie.MeasureT-loop
+μ-loop input from at₀ count₀ left₀ at count left = left
+
+loop-holds : tie.Need-loop-holds Inv-loop μ-loop
+loop-holds c = search needs
+
+call-at-requires : tie.Need-call-at-requires Inv-loop μ-loop
+call-at-requires c κs = search needs
+
+enum-told : tie.Need-enum-told Inv-loop μ-loop
+enum-told c = search needs
+
+returns : tie.Need-returns Inv-loop μ-loop
+returns c = let l = c .before .before .before .before .loop in let a = c .before .before .before .before .before .before .args in omega (arith, l .inv .2, count-ends (now (a .input)) (l .at) (l .left) (l .left - 1) (omega arith) (sym (c .before .before .call-at .ensures) ∙ c .enum-told .given .1))
+
+enum-known-read : tie.Need-enum-known-read Inv-loop μ-loop
+enum-known-read c = search needs
+
+add-count : tie.Need-add-count Inv-loop μ-loop
+add-count c = search needs
+
+sub-left : tie.Need-sub-left Inv-loop μ-loop
+sub-left c = search needs
+
+loop-less : tie.Need-loop-less Inv-loop μ-loop
+loop-less c = search needs
+
+loop-again : tie.Need-loop-again Inv-loop μ-loop
+loop-again c = let l = c .before .before .before .before .before .loop in let a = c .before .before .before .before .before .before .before .args in let e = sym (c .before .before .before .call-at .ensures) ∙ c .before .read .given .1 in (call-ahead (now (a .input)) (l .at) _ _ e .1, omega arith, omega (arith, l .inv .2, count-goes (now (a .input)) (l .at) (l .left) (l .left - 1) (omega arith) _ _ e))
+
+returns-2 : tie.Need-returns-2 Inv-loop μ-loop
+returns-2 c = let l = c .before .loop in let a = c .before .before .before .args in omega (arith, l .inv .2, count-over (now (a .input)) (l .at) (l .left) (omega arith))
+
+pub count-from-spec : {M : Type 1} → statement M
+count-from-spec =
+    tie.close
+    (tie.spec
+    Inv-loop
+    μ-loop
+    loop-holds
+    call-at-requires
+    enum-told
+    returns
+    enum-known-read
+    add-count
+    sub-left
+    loop-less
+    loop-again
+    returns-2)

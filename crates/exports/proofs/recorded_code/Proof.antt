@@ -1,0 +1,30 @@
+use mathlib.Core.Path.{_≡_, refl, _∙_}
+use Prim.Native.Nat.{ℕ}
+use Rattle.drive.specs.declared.NotRecorded.{NotRecorded}
+use Rattle.drive.specs.declared.Recorded.{Recorded}
+use Rattle.exports.specs.Codes.{recordedCode}
+use borrow.Author.Needs.{needs}
+use Rattle.exports.proofs.recorded_code.Statement.{statement}
+use Rattle.exports.proofs.recorded_code.Tie as tie
+use Rattle.exports.proofs.recorded_code.Reads as reads
+use Rattle.exports.proofs.recorded_code.Lts as lts
+
+short : (w : NotRecorded) → 154_618_822_656 ≡ recordedCode (Recorded.Refused w)
+unfolding recordedCode
+short NotRecorded.TooShort = refl
+
+enum-known-r : tie.Need-enum-known-r
+enum-known-r c = search needs
+
+enum-known-r-2 : tie.Need-enum-known-r-2
+enum-known-r-2 c = search needs
+
+returns : tie.Need-returns
+unfolding recordedCode
+returns c = rw (c .before .r .given .1)
+
+returns-2 : tie.Need-returns-2
+returns-2 c = rw (c .before .r2 .given .1) (short _)
+
+pub recorded-code-spec : {M : Type 1} → statement M
+recorded-code-spec = tie.close (tie.spec enum-known-r enum-known-r-2 returns returns-2)
