@@ -11,6 +11,8 @@ ghost use Rattle.drive.specs.Loop.{drivenFrom, driven};
 mod input;
 mod records;
 
+pub use records::put_at;
+pub use records::reply_record;
 use run::Call;
 use run::Run;
 use time::Clock;
