@@ -10,6 +10,8 @@ ghost use Rattle.drive.specs.Drive.{callsFrom, callsOf, recordsFrom, tex
 mod input;
 mod records;
 
+pub use records::put_at;
+pub use records::reply_record;
 use run::Call;
 use run::Run;
 use time::Clock;

@@ -14,6 +14,7 @@ ghost use Rattle.plan.specs.Limits.{InLimits};
 ghost use Rattle.activity.specs.Number.{activitiesVerdict};
 ghost use Rattle.judge.specs.Judge.{judgeOf};
 ghost use Rattle.drive.specs.Drive.{recordedOf, bufferOf};
+ghost use Rattle.made_up.specs.Answers.{madeCode, madeBuffer};
 ghost use Rattle.exports.specs.Codes.{codeOf, activitiesCode, writtenCode, backCode, backBuffer, recordedCode};
 
 // Document 01's number of a fault.
@@ -134,4 +135,13 @@ pub extern "C" fn jidlekuvo_drive(input: &[u8], out: &mut [u8]) -> usize
     ensures { λ r. ⌜ (r ≡ recordedCode (recordedOf (now (input .entry)) (now (out .entry)))) × (now (out .exit) ≡ bufferOf (now (input .entry)) (now (out .entry))) ⌝ }
 {
     recorded_code(drive::drive(input, out))
+}
+
+// Two calls of a run that no opening made, all as bytes (any bytes are such a run), and a record for each: how many bytes
+// it wrote, or 36 * 2^32 for a buffer too short.
+#[no_mangle]
+pub extern "C" fn jidlekuvo_made_up(bytes: &[u8], out: &mut [u8]) -> usize
+    ensures { λ r. ⌜ (r ≡ madeCode (now (out .entry))) × (now (out .exit) ≡ madeBuffer (now (bytes .entry)) (now (out .entry))) ⌝ }
+{
+    made_up::answer(bytes, out)
 }

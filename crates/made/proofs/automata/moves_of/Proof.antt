@@ -1,0 +1,70 @@
+-- The loop over the transitions. Its invariant: the first i stand in the array, and the next begins at `off`.
+use mathlib.Core.List.{[]}
+use mathlib.Core.Path.{_≡_}
+use native.Mathlib.Omega.{arith}
+use denote.Ref.{now}
+use Prim.Native.Nat.{_+_, _*_, _-_, _≤_}
+use lib.ListN.{length, length-set}
+use Rattle.made.specs.Layout.{moveSize, movesFrom}
+use Rattle.made.specs.Values.{moveAt}
+use Rattle.made.proofs.Filled.{Fills, fills-none, fills-more, fills-all}
+use borrow.Author.Needs.{needs}
+use Rattle.made.proofs.automata.moves_of.Statement.{statement}
+use Rattle.made.proofs.automata.moves_of.Tie as tie
+use Rattle.made.proofs.automata.moves_of.Reads as reads
+use Rattle.made.proofs.automata.moves_of.Lts as lts
+use Rattle.made.proofs.automata.move_at.Reads as move-at-reads
+
+abbrev Inv-loop : tie.InvT-loop
+Inv-loop bytes moves₀ i₀ off₀ moves i off =
+    (i ≤ 256) × (off ≡ movesFrom + moveSize * i) × (length moves ≡ 256) × Fills moveAt moveSize bytes movesFrom 256 moves i off
+
+abbrev μ-loop : tie.MeasureT-loop
+μ-loop bytes moves₀ i₀ off₀ moves i off = 256 - i
+
+move-at-requires : tie.Need-move-at-requires Inv-loop μ-loop
+move-at-requires c κs = search needs
+
+loop-holds : tie.Need-loop-holds Inv-loop μ-loop
+loop-holds c = let a = c .before .before .args in (search needs, search needs, search needs, fills-none moveAt moveSize (now (a .bytes)) movesFrom 256 [])
+
+move-at-requires-2 : tie.Need-move-at-requires-2 Inv-loop μ-loop
+move-at-requires-2 c κs = search needs
+
+mul-moves : tie.Need-mul-moves Inv-loop μ-loop
+mul-moves c = search needs
+
+array-set-from-moves : tie.Need-array-set-from-moves Inv-loop μ-loop
+array-set-from-moves c = search needs
+
+add-off : tie.Need-add-off Inv-loop μ-loop
+add-off c = search needs
+
+add-i : tie.Need-add-i Inv-loop μ-loop
+add-i c = search needs
+
+loop-less : tie.Need-loop-less Inv-loop μ-loop
+loop-less c = search needs
+
+loop-again : tie.Need-loop-again Inv-loop μ-loop
+loop-again c = let l = c .before .before .loop in let a = c .before .before .before .before .before .args in (omega arith, omega arith, simp length-set (l .inv .2), fills-more moveAt moveSize (now (a .bytes)) movesFrom 256 (l .moves) (l .i) (l .off) (l .inv .3) _ (c .move-at2 .ensures) (c .before .loop-test .taken) (omega arith))
+
+returns : tie.Need-returns Inv-loop μ-loop
+returns c = let l = c .before .loop in let a = c .before .before .before .before .args in fills-all moveAt moveSize (now (a .bytes)) movesFrom 256 (l .moves) (l .i) (l .off) (l .inv .3) (l .inv .2) (omega arith) (omega arith)
+
+pub moves-of-spec : {M : Type 1} → statement M
+moves-of-spec =
+    tie.close
+    (tie.spec
+    Inv-loop
+    μ-loop
+    move-at-requires
+    loop-holds
+    move-at-requires-2
+    mul-moves
+    array-set-from-moves
+    add-off
+    add-i
+    loop-less
+    loop-again
+    returns)

@@ -1,0 +1,72 @@
+-- The loop over the places. Its invariant: the first i stand in the array, and the next begins at `off`.
+use mathlib.Core.List.{[]}
+use Rattle.made.specs.Parts.{windowOf}
+use mathlib.Core.Path.{_≡_}
+use native.Mathlib.Omega.{arith}
+use denote.Ref.{now}
+use Prim.Native.Nat.{_+_, _*_, _-_, _≤_}
+use lib.ListN.{length, length-set}
+use Rattle.made.specs.Layout.{entrySize, windowFrom}
+use Rattle.made.specs.Values.{entryAt}
+use Rattle.made.proofs.Filled.{Fills, fills-none, fills-more, fills-all}
+use borrow.Author.Needs.{needs}
+use Rattle.made.proofs.entries.window_of.Statement.{statement}
+use Rattle.made.proofs.entries.window_of.Tie as tie
+use Rattle.made.proofs.entries.window_of.Reads as reads
+use Rattle.made.proofs.entries.window_of.Lts as lts
+use Rattle.made.proofs.entries.entry_at.Reads as entry-at-reads
+
+abbrev Inv-loop : tie.InvT-loop
+Inv-loop bytes window₀ i₀ off₀ window i off =
+    (i ≤ 512) × (off ≡ windowFrom + entrySize * i) × (length window ≡ 512) × Fills entryAt entrySize bytes windowFrom 512 window i off
+
+abbrev μ-loop : tie.MeasureT-loop
+μ-loop bytes window₀ i₀ off₀ window i off = 512 - i
+
+entry-at-requires : tie.Need-entry-at-requires Inv-loop μ-loop
+entry-at-requires c κs = search needs
+
+loop-holds : tie.Need-loop-holds Inv-loop μ-loop
+loop-holds c = let a = c .before .before .args in (search needs, search needs, search needs, fills-none entryAt entrySize (now (a .bytes)) windowFrom 512 [])
+
+entry-at-requires-2 : tie.Need-entry-at-requires-2 Inv-loop μ-loop
+entry-at-requires-2 c κs = search needs
+
+mul-window : tie.Need-mul-window Inv-loop μ-loop
+mul-window c = search needs
+
+array-set-from-window : tie.Need-array-set-from-window Inv-loop μ-loop
+array-set-from-window c = search needs
+
+add-off : tie.Need-add-off Inv-loop μ-loop
+add-off c = search needs
+
+add-i : tie.Need-add-i Inv-loop μ-loop
+add-i c = search needs
+
+loop-less : tie.Need-loop-less Inv-loop μ-loop
+loop-less c = search needs
+
+loop-again : tie.Need-loop-again Inv-loop μ-loop
+loop-again c = let l = c .before .before .loop in let a = c .before .before .before .before .before .args in (omega arith, omega arith, simp length-set (l .inv .2), fills-more entryAt entrySize (now (a .bytes)) windowFrom 512 (l .window) (l .i) (l .off) (l .inv .3) _ (c .entry-at2 .ensures) (c .before .loop-test .taken) (omega arith))
+
+returns : tie.Need-returns Inv-loop μ-loop
+unfolding windowOf
+returns c = let l = c .before .loop in let a = c .before .before .before .before .args in fills-all entryAt entrySize (now (a .bytes)) windowFrom 512 (l .window) (l .i) (l .off) (l .inv .3) (l .inv .2) (omega arith) (omega arith)
+
+pub window-of-spec : {M : Type 1} → statement M
+window-of-spec =
+    tie.close
+    (tie.spec
+    Inv-loop
+    μ-loop
+    entry-at-requires
+    loop-holds
+    entry-at-requires-2
+    mul-window
+    array-set-from-window
+    add-off
+    add-i
+    loop-less
+    loop-again
+    returns)

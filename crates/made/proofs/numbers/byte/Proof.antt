@@ -1,0 +1,22 @@
+-- The byte at an offset, 0 past the end.
+use mathlib.Core.Path.{sym}
+use native.Mathlib.Omega.{arith}
+use denote.Ref.{now}
+use lib.ListN.{List·getD-eq-default}
+use borrow.Author.Needs.{needs}
+use Rattle.made.proofs.numbers.byte.Statement.{statement}
+use Rattle.made.proofs.numbers.byte.Tie as tie
+use Rattle.made.proofs.numbers.byte.Reads as reads
+use Rattle.made.proofs.numbers.byte.Lts as lts
+
+shared-slice-read-result : tie.Need-shared-slice-read-result
+shared-slice-read-result c = search needs
+
+returns : tie.Need-returns
+returns c = search needs
+
+returns-2 : tie.Need-returns-2
+returns-2 c = let a = c .before .args in sym (List·getD-eq-default (now (a .bytes)) 0 (omega arith))
+
+pub byte-spec : {M : Type 1} → statement M
+byte-spec = tie.close (tie.spec shared-slice-read-result returns returns-2)

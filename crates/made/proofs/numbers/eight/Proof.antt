@@ -1,0 +1,47 @@
+-- A number of eight bytes is made of two numbers of four.
+use native.Mathlib.Omega.{arith}
+use denote.Ref.{now}
+use Rattle.wire.specs.Fields.{little-eight}
+use borrow.Author.Needs.{needs}
+use Rattle.made.proofs.numbers.eight.Statement.{statement}
+use Rattle.made.proofs.numbers.eight.Tie as tie
+use Rattle.made.proofs.numbers.eight.Reads as reads
+use Rattle.made.proofs.numbers.eight.Lts as lts
+use Rattle.made.proofs.numbers.four.Reads as four-reads
+
+four-requires : tie.Need-four-requires
+four-requires c κs = search needs
+
+cast-result : tie.Need-cast-result
+cast-result c = search needs
+
+add-four : tie.Need-add-four
+add-four c = search needs
+
+four-requires-2 : tie.Need-four-requires-2
+four-requires-2 c κs = search needs
+
+cast-result-2 : tie.Need-cast-result-2
+cast-result-2 c = search needs
+
+mul-result : tie.Need-mul-result
+mul-result c = search needs
+
+add-result : tie.Need-add-result
+add-result c = search needs
+
+returns : tie.Need-returns
+returns c = let a = c .before .before .before .args in omega (arith, little-eight (now (a .bytes)) (a .at))
+
+pub eight-spec : {M : Type 1} → statement M
+eight-spec =
+    tie.close
+    (tie.spec
+    four-requires
+    cast-result
+    add-four
+    four-requires-2
+    cast-result-2
+    mul-result
+    add-result
+    returns)

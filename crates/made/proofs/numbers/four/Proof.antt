@@ -1,0 +1,47 @@
+-- A number of four bytes is made of two numbers of two.
+use native.Mathlib.Omega.{arith}
+use denote.Ref.{now}
+use Rattle.wire.specs.Fields.{little-four}
+use borrow.Author.Needs.{needs}
+use Rattle.made.proofs.numbers.four.Statement.{statement}
+use Rattle.made.proofs.numbers.four.Tie as tie
+use Rattle.made.proofs.numbers.four.Reads as reads
+use Rattle.made.proofs.numbers.four.Lts as lts
+use Rattle.made.proofs.numbers.two.Reads as two-reads
+
+two-requires : tie.Need-two-requires
+two-requires c κs = search needs
+
+cast-result : tie.Need-cast-result
+cast-result c = search needs
+
+add-two : tie.Need-add-two
+add-two c = search needs
+
+two-requires-2 : tie.Need-two-requires-2
+two-requires-2 c κs = search needs
+
+cast-result-2 : tie.Need-cast-result-2
+cast-result-2 c = search needs
+
+mul-result : tie.Need-mul-result
+mul-result c = search needs
+
+add-result : tie.Need-add-result
+add-result c = search needs
+
+returns : tie.Need-returns
+returns c = let a = c .before .before .before .args in (omega (arith, little-four (now (a .bytes)) (a .at)), omega arith)
+
+pub four-spec : {M : Type 1} → statement M
+four-spec =
+    tie.close
+    (tie.spec
+    two-requires
+    cast-result
+    add-two
+    two-requires-2
+    cast-result-2
+    mul-result
+    add-result
+    returns)

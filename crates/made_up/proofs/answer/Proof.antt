@@ -1,0 +1,68 @@
+-- Two records, or a buffer too short.
+use native.Mathlib.Omega.{arith}
+use denote.Ref.{now}
+use Rattle.puts.specs.Puts.{puts-length}
+use Rattle.made_up.proofs.Recorded.{record-length, too-short, both-written}
+use borrow.Author.Needs.{needs}
+use Rattle.made_up.proofs.answer.Statement.{statement}
+use Rattle.made_up.proofs.answer.Tie as tie
+use Rattle.made_up.proofs.answer.Reads as reads
+use Rattle.made_up.proofs.answer.Lts as lts
+use Rattle.drive.proofs.put_at.Reads as put-at-reads
+use Rattle.drive.proofs.reply_record.Reads as reply-record-reads
+use Rattle.made_up.proofs.call_at.Reads as call-at-reads
+use Rattle.made_up.proofs.run_of.Reads as run-of-reads
+use Rattle.run.proofs.Run.call.Reads as call-reads
+
+returns : tie.Need-returns
+returns c = let a = c .before .before .before .args in too-short (now (a .bytes)) (now (a .out)) (c .if1 .taken)
+
+run-of-requires : tie.Need-run-of-requires
+run-of-requires c κs = search needs
+
+call-at-requires : tie.Need-call-at-requires
+call-at-requires c κs = search needs
+
+call-requires : tie.Need-call-requires
+call-requires c κs = search needs
+
+reply-record-requires : tie.Need-reply-record-requires
+reply-record-requires c κs = search needs
+
+put-at-requires : tie.Need-put-at-requires
+put-at-requires c κs = search needs
+
+call-at-requires-2 : tie.Need-call-at-requires-2
+call-at-requires-2 c κs = search needs
+
+call-requires-2 : tie.Need-call-requires-2
+call-requires-2 c κs = search needs
+
+reply-record-requires-2 : tie.Need-reply-record-requires-2
+reply-record-requires-2 c κs = search needs
+
+put-at-requires-2 : tie.Need-put-at-requires-2
+put-at-requires-2 c κs = let p = c .before .before .before .before .before .before .before in omega (arith, record-length (p .before .reply-record .result), p .put-at .ensures .past, puts-length (p .put-at .ensures))
+
+same-length : tie.Need-same-length
+same-length c = search needs
+
+returns-2 : tie.Need-returns-2
+returns-2 c = let q = c .before .before in let d = q .before .before .before in let p = d .before .before .before .before .before in let e = p .before .before .before in let a = e .before .before .before .before .before .before .args in both-written (now (a .bytes)) (now (a .out)) (omega arith) _ (e .before .before .run-of .ensures) _ _ (e .before .call-at .ensures) (d .before .call-at2 .ensures) _ _ (e .call .ensures) (d .call2 .ensures) _ _ (p .before .reply-record .ensures) (q .before .reply-record2 .ensures) (p .put-at .ensures) (q .put-at2 .ensures)
+
+pub answer-spec : {M : Type 1} → statement M
+answer-spec =
+    tie.close
+    (tie.spec
+    returns
+    run-of-requires
+    call-at-requires
+    call-requires
+    reply-record-requires
+    put-at-requires
+    call-at-requires-2
+    call-requires-2
+    reply-record-requires-2
+    put-at-requires-2
+    same-length
+    returns-2)
