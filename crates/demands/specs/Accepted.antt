@@ -5,10 +5,9 @@ use mathlib.Core.Logic.{_↔_}
 use Prim.Native.Nat.{ℕ, _≤_, _<_}
 use lib.ListN.{length, drop}
 use Rattle.plan.specs.Plan.{activityOf, resourceOf}
-use Rattle.plan.specs.Limits.{FileRules}
-use Rattle.plan.specs.Encoding.{encode}
-use Rattle.plan.specs.Spare.{zeroed}
 use Rattle.plan.specs.declared.Plan.{Plan}
+use Rattle.format.specs.Format.{Holds, print, result}
+use Rattle.planfile.specs.PlanFile.{faultOrder, planFile}
 pub use Rattle.roundtrip.specs.RoundTrip.{Bytes}
 use Rattle.activity.specs.Rules.{Meets}
 use Rattle.automaton.specs.Rules.{MeetsAutomaton}
@@ -18,12 +17,12 @@ use Rattle.writing.specs.declared.Written.{Written}
 
 -- what a plan and its bytes must meet
 pub record Accepts (bytes : List ℕ) (p : Plan) : Type 0 where
-  -- "The plan file": counts, numbers, durations and predecessors
-  pub file : FileRules p
-  -- the slots past its counts are zeros
-  pub spare : zeroed p ≡ p
-  -- the bytes are its encoding
-  pub encoded : encode p ≡ bytes
+  -- "The plan file", by its description: its numbers fit their fields, and none is at fault
+  pub holds : Holds faultOrder planFile p
+  -- the bytes are its writing
+  pub printed : print planFile p ≡ bytes
+  -- and what is read of them is the plan itself: the slots past its counts are zeros
+  pub same : result planFile p ≡ p
   -- "What an activity must satisfy"
   pub activities : (a : ℕ) → a < p .activities → Meets (resourceOf p) (activityOf p a)
   -- "What the automaton must satisfy"

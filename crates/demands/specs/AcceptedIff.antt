@@ -1,11 +1,12 @@
--- `accepted-iff`: judging accepts bytes as a plan iff the plan meets the definitions and the bytes are its encoding.
--- `longest`: no accepted plan exceeds 34,433 bytes. `written-back`: writing an accepted plan gives back its bytes. From reading both ways (roundtrip), the activities (activity) and the
--- automaton (automaton).
+-- `accepted-iff`: judging accepts bytes as a plan iff the plan meets the definitions and the bytes are its writing.
+-- `longest`: no accepted plan exceeds 34,433 bytes. `written-back`: writing an accepted plan gives back its bytes. From the
+-- file's description (planfile), the activities (activity) and the automaton (automaton).
 use mathlib.Core.Path.{_≡_}
 use mathlib.Core.List.{List}
 use Prim.Native.Nat.{ℕ}
 use Rattle.plan.specs.declared.Plan.{Plan}
-use Rattle.roundtrip.specs.RoundTrip as R
+use Rattle.planfile.specs.Accepted as F
+use Rattle.planfile.specs.HoldPlan.{plan-rules}
 use Rattle.activity.specs.Activities as A
 use Rattle.automaton.specs.Decides as D
 use Rattle.writing.specs.Back as B
@@ -15,27 +16,27 @@ use Rattle.demands.specs.Accepted.{Bytes, Accepts, StatementAcceptedIff,
 
 from-passes : (b : List ℕ) (p : Plan) → Bytes b → Passes b p → Accepts b p
 from-passes b p bytes h =
-    let r = R.written-read b bytes p (h .read) in
+    let r = F.accepted-iff b bytes p .0 (h .read) in
     record {
-      file = r .file;
-      spare = r .spare;
-      encoded = r .encoded;
+      holds = r .holds;
+      printed = r .written;
+      same = r .same;
       activities = A.accepted-iff p .0 (h .activities);
-      automaton = D.accepted-iff p (r .file .limits) .0 (h .automaton);
+      automaton = D.accepted-iff p (plan-rules p (r .holds) .limits) .0 (h .automaton);
     }
 
 to-passes : (b : List ℕ) (p : Plan) → Bytes b → Accepts b p → Passes b p
 to-passes b p bytes h = record {
-  read = R.accepted-iff b bytes p .1 (record { file = h .file; spare = h .spare; encoded = h .encoded });
+  read = F.accepted-iff b bytes p .1 (record { holds = h .holds; written = h .printed; same = h .same });
   activities = A.accepted-iff p .1 (h .activities);
-  automaton = D.accepted-iff p (h .file .limits) .1 (h .automaton);
+  automaton = D.accepted-iff p (plan-rules p (h .holds) .limits) .1 (h .automaton);
 }
 
 pub accepted-iff : StatementAcceptedIff
 accepted-iff b p bytes = (λ e. from-passes b p bytes (passed p b e), λ h. passing p b (to-passes b p bytes h))
 
 pub longest : StatementLongest
-longest b p bytes e = R.longest-file b bytes p (passed p b e .read)
+longest b p bytes e = F.longest-file b bytes p (passed p b e .read)
 
 pub written-back : StatementWrittenBack
 written-back b out p bytes e room = B.written-back b out p bytes (passed p b e .read) room

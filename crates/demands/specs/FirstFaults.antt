@@ -6,6 +6,7 @@ use mathlib.Core.Logic.{_↔_}
 use Prim.Native.Nat.{ℕ, _+_, _≤_, _<_}
 use lib.ListN.{length}
 use Rattle.plan.specs.Fault.{numberOf}
+use Rattle.plan.specs.Reading.{readPlan}
 use Rattle.plan.specs.declared.Fault.{Fault}
 use Rattle.plan.specs.declared.Verdict.{Verdict}
 use Rattle.format.specs.Format.{FirstFault, Refuses}
@@ -18,7 +19,12 @@ use Rattle.demands.specs.Accepted.{Bytes}
 abbrev pub Unread : List ℕ → Fault → ℕ → Type 0
 Unread b f k = (judgeOf b .verdict ≡ Verdict.Refused f k) × (numberOf f ≤ 8)
 
--- exactly the first fault of the first faulty field, or 6 where the fields end before the bytes do
+-- reading refuses with exactly the first fault of the first faulty field, or with 6 where the fields end before the bytes do
+abbrev pub StatementRefusedExactly : Type 0
+StatementRefusedExactly =
+    (b : List ℕ) (f : Fault) (k : ℕ) → Bytes b → (readPlan b .verdict ≡ Verdict.Refused f k) ↔ Refuses 1 faultOrder 6 b planFile (numberOf f) k
+
+-- and so does `judge` with 1 to 8: what follows reading answers 11 to 26 alone
 abbrev pub StatementUnread : Type 0
 StatementUnread = (b : List ℕ) (f : Fault) (k : ℕ) → Bytes b → Unread b f k ↔ Refuses 1 faultOrder 6 b planFile (numberOf f) k
 
@@ -31,6 +37,12 @@ abbrev pub StatementLocal : Type 0
 StatementLocal =
     (b c : List ℕ) (f : Fault) (k : ℕ) → Bytes b → Bytes c → (r : FirstFault 1 faultOrder b planFile 0 (numberOf f) k)
     → k + r .width ≤ length b → Agree (k + r .width) b c → Unread c f k
+
+-- the field itself holds nothing where the bytes end inside it: so do those of c, which agree up to its place
+abbrev pub StatementCut : Type 0
+StatementCut =
+    (b c : List ℕ) (f : Fault) (k : ℕ) → Bytes b → Bytes c → (r : FirstFault 1 faultOrder b planFile 0 (numberOf f) k)
+    → length c < k + r .width → Agree k b c → Unread c Fault.Ends k
 
 -- and of bytes left over it is their standing there alone
 abbrev pub StatementLeftOver : Type 0

@@ -1,5 +1,5 @@
--- `unread`: 1 to 8 are answered exactly for the first faulty field of the file's description. `place-in`, `local`, `left-over`,
--- `in-front`: where, and on which bytes it depends. From planfile/Refused and the whole verdict (VerdictsHold).
+-- `refused-exactly`, `unread`: 1 to 8 are answered exactly for the first faulty field of the file's description. `place-in`,
+-- `local`, `cut`, `left-over`, `in-front`: where, and on which bytes it depends. From planfile/Refused and the whole verdict (VerdictsHold).
 use mathlib.Core.Path.{_≡_, refl}
 use mathlib.Core.List.{List}
 use Prim.Native.Nat.{ℕ, _+_, _≤_, _<_}
@@ -9,7 +9,7 @@ use Rattle.plan.specs.Fault.{numberOf}
 use Rattle.plan.specs.declared.Fault.{Fault}
 use Rattle.plan.specs.declared.Plan.{Plan}
 use Rattle.plan.specs.declared.Verdict.{Verdict}
-use Rattle.format.specs.Format.{Format, done, field, parse, Refuses, faulty, more, Reached}
+use Rattle.format.specs.Format.{Format, done, field, parse, Refuses, faulty, more, Reached, short}
 use Rattle.format.specs.Reading.{fault-given, on-reached}
 use Rattle.format.specs.Writing.{Agree, reached-agree, no-earlier, no-earlier-end}
 use Rattle.planfile.specs.PlanFile.{faultOrder, planFile}
@@ -17,7 +17,10 @@ use Rattle.planfile.specs.Refused as P
 use Rattle.demands.specs.Accepted.{Bytes}
 use Rattle.demands.specs.Verdicts.{Judged}
 use Rattle.demands.specs.VerdictsHold.{verdict, of-field, reading-numbers, activity-numbers, automaton-numbers}
-use Rattle.demands.specs.FirstFaults.{Unread, StatementUnread, StatementPlaceIn, StatementLocal, StatementLeftOver, StatementInFront}
+use Rattle.demands.specs.FirstFaults.{Unread, StatementRefusedExactly, StatementUnread, StatementPlaceIn, StatementLocal, StatementCut, StatementLeftOver, StatementInFront}
+
+pub refused-exactly : StatementRefusedExactly
+refused-exactly b f k bytes = P.refused-exactly b bytes f k
 
 -- a number up to 8 is no activity's and no automaton's
 of-reading : (b : List ℕ) (f : Fault) (k : ℕ) → numberOf f ≤ 8 → Judged b (Verdict.Refused f k) → Refuses 1 faultOrder 6 b planFile (numberOf f) k
@@ -36,6 +39,18 @@ place-in b f k bytes h = P.place-in b bytes f k (P.refused-exactly b bytes f k .
 
 pub local : StatementLocal
 local b c f k bytes others r l g = unread c f k others .1 (P.refused-exactly c others f k .0 (P.local b c bytes others f k r l g))
+
+pub cut : StatementCut
+cut b c f k bytes others r l g =
+    unread c Fault.Ends k others .1
+    (faulty (record {
+      width = r .width;
+      get = r .get;
+      rules = r .rules;
+      rest = r .rest;
+      reached = reached-agree 1 faultOrder b c planFile 0 k g (field (r .width) (r .get) (r .rules) (r .rest)) k (r .reached) (omega arith);
+      faulty = short l;
+    }))
 
 -- what is due at the place of a refusal, in b and so in c
 record Due (b : List ℕ) (k : ℕ) : Type 0 where

@@ -14,6 +14,7 @@ use Rattle.specified.specs.Words.{Opening, traceBy}
 use Rattle.specified.specs.Plans.{AtMostEight, progressAt, scheduleAt, plan-equal, plan-times, plan-free}
 use Rattle.demand.specs.TheWord.{stateAfter}
 use Rattle.demand.specs.Laws.Next.{lawful, few-pending}
+use Rattle.planfile.specs.HoldPlan.{plan-rules}
 use Rattle.demands.specs.AcceptedIff.{accepted-iff}
 use Rattle.demands.specs.Times.{opened, TimesEqual, StatementTimesEqual}
 
@@ -75,4 +76,4 @@ module _ (p : Plan) (ts is : List ℕ) (l : Lawful p) (eight : AtMostEight p) (l
 pub times-equal : StatementTimesEqual
 times-equal b p ts is bytes e long path =
     let a = accepted-iff b p bytes .0 e in
-    equal p ts is (lawful p (a .file) (a .activities) (a .automaton .first)) (λ js q ev f. few-pending p (a .automaton .few) js q ev f) long path
+    equal p ts is (lawful p (plan-rules p (a .holds)) (a .activities) (a .automaton .first)) (λ js q ev f. few-pending p (a .automaton .few) js q ev f) long path

@@ -9,9 +9,7 @@ use Rattle.plan.specs.Reading.{zeroPlan}
 use Rattle.plan.specs.declared.Fault.{Fault}
 use Rattle.plan.specs.declared.Plan.{Plan}
 use Rattle.plan.specs.declared.Verdict.{Verdict}
-use Rattle.plan.specs.Limits.{FileRules}
-use Rattle.plan.specs.Encoding.{encode}
-use Rattle.format.specs.Format.{Refuses}
+use Rattle.format.specs.Format.{Refuses, Holds, print}
 use Rattle.planfile.specs.PlanFile.{faultOrder, planFile}
 use Rattle.activity.specs.Activities.{MeetsAt, FirstAt}
 use Rattle.automaton.specs.Rules.{MeetsAutomaton, Judges}
@@ -19,10 +17,10 @@ use Rattle.judge.specs.Judge.{judgeOf}
 use Rattle.demands.specs.Accepted.{Bytes}
 use Rattle.demands.specs.Alike.{SamePlan}
 
--- "The plan file": the plan keeps its limits and rules, and the bytes are its encoding
+-- "The plan file", by its description: the plan's numbers fit their fields and none is at fault, and the bytes are its writing
 pub record FileOf (b : List ℕ) (p : Plan) : Type 0 where
-  pub rules : FileRules p
-  pub encoded : encode p ≡ b
+  pub holds : Holds faultOrder planFile p
+  pub printed : print planFile p ≡ b
 
 -- "What an activity must satisfy", each of them
 abbrev pub EachMeets : Plan → Type 0

@@ -1,6 +1,5 @@
 -- `verdict`: a file gets each verdict in its condition and in no other. `refused-plan`: a refused file hands on a plan of zeros.
--- `verdict-numbers`: the same by number and place. From the file's description (planfile), reading both ways (roundtrip), the
--- activities and the automaton.
+-- `verdict-numbers`: the same by number and place. From the file's description (planfile), the activities and the automaton.
 use mathlib.Core.Path.{_≡_, refl, sym, ap, _∙_, subst}
 use mathlib.Core.List.{List, [], _∷_, _++_}
 use mathlib.Core.Logic.{inl, inr}
@@ -8,7 +7,6 @@ use Prim.Native.Nat.{ℕ, _≤_}
 use native.Mathlib.Omega.{arith}
 use Rattle.plan.specs.Fault.{numberOf}
 use Rattle.plan.specs.Limits.{InLimits}
-use Rattle.plan.specs.Spare.{zeroed}
 use Rattle.plan.specs.Reading.{readPlan, zeroPlan}
 use Rattle.plan.specs.declared.Fault.{Fault}
 use Rattle.plan.specs.Plan.{resourceOf, activityOf}
@@ -18,10 +16,11 @@ use Rattle.plan.specs.declared.Verdict.{Verdict}
 use Rattle.plan.specs.declared.PlanRead.{PlanRead}
 use Rattle.lists.specs.Lists.{Among}
 use Rattle.format.specs.Format as F
-use Rattle.format.specs.Format.{faulty, more, Faulty, short, wrong}
-use Rattle.planfile.specs.PlanFile.{faultOrder}
+use Rattle.format.specs.Format.{faulty, more, Faulty, short, wrong, result}
+use Rattle.planfile.specs.PlanFile.{faultOrder, planFile}
+use Rattle.planfile.specs.Accepted as W
+use Rattle.planfile.specs.HoldPlan.{plan-rules, plan-result}
 use Rattle.planfile.specs.Refused.{refused-exactly}
-use Rattle.roundtrip.specs.RoundTrip as R
 use Rattle.activity.specs.Number.{activitiesVerdict}
 use Rattle.activity.specs.Activities as A
 use Rattle.activity.specs.Activities.{FirstAt}
@@ -39,14 +38,18 @@ use Rattle.demands.specs.Laws.Only.{turned-plan, both, each-meets, first
 use Rattle.demands.specs.Verdicts.{FileOf, EachMeets, Judged, Meeting, StatementVerdict, StatementAcceptedPlain, StatementOnlyPlan, StatementHandedOn, StatementRefusedPlan, StatementVerdictNumbers, StatementReadingNumbers, StatementActivityNumbers, StatementAutomatonNumbers}
 
 file-of : (b : List ℕ) → Bytes b → (p : Plan) → readPlan b ≡ accepted p → FileOf b p
-file-of b bytes p e = let h = R.written-read b bytes p e in record { rules = h .file; encoded = h .encoded }
+file-of b bytes p e = let h = W.accepted-iff b bytes p .0 e in record { holds = h .holds; printed = h .written }
+
+-- the limits, which the activities and the automaton start from
+limits : (b : List ℕ) (p : Plan) → FileOf b p → InLimits p
+limits b p h = plan-rules p (h .holds) .limits
 
 -- ---- from the verdict to its condition
 
 module _ (b : List ℕ) (q : Plan) (h : FileOf b q) where
   by-automaton : EachMeets q → (v : Verdict) → automatonVerdict q ≡ v → Judged b (onVerdict v (accepted q) refusedPlan .verdict)
-  by-automaton m Verdict.Accepted e = Judged.accepted h m (D.accepted-iff q (h .rules .limits) .0 e)
-  by-automaton m (Verdict.Refused f s) e = Judged.automaton h m (D.verdict-iff q (h .rules .limits) (Verdict.Refused f s) .0 e)
+  by-automaton m Verdict.Accepted e = Judged.accepted h m (D.accepted-iff q (limits b q h) .0 e)
+  by-automaton m (Verdict.Refused f s) e = Judged.automaton h m (D.verdict-iff q (limits b q h) (Verdict.Refused f s) .0 e)
 
   by-activities : (v : Verdict) → activitiesVerdict q ≡ v → Judged b (onVerdict v (judgeAutomaton q) refusedPlan .verdict)
   by-activities Verdict.Accepted e = by-automaton (A.accepted-iff q .0 e) (automatonVerdict q) refl
@@ -67,23 +70,26 @@ module _ (b : List ℕ) (bytes : Bytes b) where
 
   -- what is read from the file of p is p but for its spare room, so it is judged as p is
   module _ (p : Plan) (h : FileOf b p) where
-    read : readPlan b ≡ accepted (zeroed p)
-    read = R.read-written b bytes p (h .rules) (sym (h .encoded))
+    abbrev q : Plan
+    q = result planFile p
 
-    same : SamePlan p (zeroed p)
-    same = zeroed-alike p (h .rules .limits)
+    read : readPlan b ≡ accepted q
+    read = W.read-printed b bytes p (h .holds) (h .printed)
 
-    in-limits : InLimits (zeroed p)
-    in-limits = file-of b bytes (zeroed p) read .rules .limits
+    same : SamePlan p q
+    same = subst (SamePlan p) (sym (plan-result p (h .holds))) (zeroed-alike p (limits b p h))
 
-    each : EachMeets p → activitiesVerdict (zeroed p) ≡ Verdict.Accepted
-    each m = A.accepted-iff (zeroed p) .1 (each-meets p (zeroed p) same (h .rules .limits) m)
+    in-limits : InLimits q
+    in-limits = limits b q (file-of b bytes q read)
 
-    first : (f : Fault) (i : ℕ) → FirstAt p f i → activitiesVerdict (zeroed p) ≡ Verdict.Refused f i
-    first f i x = A.refused-iff (zeroed p) f i .1 (first-at p (zeroed p) same (h .rules .limits) f i x)
+    each : EachMeets p → activitiesVerdict q ≡ Verdict.Accepted
+    each m = A.accepted-iff q .1 (each-meets p q same (limits b p h) m)
 
-    judges : (v : Verdict) → Judges p v → automatonVerdict (zeroed p) ≡ v
-    judges v x = D.verdict-iff (zeroed p) in-limits v .1 (automaton-judges p (zeroed p) same (h .rules .limits) v x)
+    first : (f : Fault) (i : ℕ) → FirstAt p f i → activitiesVerdict q ≡ Verdict.Refused f i
+    first f i x = A.refused-iff q f i .1 (first-at p q same (limits b p h) f i x)
+
+    judges : (v : Verdict) → Judges p v → automatonVerdict q ≡ v
+    judges v x = D.verdict-iff q in-limits v .1 (automaton-judges p q same (limits b p h) v x)
 
   backward : (v : Verdict) → Judged b v → judgeOf b .verdict ≡ v
   unfolding judgeOf
@@ -108,15 +114,15 @@ accepted-plain b bytes = (
 
 pub only-plan : StatementOnlyPlan
 only-plan b p q bytes h k =
-    let e : zeroed p ≡ zeroed q = ap (λ (r : PlanRead). r .plan) (sym (read b bytes p h) ∙ read b bytes q k) in
-    both (zeroed-alike p (h .rules .limits)) (rw e (turned-plan (zeroed-alike q (k .rules .limits))))
+    let e : result planFile p ≡ result planFile q = ap (λ (r : PlanRead). r .plan) (sym (read b bytes p h) ∙ read b bytes q k) in
+    both (same b bytes p h) (rw e (turned-plan (same b bytes q k)))
 
 pub handed-on : StatementHandedOn
 handed-on b bytes e =
     let p = judgeOf b .plan in
     let x = passed p b (λ i. record { verdict = e i; plan = p }) in
     let h = file-of b bytes p (x .read) in
-    (h, A.accepted-iff p .0 (x .activities), D.accepted-iff p (h .rules .limits) .0 (x .automaton))
+    (h, A.accepted-iff p .0 (x .activities), D.accepted-iff p (limits b p h) .0 (x .automaton))
 
 -- ---- a refused file
 
