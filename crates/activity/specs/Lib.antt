@@ -12,8 +12,6 @@ pub mod Theorem
 pub mod Activities
 pub mod Witness
 pub mod Example
--- Laws of activities that meet the rules.
-pub mod Laws
 -- What the inner functions say of words and of single nodes.
 pub mod Closure
 pub mod Nodes
