@@ -7,13 +7,10 @@ pub mod Number
 pub mod Judged
 pub mod Copied
 pub mod Fits
--- The computation is right: for one activity, for a plan, and node by node; and two activities of plan T.
+-- The computation is right: for one activity and for a plan; and two activities of plan T.
 pub mod Theorem
 pub mod Activities
-pub mod Witness
 pub mod Example
--- Laws of activities that meet the rules.
-pub mod Laws
 -- What the inner functions say of words and of single nodes.
 pub mod Closure
 pub mod Nodes

@@ -138,7 +138,3 @@ module _ (belongs : ℕ → ℕ) (a : List Node) where
   -- a number is returned iff its rule is broken and no earlier one is
   pub bad-iff : (f : Fault) → (faultOf belongs a ≡ Finding.Bad f) ↔ First belongs a f
   bad-iff f = (λ e. subst (Judged belongs a) e judged, λ p. only (faultOf belongs a) (Finding.Bad f) judged p)
-
-  -- no number is returned iff the activity meets all rules
-  pub good-iff : (faultOf belongs a ≡ Finding.Good) ↔ Meets belongs a
-  good-iff = (λ e. subst (Judged belongs a) e judged, λ p. only (faultOf belongs a) Finding.Good judged p)

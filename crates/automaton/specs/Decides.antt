@@ -172,21 +172,3 @@ module _ (p : Plan) (limits : InLimits p) where
 
   pub accepted-iff : (automatonVerdict p ≡ Verdict.Accepted → MeetsAutomaton p) × (MeetsAutomaton p → automatonVerdict p ≡ Verdict.Accepted)
   accepted-iff = (λ e. meets (subst (Judges p) e judged), λ m. determined Verdict.Accepted (accepted m))
-
-  -- where 21 to 24 are kept: 25 if and only if some path from the initial state processes an event that is not pending, or ends in
-  -- a final state with something left
-  pub unbalanced-iff : Rule21 p → Rule22 p → Rule23 p → Rule24 p
-      → (automatonVerdict p ≡ Verdict.Refused Fault.Unbalanced 0 → Breaks25 a (emits p)) × (Breaks25 a (emits p) → automatonVerdict p ≡ Verdict.Refused Fault.Unbalanced 0)
-  unbalanced-iff e b c w = (λ h. found (subst (Judges p) h judged), λ x. determined (Verdict.Refused Fault.Unbalanced 0) (number25 e b c w x))
-    where
-      found : Judges p (Verdict.Refused Fault.Unbalanced 0) → Breaks25 a (emits p)
-      found (number25 e b c w x) = x
-
-  -- 26 if and only if there is no such path, and some path reaches a state with more than 8 of an event pending
-  pub crowded-iff : Rule21 p → Rule22 p → Rule23 p → Rule24 p
-      → (automatonVerdict p ≡ Verdict.Refused Fault.TooManyPending 0 → (Breaks25 a (emits p) → ⊥) × Breaks26 a (emits p))
-      × ((Breaks25 a (emits p) → ⊥) → Breaks26 a (emits p) → automatonVerdict p ≡ Verdict.Refused Fault.TooManyPending 0)
-  crowded-iff e b c w = (λ h. found (subst (Judges p) h judged), λ n x. determined (Verdict.Refused Fault.TooManyPending 0) (number26 e b c w n x))
-    where
-      found : Judges p (Verdict.Refused Fault.TooManyPending 0) → (Breaks25 a (emits p) → ⊥) × Breaks26 a (emits p)
-      found (number26 e b c w n x) = (n, x)

@@ -1,9 +1,9 @@
 -- What holds of the automaton of a plan that meets the rules: what a state does next is what its transitions say, the awaited
--- event is pending, each reachable state has one count of each event, and within 64 transitions a state waits or is final.
+-- event is pending, at most 8 of each are, and within 64 transitions a state waits or is final.
 use mathlib.Core.Path.{_≡_, refl, sym, ap, _∙_, subst}
 use mathlib.Core.Bool.{true}
 use mathlib.Core.Logic.{_⊎_, inl, inr}
-use Prim.Native.Nat.{ℕ, zero, suc, _+_, _≤_, _<_}
+use Prim.Native.Nat.{ℕ, zero, suc, _≤_, _<_}
 use native.Mathlib.Omega.{arith}
 use native.Mathlib.Decide.{ℕ-discrete, decLt}
 use Rattle.plan.specs.declared.Input.{Input}
@@ -13,11 +13,9 @@ use Rattle.plan.specs.Plan.{move, isFinal, outcomesOf}
 use Rattle.plan.specs.Limits.{InLimits}
 use Rattle.automaton.specs.declared.Next.{Next}
 use Rattle.automaton.specs.declared.Chosen.{Chosen}
-use Rattle.automaton.specs.Rules.{Leaves, Processes, Path, none, more, emits, processed, emitted, pending, MeetsAutomaton}
+use Rattle.automaton.specs.Rules.{Leaves, Processes, Path, none, more, emits, pending, MeetsAutomaton}
 use Rattle.automaton.specs.Next.{nextOf, chosenOf}
 use Rattle.automaton.specs.States.{NextIs, ended, goes, waits, next-is, ChosenIs, nothing, moves, chosen-is, unlike, same-event}
-use Rattle.automaton.specs.Counts.{short, conflict}
-use Rattle.automaton.specs.Decides.{none-breaks-25}
 
 -- "A waiting state is any state whose transitions carry an event."
 abbrev pub Waiting : Automaton → ℕ → ℕ → Type 0
@@ -52,13 +50,6 @@ module _ (p : Plan) (limits : InLimits p) (m : MeetsAutomaton p) where
   a = p .automaton
 
   -- ---- states
-
-  inside : {s q : ℕ} → s < a .states → Path a s q → q < a .states
-  inside l none = l
-  inside l (more w i x t) = subst (λ (q : ℕ). q < a .states) t (limits .moves i (x .low) .to)
-
-  pub reached-state : {s : ℕ} → Path a (a .initial) s → s < a .states
-  reached-state w = inside (limits .initial) w
 
   -- transition j of state s is the only one that needs no event
   only : (s i j : ℕ) → s < a .states → Leaves a s i → Leaves a s j → move a j .input ≡ Input.Nothing → j ≡ i
@@ -122,16 +113,6 @@ module _ (p : Plan) (limits : InLimits p) (m : MeetsAutomaton p) where
     where
       by : NextIs a s (Next.Waits e) → 0 < pending a (emits p) e w
       by (waits o x) = omega (arith, m .first s w e o x)
-
-  enough : {s : ℕ} (w : Path a (a .initial) s) (e : ℕ) → processed a e w ≤ emitted a (emits p) e w
-  enough w e = elim (decLt (emitted a (emits p) e w) (processed a e w)) [ yes l ↦ absurd (none-breaks-25 m (short a (emits p) w e l)) | no l ↦ omega arith ]
-
-  -- every reachable state has one count of each event, by whichever path
-  pub one-count : {s : ℕ} (v w : Path a (a .initial) s) (e : ℕ) → pending a (emits p) e v ≡ pending a (emits p) e w
-  one-count {s} v w e = elim (ℕ-discrete (emitted a (emits p) e v + processed a e w) (emitted a (emits p) e w + processed a e v)) [
-    | yes z ↦ omega (arith, enough v e, enough w e)
-    | no z ↦ absurd (none-breaks-25 m (conflict a (emits p) v w e (m .ways s (reached-state v)) z))
-  ]
 
   pub few-pending : {s : ℕ} (w : Path a (a .initial) s) (e : ℕ) → pending a (emits p) e w ≤ 8
   few-pending {s} w e = m .few s w e

@@ -13,7 +13,7 @@ use Rattle.plan.specs.declared.Plan.{Plan}
 use Rattle.plan.specs.Plan.{resourceOf}
 use Rattle.behaviour.specs.Word.{Step, Word, _▷_, Begins, size, times}
 use Rattle.behaviour.specs.Accepted.{GoodWord, Counted}
-use Rattle.behaviour.specs.Combined.{Ident, identity, NotRelease, Is, Before, Instance, combined}
+use Rattle.behaviour.specs.Combined.{Ident, identity, NotRelease, Before, Instance, combined}
 use Rattle.behaviour.specs.Times.{Timing}
 use Rattle.behaviour.specs.Engine.{State, Trace, Run}
 use Rattle.behaviour.specs.Exec.{oldestOf, floorOf, stateOf, startsOf, endsOf, traceOf, startIn, endIn}
@@ -78,12 +78,6 @@ module _ (R : ℕ) (belongs available : ℕ → ℕ) (w : Word) (good : GoodWord
   -- and no others do
   pub times-only : (S C : Ident → ℕ) → Timing (combined R w) available S C → (x : Ident) (k : Kind) (d : ℕ) → combined R w .Holds x k d → (S x ≡ startIn available w x) × (C x ≡ endIn available w x)
   times-only S C t = one-solution R belongs available w good S C (startIn available w) (endIn available w) t times-equal
-
-  -- a resource is available when its release completes
-  pub free-equal : (r : ℕ) → r < R → (x : Ident) → Is (combined R w) x (Kind.Release r) → endIn available w x ≡ stateOf available w .free r
-  free-equal r l x is =
-      let f = whole .free r l in
-      ap (endIn available w) (whole .one-release x (f .0) r is (f .1)) ∙ f .2 ∙ ap (λ (s : State). s .free r) (state-after available w)
 
   -- the queue of e holds the completions of its instances from number |w|^e + 1 on, in order
   pub queue-equal : (e : ℕ) → Emitted (combined R w) e (times e w) (endIn available w) (stateOf available w .queue e)

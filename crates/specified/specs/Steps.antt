@@ -1,7 +1,6 @@
 -- One transition of an accepted plan, as the engine computes it, is a step as the theorems about the combined activity
 -- ask for: the processed instance, the times of the nodes, the availabilities, and the order of the emitted instances.
-use mathlib.Core.Path.{_≡_, refl, sym, ap, _∙_, subst}
-use mathlib.Core.Bool.{true}
+use mathlib.Core.Path.{_≡_, refl, sym, ap, _∙_}
 use mathlib.Core.Logic.{_⊎_, inl, inr}
 use mathlib.Core.List.{List, [], _∷_, _++_, map}
 use Prim.Native.Nat.{ℕ, _+_, _<_, max}
@@ -19,7 +18,7 @@ use Rattle.behaviour.specs.Combined.{NotClaim}
 use Rattle.behaviour.specs.Engine.{latest, held, Timed, Emits, raised, Available, Steps}
 use Rattle.timing.specs.declared.Progress.{Progress}
 use Rattle.timing.specs.declared.Schedule.{Schedule}
-use Rattle.timing.specs.Times.{at, flag, largestOf, startBy, startOf, scheduleOf, orderOf}
+use Rattle.timing.specs.Times.{at, largestOf, startBy, startOf, scheduleOf, orderOf}
 use Rattle.timing.specs.Queues.{pendingOf, queueOf, processedOf, floorOf}
 use Rattle.timing.specs.Engine.{heldOf, leftOf, closedOf, emitsOf, timedOf, advanceOf}
 use Rattle.timing.specs.Laws.Fits.{processed-available, processed-latest, processed-position}
@@ -142,10 +141,6 @@ module _ (R : ℕ) (belongs : ℕ → ℕ) (a : List Node) (i : Input) (to : ℕ
       (let u = ready .room e in let v = Events.how-many e a (emitted a t e) (emits e) in let w = pending-before e in omega arith)
 
   -- ---- what a reader gets
-
-  -- every node is done
-  pub all-done : (n : ℕ) → n < length a → flag (advanceOf R a i to g .schedule .done) n ≡ true
-  all-done n l = subst (λ (s : Schedule). flag (s .done) n ≡ true) (sym (answered .0)) (done .all n l)
 
   -- the transition is a step
   pub steps : Steps R (record { input = i; output = a }) (seen g) (floorOf i g) (at (advanceOf R a i to g .schedule .start)) (at (advanceOf R a i to g .schedule .end)) (emitted a (advanceOf R a i to g .schedule)) (seen (advanceOf R a i to g .progress))

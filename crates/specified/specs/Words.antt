@@ -160,7 +160,3 @@ module _ (R : ℕ) (belongs available : ℕ → ℕ) (few-resources : R ≤ 16) 
     -- the engine's times satisfy Def. 11 on the combined activity, and its availabilities are those of the releases
     pub engine-equal : Equal R available (traceBy G T w) w
     engine-equal = run-equal R belongs available (traceBy G T w) w good engine-run
-
-    -- an event has as many pending instances as were emitted and not processed
-    pub engine-pending : (e : ℕ) → pendingOf (G (size w)) e + times e w ≡ emissions e w
-    engine-pending = stands w good counted fitting few o run .pending

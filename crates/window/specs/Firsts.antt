@@ -8,8 +8,8 @@ use native.Mathlib.Omega.{arith}
 use lib.ListN.{length, getD}
 use Rattle.window.specs.declared.Entry.{Entry}
 use Rattle.window.specs.declared.Found.{Found}
-use Rattle.window.specs.Window.{vacant, before, better, first, onFound}
-use Rattle.window.specs.Order.{AtMost, not-before, Order}
+use Rattle.window.specs.Window.{vacant, better, first, onFound}
+use Rattle.window.specs.Order.{Order}
 
 -- of the places whose entry passes, place i with entry e is the first
 pub record First (p : Entry → Bool) (goes : Entry → Entry → Bool) (w : List Entry) (i : ℕ) (e : Entry) : Type 0 where
@@ -109,8 +109,3 @@ module _ (p : Entry → Bool) (goes : Entry → Entry → Bool) (order : Order g
       go : (r : Found) → first p goes 0 w ≡ r → r ≡ Found.Nothing
       go Found.Nothing q = refl
       go (Found.At i e) q = let f = first-found i e q in absurd (true≢false (sym (f .passes) ∙ (ap p (sym (f .stands)) ∙ n i (f .within))))
-
--- by a time, and then as ties go: it stands at or before each that passes
-pub first-at-most : (time : Entry → ℕ) (p : Entry → Bool) (w : List Entry) (i : ℕ) (e : Entry) → First p (λ a b. before (time a) (time b) a b) w i e
-    → (j : ℕ) → j < length w → p (getD w j vacant) ≡ true → AtMost (time e) (time (getD w j vacant)) e (getD w j vacant)
-first-at-most time p w i e f j l q = not-before (time (getD w j vacant)) (time e) (getD w j vacant) e (f .least j l q)

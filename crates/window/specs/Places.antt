@@ -10,7 +10,7 @@ use lib.ListN.{length, getD, set, length-set}
 use borrow.Author.Tests.{eqb-true, eqb-false}
 use lib.Seq.{getD-set-same, getD-set-other}
 use Rattle.window.specs.declared.Entry.{Entry}
-use Rattle.window.specs.Window.{vacant, startedOf, isFree, isHeld, isEmpty, vacancies}
+use Rattle.window.specs.Window.{vacant, isFree, isHeld, isEmpty, vacancies}
 use Rattle.window.specs.Tests.{held-unfree, unfree-held}
 
 -- place i of the window holds the node of entry e
@@ -124,9 +124,6 @@ module _ (w : List Entry) (i : ℕ) (e : Entry) (once : Once w) (own : isHeld (e
       go (inl x) (inr y) = x .0 ∙ beside k a b (x .1) (p .held) (y .1) r
       go (inr x) (inl y) = sym (y .0 ∙ beside j b a (y .1) (q .held) (x .1) (sym (r .0), sym (r .1)))
       go (inr x) (inr y) = once j k a b (x .1) (y .1) r
-
-pub started-once : (w : List Entry) (i : ℕ) (e : Entry) → Once w → Holds w i e → Once (set w i (startedOf e))
-started-once w i e o h = stored-once w i (startedOf e) o (λ q. (e, h, (refl, refl)))
 
 pub cleared-once : (w : List Entry) (i : ℕ) → Once w → Once (set w i vacant)
 cleared-once w i o = stored-once w i vacant o (λ q. absurd (true≢false (sym q)))

@@ -27,12 +27,6 @@ use Rattle.behaviour.specs.Laws.Unique.{shape-of, good-beginning}
 
 -- ---- places
 
-module _ (R : ℕ) (w : Word) (x : Step) where
-  -- a node at an earlier place was there before
-  pub old-node : (y : Ident) (k : Kind) (d : ℕ) → place y ≤ size w → combined R (w ▷ x) .Holds y k d → combined R w .Holds y k d
-  old-node y k d l (Joined.left h nr) = h
-  old-node y k d l (Joined.right h nc) = absurd (let u = node-place R (suc (size w)) (x .output) y k d h in omega arith)
-
 -- claims stand at the opening alone
 pub claim-place : (R : ℕ) (w : Word) (y : Ident) (k : Kind) (r d : ℕ) → k ≡ Claim r → combined R w .Holds y k d → place y ≡ 0
 claim-place R τ y k r d c h = node-place R 0 [] y k d h

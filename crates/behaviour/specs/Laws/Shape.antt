@@ -73,10 +73,6 @@ module _ (R q : ℕ) (a : List Node) where
   node-place x k d (Nodes.claim l u) = refl
   node-place x k d (Nodes.release l u) = refl
 
-  pub arrow-places : (m n : Ident) → Arrows R q a m n → (place m ≡ q) × (place n ≡ q)
-  arrow-places m n (Arrows.own h) = (refl, refl)
-  arrow-places m n (Arrows.added l u) = (refl, refl)
-
   -- what a node of the completed activity is, by cases on its identity
   abbrev pub Sort : Ident → Kind → ℕ → Type 0
   Sort (named p n) k d = (n < length a) × (node a n .kind ≡ k) × (node a n .duration ≡ d)

@@ -153,12 +153,6 @@ module _ (R : ℕ) (belongs available : ℕ → ℕ) where
           let g = u .ends y k d h in
           (e, (omega arith))
 
-  -- one more step changes no time of a node that stays
-  pub stable : (w : Word) (x : Step) → GoodWord R belongs (w ▷ x) → (S C T D : Ident → ℕ) → Timing (combined R w) available S C → Timing (combined R (w ▷ x)) available T D → (y : Ident) (k : Kind) (d : ℕ) → combined R w .Holds y k d → NotRelease k → combined R (w ▷ x) .Holds y k d × (S y ≡ T y) × (C y ≡ D y)
-  stable w x ok S C T D t u y k d h nr =
-      let a = lasting-agree w (ok .0) S C T D (lasting (combined R w) available S C t) (lasting-left w x ok T D (lasting (combined R (w ▷ x)) available T D u)) y k d h nr in
-      (Joined.left h nr, a .0, a .1)
-
 -- ---- a word and its beginnings
 
 module _ (R : ℕ) (belongs available : ℕ → ℕ) where

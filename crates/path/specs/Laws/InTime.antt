@@ -4,7 +4,7 @@ use mathlib.Core.Bool.{Bool, true, false, cond}
 use mathlib.Core.List.{List, [], _∷_, _++_}
 use Prim.Native.Nat.{ℕ, zero, suc, _+_, _≤_, _<_}
 use native.Mathlib.Omega.{arith}
-use lib.ListN.{length, getD, set, take, length-set}
+use lib.ListN.{length, set, take, length-set}
 use lib.Dec.{ltb, eqb}
 use Rattle.time.specs.Time.{horizon}
 use Rattle.time.specs.declared.Specified.{Specified}
@@ -16,16 +16,16 @@ use Rattle.plan.specs.declared.Plan.{Plan}
 use Rattle.automaton.specs.Next.{nextOf}
 use Rattle.automaton.specs.declared.Next.{Next}
 use Rattle.timing.specs.Times.{specified, at, flag, readyOf, startOf, placedOf, visitOf, roundOf, roundsOf, unscheduled}
-use Rattle.timing.specs.Engine.{lastPosition, heldOf, leftOf, aboveOf, beyondOf, closedOf, emitsOf, timedOf, advanceOf}
+use Rattle.timing.specs.Engine.{lastPosition, aboveOf, beyondOf, closedOf, emitsOf, timedOf, advanceOf}
 use Rattle.timing.specs.Laws.Kept.{true-false, above-none}
 use Rattle.timing.specs.declared.Progress.{Progress}
 use Rattle.timing.specs.declared.Schedule.{Schedule}
-use Rattle.window.specs.Window.{vacant, placed, vacancies}
-use Rattle.window.specs.Placed.{vacancies-length, placed-each}
+use Rattle.window.specs.Window.{placed, vacancies}
+use Rattle.window.specs.Placed.{vacancies-length}
 use Rattle.window.specs.Times.{InTime, AllInTime}
 use Rattle.window.specs.declared.Entry.{Entry}
 use Rattle.path.specs.declared.Pathed.{Pathed}
-use Rattle.path.specs.Path.{Path, isWork, loaded, entriesFrom, activityNumber, takenBy, entriesBy, ends, after, pathFrom, longestPath}
+use Rattle.path.specs.Path.{Path, isWork, loaded, entriesFrom, activityNumber, takenBy, entriesBy, after, pathFrom, longestPath}
 use Rattle.path.specs.Pathed.{ProgressIn, Leads, pathed, Loads}
 use Rattle.path.specs.Laws.Collecting.{take-firsts}
 use Rattle.path.specs.Laws.Stepping.{next-leads, taken-kept}
@@ -174,7 +174,3 @@ module _ (p : Plan) (limits : InLimits p) where
 -- as many as there are places for: all of them are placed
 pub placed-all : (p : Plan) (q : Path) (r : Pathed) → Loads p q r → (w : List Entry) → length w ≡ 512 → r .count ≤ vacancies w → placed w (take (r .count) (r .entries)) ≡ placed w (q .entries)
 placed-all p q r h w l k = ap (placed w) (h .entries (let u = vacancies-length w in omega arith))
-
--- and the window's times stay within the horizon
-pub placed-in-time : (w es : List Entry) → AllInTime w → AllInTime es → AllInTime (placed w es)
-placed-in-time w es h k = placed-each w es InTime h (λ i l. k i)
