@@ -50,7 +50,7 @@ use Rattle.demand.specs.Laws.Invariant.{Invariant}
 use Rattle.demand.specs.Laws.Growth.{here, extends-self}
 use Rattle.demand.specs.Laws.Replies.{failed-stopped}
 use Rattle.demand.specs.Laws.Longest.{within-loads, loads-end, ends-whole, ends-beyond, ends-full}
-use Rattle.demand.specs.Laws.TheWord.{told-once, takes-follows}
+use Rattle.demand.specs.Laws.TheWord.{told-once, takes-follows, waits-same, ended-waits}
 use Rattle.demand.specs.Laws.World.{old-position, new-start}
 use Rattle.demand.specs.OfRun.{machine}
 use Rattle.works.specs.Engine.{EngineLaws}
@@ -64,12 +64,6 @@ use Rattle.works.specs.Laws.Sums.{sum-at-most}
 use Rattle.works.specs.Laws.Further.{Onto, still, hearing, Furthered, further-loads, told}
 use Rattle.works.specs.Laws.Kinds.{kind-is}
 use Rattle.works.specs.Laws.Informed.{stands-informed}
-
-waits-same : {d e : ℕ} → Next.Waits d ≡ Next.Waits e → d ≡ e
-waits-same e = cc
-
-ended-waits : {A : Type 0} {e : ℕ} → Next.Ended ≡ Next.Waits e → A
-ended-waits e = absurd (let z : _≡_ {A = ℕ} 0 1 = cc in omega arith)
 
 tolds-few : (q : List Instance) → tolds q ≤ length q
 tolds-few [] = omega arith

@@ -21,7 +21,7 @@ use Rattle.plan.specs.declared.Verdict.{Verdict}
 use Rattle.activity.specs.Rules.{node, Meets}
 use Rattle.automaton.specs.Next.{nextOf}
 use Rattle.automaton.specs.Rules.{MeetsAutomaton}
-use Rattle.behaviour.specs.Combined.{combined}
+use Rattle.behaviour.specs.Combined.{combined, Ident}
 use Rattle.behaviour.specs.Word.{τ}
 use Rattle.behaviour.specs.Engine.{opens}
 use Rattle.behaviour.specs.Laws.Instances.{Listing}
@@ -31,7 +31,7 @@ use Rattle.timing.specs.Times.{specified, at}
 use Rattle.timing.specs.Queues.{noInstance, pendingOf, queueOf}
 use Rattle.timing.specs.declared.Instance.{Instance}
 use Rattle.timing.specs.declared.Progress.{Progress}
-use Rattle.path.specs.Path.{pathFrom, longestPath}
+use Rattle.path.specs.Path.{pathFrom, longestPath, Path}
 use Rattle.window.specs.Window.{vacant, isHeld, vacancies}
 use Rattle.window.specs.Tests.{by-test}
 use Rattle.window.specs.Places.{Holds, Once}
@@ -63,8 +63,6 @@ use Rattle.demand.specs.OfRun.{machine}
 use Rattle.activity.specs.Tells.{Tells, told-false, tells-iff}
 use Rattle.limits.specs.Tells.{tells-ltb}
 use Rattle.demand.specs.Machine.{Held}
-use Rattle.behaviour.specs.Combined.{Ident}
-use Rattle.path.specs.Path.{Path}
 use Rattle.demand.specs.Nodes.{Work}
 use Rattle.demand.specs.Loading.{Silently, stays, goes-on, Exceeds, Beyond, Waits, TooMany, FirstBeyond, FirstMany}
 use Rattle.works.specs.Laws.Silent.{one-rest}
