@@ -1,14 +1,13 @@
 -- `drive-records`: the records of the exported drive are that of the opening and those of the log's answers, so that demand 3 and
 -- `answers-by-log` speak of what it writes.
-use mathlib.Core.Path.{_≡_, refl, ap, _∙_}
-use mathlib.Core.Bool.{true, cond}
+use mathlib.Core.Path.{_≡_, refl}
+use mathlib.Core.Bool.{true}
 use mathlib.Core.List.{List, [], _∷_}
 use Prim.Native.Nat.{ℕ, _+_}
 use Rattle.wire.specs.Number.{little}
 use Rattle.run.specs.declared.Run.{Run}
 use Rattle.run.specs.declared.Call.{Call}
 use Rattle.run.specs.Calls.{callOf}
-use Rattle.run.specs.Opening.{openOf}
 use Rattle.log.specs.Log.{Log, said}
 use Rattle.log.specs.Drive.{drive}
 use Rattle.drive.specs.declared.Record.{Record}
