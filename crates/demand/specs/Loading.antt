@@ -60,7 +60,7 @@ pub record PathBeyond (p : Plan) (available : ℕ → ℕ) (log : Log) (us : Lis
 -- ---- 43
 
 -- an action or event of the word, not yet reported
-pub record Waits (p : Plan) (log : Log) (us : List ℕ) (x : Id) : Type 0 where
+pub record Unreported (p : Plan) (log : Log) (us : List ℕ) (x : Id) : Type 0 where
   pub node : Work (wholeOf p us) x
   pub unreported : Reported log x → ⊥
 
@@ -68,7 +68,7 @@ pub record Waits (p : Plan) (log : Log) (us : List ℕ) (x : Id) : Type 0 where
 pub record TooMany (p : Plan) (log : Log) (us : List ℕ) : Type 0 where
   pub nodes : List Id
   pub distinct : Distinct nodes
-  pub wait : (x : Id) → Among x nodes → Waits p log us x
+  pub wait : (x : Id) → Among x nodes → Unreported p log us x
   pub many : 512 < length nodes
 
 -- no transition of the next path passes a limit, but with it the window would pass 512

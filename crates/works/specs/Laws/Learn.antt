@@ -41,7 +41,7 @@ use Rattle.log.specs.Log as Log
 use Rattle.demand.specs.Machine.{World, idOf, Held}
 use Rattle.demand.specs.Way.{learns, Agrees, haltOf, replyOf}
 use Rattle.demand.specs.Way as Way
-use Rattle.demand.specs.Loading.{Waits, EndsAt, whole, beyond, full, Loads}
+use Rattle.demand.specs.Loading.{Unreported, EndsAt, whole, beyond, full, Loads}
 use Rattle.demand.specs.Laws.Accounts.{always-map}
 use Rattle.demand.specs.OfPlan.{worldOf}
 use Rattle.demand.specs.Nodes.{whose, lengthOf}
@@ -170,7 +170,7 @@ module _ (laws : EngineLaws) (p : Plan) (psi : Clock) (slack : ℕ) (given : Acc
       unreported : (j : ℕ) (y : Entry) → Holds w1 j y → Reported log1 (idOf y) → ⊥
       unreported j y q = ⊎-elim (λ r. cleared-only w i j y q .0 (v .accounts .distinct j i y e (cleared-only w i j y q .1) held (sym (r .0)))) (λ r. v .accounts .unreported j y (cleared-only w i j y q .1) r)
 
-      held-still : (x : Id) → Waits p log1 is x → Held (Holds w1) x
+      held-still : (x : Id) → Unreported p log1 is x → Held (Holds w1) x
       held-still x q = ⊎-elim (λ (k : Held (Holds w) x). go k (ℕ-discrete (k .0) i)) (λ r. absurd (q .unreported (inr r))) (v .accounts .held x (q .node))
         where
           go : (k : Held (Holds w) x) → Dec (k .0 ≡ i) → Held (Holds w1) x

@@ -64,7 +64,7 @@ use Rattle.activity.specs.Tells.{Tells, told-false, tells-iff}
 use Rattle.limits.specs.Tells.{tells-ltb}
 use Rattle.demand.specs.Machine.{Held}
 use Rattle.demand.specs.Nodes.{Work}
-use Rattle.demand.specs.Loading.{Silently, stays, goes-on, Exceeds, Beyond, Waits, TooMany, FirstBeyond, FirstMany}
+use Rattle.demand.specs.Loading.{Silently, stays, goes-on, Exceeds, Beyond, Unreported, TooMany, FirstBeyond, FirstMany}
 use Rattle.works.specs.Laws.Silent.{one-rest}
 use Rattle.works.specs.Laws.PathLimits.{Quiet, tells-quiet}
 use Rattle.works.specs.Laws.PathNodes.{low, Passes, passes-quiet}
@@ -205,7 +205,7 @@ module _ (laws : EngineLaws) (p : Plan) (psi : Clock) (slack : ℕ) (given : Acc
         once : Once w
         once i j e f h k s = unheld i e h
 
-        none-waits : (x : Id) → Waits p [] [] x → Held (Holds w) x
+        none-waits : (x : Id) → Unreported p [] [] x → Held (Holds w) x
         none-waits x q = absurd (let u = low-first x (q .node) in omega arith)
 
         go : FirstMany p → Dec (vacancies w < length (firstOf .entries)) → vacancies w < length (firstOf .entries)
