@@ -21,7 +21,7 @@ use Rattle.works.specs.Stands.{Stands}
 use Rattle.works.specs.Laws.Silent.{silent-first, silent-next}
 use Rattle.works.specs.Laws.Taken.{next-state, stands-on}
 use Rattle.works.specs.Laws.Counts.{possible, pending-length}
-use Rattle.works.specs.Laws.Crosses.{tells-beyond}
+use Rattle.works.specs.Laws.Passing.{tells-beyond}
 use Rattle.works.specs.Laws.Paths.{waits-goes}
 
 module _ (p : Plan) (lawful : Lawful p) (automaton : MeetsAutomaton p) (available : ℕ → ℕ) (log : Log) (laws : EngineLaws) where
