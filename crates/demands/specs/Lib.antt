@@ -39,7 +39,6 @@ pub mod ByLog
 pub mod AnswersByLog
 pub mod AnswersByLogHold
 -- One plan, printed
-pub mod Horizon
 pub mod Timetables
 pub mod TimetablesHold
 pub mod Rows

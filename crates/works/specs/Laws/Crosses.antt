@@ -11,7 +11,6 @@ use Rattle.time.specs.Time.{horizon}
 use Rattle.time.specs.declared.Specified.{Specified}
 use Rattle.plan.specs.Plan.{move, emittedBy}
 use Rattle.plan.specs.declared.Plan.{Plan}
-use Rattle.activity.specs.Rules as Rules
 use Rattle.activity.specs.Tells.{Tells, holds, fails, tells-iff}
 use Rattle.limits.specs.Tells.{tells-ltb}
 use Rattle.timing.specs.Times.{at}
