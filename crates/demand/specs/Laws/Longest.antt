@@ -82,7 +82,7 @@ module _ (p : Plan) (available : ℕ → ℕ) where
 
   -- a word that passes a limit has a transition
   pub within-none : Within p available []
-  within-none u Tail.here y = go (y .exceeds)
+  within-none u Tail.here y = has [] (y .exceeds)
     where
       some : List ℕ → Type 0
       some [] = ⊥
@@ -92,9 +92,6 @@ module _ (p : Plan) (available : ℕ → ℕ) where
       has us (Exceeds.completion n k i h) = tt
       has us (Exceeds.availability x r l i h) = tt
       has us (Exceeds.position l) = tt
-
-      go : Exceeds p (y .C) [] → ⊥
-      go e = has [] e
 
   pub within-more : (us : List ℕ) (t : ℕ) → Within p available us → (Beyond p available (t ∷ us) → ⊥) → Within p available (t ∷ us)
   within-more us t w n u Tail.here y = n y

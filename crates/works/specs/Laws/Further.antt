@@ -1,6 +1,6 @@
 -- Loading after a report: "the next is loaded in the call that reports the awaited outcome, and further ones while their outcomes
--- are already reported." It goes as far as the log tells, unless a path fails, which then adds nothing; and it fails, or not, exactly as
--- the words, their times and the reports say.
+-- are already reported." It goes as far as the log tells, unless a path fails, which then adds nothing; and it fails, or not,
+-- exactly as the words, their times and the reports say.
 use mathlib.Core.Path.{_≡_, refl, sym, ap, _∙_, subst}
 use mathlib.Core.Bool.{false}
 use mathlib.Core.List.{List, _∷_}
