@@ -20,7 +20,7 @@ use Rattle.log.specs.Drive.{Driven}
 use Rattle.demand.specs.Machine.{idOf}
 use Rattle.demand.specs.Nodes.{whose, Work, EmitsAt}
 use Rattle.demand.specs.TheWord.{stateAfter, wholeOf, Tail}
-use Rattle.demand.specs.Loading.{PathBeyond, PathFull, Fits}
+use Rattle.demand.specs.Loading.{Unreported, PathBeyond, PathFull, Fits}
 
 -- ---- the window
 
@@ -52,7 +52,7 @@ pub record Loaded (p : Plan) (available : ℕ → ℕ) (is : List ℕ) (S C : Id
   pub beyond : StoppedBy (d .log) Stop.Beyond → PathBeyond p available (d .log) v
   pub full : StoppedBy (d .log) Stop.Full → PathFull p available (d .log) v
   -- the window holds exactly their actions and events not yet reported: a failing path "adds nothing"
-  pub window : (x : Id) → Held (d .run) S C x ↔ (Work (wholeOf p v) x × (Reported (d .log) x → ⊥))
+  pub window : (x : Id) → Held (d .run) S C x ↔ Unreported p (d .log) v x
 
 -- ---- done
 
@@ -87,7 +87,7 @@ pub record Demand3 (p : Plan) (psi slack : ℕ) (available : ℕ → ℕ) (is : 
   pub reported-early : Always (λ y older. (x : Id) → Reports (y .call) (y .reply) older x → reading (y .call) < psi + C (whose x)) (d .log)
   pub reported-once : Always (λ y older. (x : Id) → Reports (y .call) (y .reply) older x → Reported older x → ⊥) (d .log)
   -- "unless a loading has failed, the window holds exactly those of them not yet reported"
-  pub window-exact : (FailedIn (d .log) → ⊥) → (x : Id) → Held (d .run) S C x ↔ (Work (wholeOf p is) x × (Reported (d .log) x → ⊥))
+  pub window-exact : (FailedIn (d .log) → ⊥) → (x : Id) → Held (d .run) S C x ↔ Unreported p (d .log) is x
   pub window-or-reported : (FailedIn (d .log) → ⊥) → (x : Id) → Work (wholeOf p is) x → Held (d .run) S C x ⊎ Reported (d .log) x
   -- and if one has failed, those of the longest beginning of the word that fits
   pub loaded : (v : List ℕ) × Loaded p available is S C d v

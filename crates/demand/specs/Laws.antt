@@ -1,4 +1,5 @@
--- The proofs: the invariant and how each way keeps it; the words of a plan as a world; the word of a log, and how much of it is loaded.
+-- The proofs: the invariant and how each way keeps it; the words of a plan as a world; the word of a log, and how much of it
+-- is loaded.
 pub mod Replies
 pub mod Accounts
 pub mod Clock

@@ -33,6 +33,10 @@ pub record Beyond (p : Plan) (available : ℕ → ℕ) (us : List ℕ) : Type 0 
   pub times : Timing (wholeOf p us) available S C
   pub exceeds : Exceeds p C us
 
+-- none of the transitions of a word does
+abbrev pub Within : Plan → (ℕ → ℕ) → List ℕ → Type 0
+Within p available us = (vs : List ℕ) → Tail vs us → Beyond p available vs → ⊥
+
 -- ---- paths
 
 -- vs goes on from us by transitions that process nothing
@@ -60,7 +64,7 @@ pub record PathBeyond (p : Plan) (available : ℕ → ℕ) (log : Log) (us : Lis
 -- ---- 43
 
 -- an action or event of the word, not yet reported
-pub record Waits (p : Plan) (log : Log) (us : List ℕ) (x : Id) : Type 0 where
+pub record Unreported (p : Plan) (log : Log) (us : List ℕ) (x : Id) : Type 0 where
   pub node : Work (wholeOf p us) x
   pub unreported : Reported log x → ⊥
 
@@ -68,7 +72,7 @@ pub record Waits (p : Plan) (log : Log) (us : List ℕ) (x : Id) : Type 0 where
 pub record TooMany (p : Plan) (log : Log) (us : List ℕ) : Type 0 where
   pub nodes : List Id
   pub distinct : Distinct nodes
-  pub wait : (x : Id) → Among x nodes → Waits p log us x
+  pub wait : (x : Id) → Among x nodes → Unreported p log us x
   pub many : 512 < length nodes
 
 -- no transition of the next path passes a limit, but with it the window would pass 512
@@ -97,8 +101,7 @@ pub data Loads (p : Plan) (available : ℕ → ℕ) (log : Log) : List ℕ → L
 pub record Fits (p : Plan) (available : ℕ → ℕ) (log : Log) (us : List ℕ) : Type 0 where
   -- "Paths are loaded up to a waiting or final state"
   pub rests : Rests p us
-  -- none of its transitions passes a limit
-  pub within : (vs : List ℕ) → Tail vs us → Beyond p available vs → ⊥
+  pub within : Within p available us
   -- "at most 512"
   pub room : TooMany p log us → ⊥
 

@@ -26,7 +26,7 @@ use Rattle.demand.specs.Machine.{World, idOf, Finished, Waiting, before}
 use Rattle.demand.specs.Machine as Machine
 use Rattle.demand.specs.Nodes.{whose, Work}
 use Rattle.demand.specs.TheWord.{stateAfter, wholeOf, Tail}
-use Rattle.demand.specs.Loading.{PathBeyond, PathFull, Fits}
+use Rattle.demand.specs.Loading.{Unreported, PathBeyond, PathFull, Fits}
 use Rattle.demand.specs.OfPlan.{worldOf}
 use Rattle.demand.specs.OfRun.{machine}
 use Rattle.demand.specs.Demand.{Held, OfTheWord, Ends, Demand3}
@@ -132,10 +132,10 @@ module _ (p : Plan) (lawful : Lawful p) (psi slack : ℕ) (available : ℕ → �
       record { place = i; entry = e; holds = h; node = q; start = g .start ∙ ap (λ (z : Id). S (whose z)) q; end = g .end ∙ ap (λ (z : Id). C (whose z)) q }
 
   -- the window, of what is loaded
-  window : (y : Id) → Held (d .run) S C y ↔ (Work (wholeOf p word) y × (Reported (d .log) y → ⊥))
+  window : (y : Id) → Held (d .run) S C y ↔ Unreported p (d .log) word y
   window y = (
-    λ h. (subst (W .Node word) (h .node) (a .agree (h .place) (h .entry) (h .holds) .node), λ q. a .unreported (h .place) (h .entry) (h .holds) (subst (Reported (d .log)) (sym (h .node)) q)),
-    λ n. ⊎-elim (λ h. held y h) (λ q. absurd (n .1 q)) (a .held y (n .0)),
+    λ h. record { node = subst (W .Node word) (h .node) (a .agree (h .place) (h .entry) (h .holds) .node); unreported = λ q. a .unreported (h .place) (h .entry) (h .holds) (subst (Reported (d .log)) (sym (h .node)) q) },
+    λ n. ⊎-elim (λ h. held y h) (λ q. absurd (n .unreported q)) (a .held y (n .node)),
   )
 
   -- and of the word, unless a loading failed
@@ -171,7 +171,7 @@ module _ (p : Plan) (lawful : Lawful p) (psi slack : ℕ) (available : ℕ → �
     reported-started = reports (λ y older h z q. h z q .started);
     reported-early = reports (λ y older h z q. let b = h z q in let s = end-is z (b .node) in let l = b .early in omega arith);
     reported-once = reports (λ y older h z q. h z q .once);
-    window-exact = λ nf y. subst (λ (z : List ℕ). Held (d .run) S C y ↔ (Work (wholeOf p z) y × (Reported (d .log) y → ⊥))) (same nf) (window y);
+    window-exact = λ nf y. subst (λ (z : List ℕ). Held (d .run) S C y ↔ Unreported p (d .log) z y) (same nf) (window y);
     window-or-reported = λ nf y n. ⊎-elim (λ h. inl (held y h)) (λ q. inr q) (a .held y (old nf y n));
     loaded = (word, record { begins = begins; fits = fits; longest = longest; whole = same; beyond = beyond; full = full; window = window });
     window-only = of-word;

@@ -1,5 +1,5 @@
--- `answers-by-log`, as a statement: after an accepted opening and any list of calls, the answer to the next call is the one that plan,
--- Ψ, slack, availabilities, word, times and log give.
+-- `answers-by-log`, as a statement: after an accepted opening and any list of calls, the answer to the next call is the one
+-- that plan, Ψ, slack, availabilities, word, times and log give.
 use mathlib.Core.Path.{_≡_}
 use mathlib.Core.List.{List}
 use mathlib.Core.Logic.{_↔_}

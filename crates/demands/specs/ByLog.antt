@@ -14,11 +14,11 @@ use Rattle.run.specs.declared.Call.{Call}
 use Rattle.run.specs.declared.Reply.{Reply}
 use Rattle.run.specs.declared.Refusal.{Refusal}
 use Rattle.run.specs.declared.Failure.{Failure}
-use Rattle.log.specs.Log.{Id, id, Log, said, reading, Started, Reported, StoppedIn, StoppedBy}
+use Rattle.log.specs.Log.{Id, id, Log, said, reading, Started, StoppedIn, StoppedBy}
 use Rattle.log.specs.Host.{isRefused}
-use Rattle.demand.specs.Nodes.{whose, Work, EmitsAt}
+use Rattle.demand.specs.Nodes.{whose, EmitsAt}
 use Rattle.demand.specs.TheWord.{stateAfter, wholeOf}
-use Rattle.demand.specs.Loading.{Loads}
+use Rattle.demand.specs.Loading.{Unreported, Loads}
 use Rattle.demands.specs.Conditions.{IsAction, RightKind}
 
 -- what is known after some calls: the plan, Ψ, the slack and the availabilities of the opening, the word of their log and its
@@ -43,9 +43,8 @@ lastReading (y ∷ older) = cond (isRefused (y .reply)) (lastReading older) (rea
 -- ---- nodes
 
 -- an action or event of the word, not yet reported: it stands in the window
-pub record Open (k : Known) (x : Id) : Type 0 where
-  pub node : Work (wholeOf (k .plan) (k .word)) x
-  pub unreported : Reported (k .log) x → ⊥
+abbrev pub Open : Known → Id → Type 0
+Open k x = Unreported (k .plan) (k .log) (k .word) x
 
 -- "the reading is at or past Ψ + completion of a started, unreported node"
 pub record Overdue (k : Known) (t : ℕ) (x : Id) : Type 0 where

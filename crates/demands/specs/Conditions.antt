@@ -126,7 +126,8 @@ pub record Learns (run : Run) (t : Clock) (p n o i e : ℕ) : Type 0 where
   pub event : kindOf run (entryAt run i) ≡ Kind.Event e
   pub has : o < outcomesOf (run .plan) e
 
--- how loading after that outcome ends
+-- how loading after that outcome ends: a run made up by the host has no word, so it is quoted here. Of an opened run ByLog says
+-- it over the word and the log, of any run Laws/LoadingFails path by path
 abbrev pub loadingAfter : Run → Clock → ℕ → ℕ → ℕ → Failure
 loadingAfter run t o i e = further mostPending (cleared run t i (toldOf (run .progress) e (entryAt run i) o)) .failure
 

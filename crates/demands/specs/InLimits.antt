@@ -45,9 +45,9 @@ pub record RunInLimits (run : Run) : Type 0 where
   pub psi : run .psi .0 ≤ horizon
   -- "a slack of 1 to 1,000,000"
   pub slack : (1 ≤ run .slack) × (run .slack ≤ 1_000_000)
-  -- where the behaviour stands, line by line in timing/Limits: each availability and each event's last completion up to 10^15; at most
-  -- 8 pending instances of an event, each with its position, node, completion and reported outcome; the next position, at most one
-  -- past 1,000,000,000 (its loading is then 44); and the state
+  -- where the behaviour stands, line by line in timing/Limits: each availability and each event's last completion up to
+  -- 10^15; at most 8 pending instances of an event, each with its position, node, completion and reported outcome; the next
+  -- position, at most one past 1,000,000,000 (its loading is then 44); and the state
   pub progress : ProgressIn (run .plan) (run .progress)
   -- each place of the window that holds a node
   pub window : (i : ℕ) (e : Entry) → Holds (run .window) i e → EntryInLimits (run .plan) e

@@ -1,13 +1,13 @@
 -- `in-limits`: the test of number 50 tells exactly the runs in limits.
-use mathlib.Core.Path.{_≡_, refl, sym, ap, _∙_, subst}
-use mathlib.Core.Bool.{Bool, true, false, true≢false}
+use mathlib.Core.Path.{_≡_, refl, subst}
+use mathlib.Core.Bool.{true}
 use mathlib.Core.List.{List}
 use mathlib.Core.Logic.{_↔_, ⊎-elim}
-use Prim.Native.Nat.{ℕ, _≤_, _<_}
+use Prim.Native.Nat.{ℕ, _<_}
 use lib.ListN.{length, getD}
 use Rattle.time.specs.Time.{horizon}
 use Rattle.plan.specs.declared.Plan.{Plan}
-use Rattle.activity.specs.Tells.{Tells, holds, fails, told-true, tells-iff, tells-and}
+use Rattle.activity.specs.Tells.{Tells, holds, told-true, tells-iff, tells-and}
 use Rattle.timing.specs.Engine.{lastPosition}
 use Rattle.limits.specs.Window.{entryInLimits}
 use Rattle.limits.specs.Tells.{tells-ltb, tells-leb, tells-then}
@@ -21,8 +21,9 @@ use Rattle.window.specs.declared.Entry.{Entry}
 use Rattle.run.specs.declared.Run.{Run}
 use Rattle.run.specs.declared.Halt.{Halt}
 use Rattle.run.specs.declared.Stop.{Stop}
-use Rattle.run.specs.Limits.{runInLimits, stopInLimits, haltInLimits, slackInLimits}
-use Rattle.works.specs.Laws.Bounds.{EntryWithin, entry-passes, entry-within}
+use Rattle.run.specs.Limits.{runInLimits, stopInLimits, haltInLimits}
+use Rattle.works.specs.Laws.Bounds.{entry-passes, entry-within}
+use Rattle.demands.specs.Laws.OpeningTests.{is-true}
 use Rattle.demands.specs.InLimits.{EntryInLimits, StopInLimits, HaltInLimits, RunInLimits, StatementInLimits}
 
 tells-stop : (s : Stop) → Tells (stopInLimits s) (StopInLimits s)
@@ -70,9 +71,5 @@ tells-run run =
     (tells-and (tells-progress (run .plan) (limits .resources) (limits .events) (run .progress))
     (tells-and (tells-iff (entries (run .plan) (run .window)) (tells-window (run .plan .activities) (run .plan .sizes) (run .window))) (tells-halt (run .halt))))))
 
-pub passes : {b : Bool} {P : Type 0} → Tells b P → P → b ≡ true
-passes (holds p) q = refl
-passes (fails n) q = absurd (n q)
-
 pub in-limits : StatementInLimits
-in-limits run = (λ q. told-true (tells-run run) q, λ r. passes (tells-run run) r)
+in-limits run = (λ q. told-true (tells-run run) q, λ r. is-true (tells-run run) (λ n. n r))

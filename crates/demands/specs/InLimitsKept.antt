@@ -33,7 +33,7 @@ use Rattle.window.specs.Firsts.{First, by-first}
 use Rattle.window.specs.Places.{Holds, stored-only, cleared-only}
 use Rattle.window.specs.Placed.{placed-only}
 use Rattle.window.specs.declared.Entry.{Entry}
-use Rattle.path.specs.Path.{Path, loaded, activityNumber, takenBy, entriesBy, pathFrom, longestPath}
+use Rattle.path.specs.Path.{Path, activityNumber, takenBy, entriesBy, pathFrom, longestPath}
 use Rattle.path.specs.Pathed.{ProgressIn, Leads, pathed}
 use Rattle.path.specs.Laws.Stepping.{next-leads, taken-kept}
 use Rattle.path.specs.Laws.InTime.{loads}
@@ -48,7 +48,7 @@ use Rattle.run.specs.declared.Loading.{Loading}
 use Rattle.run.specs.declared.Refusal.{Refusal}
 use Rattle.run.specs.Loading.{load, onWay, onLoading, further, mostPending}
 use Rattle.run.specs.Limits.{runInLimits}
-use Rattle.run.specs.Calls.{answer, refuse, heard, asked, reported, completedBy, completed, afterLoading, cleared, learnsBy, learns, timely, called, askOf, completionOf, outcomeOf, callOf, kindOf}
+use Rattle.run.specs.Calls.{refuse, heard, asked, reported, completedBy, completed, afterLoading, cleared, learnsBy, learns, timely, called, askOf, completionOf, outcomeOf, callOf, kindOf}
 use Rattle.demand.specs.Laws.Next.{chosen-found}
 use Rattle.works.specs.Laws.Entries.{among-at, brought}
 use Rattle.works.specs.Laws.Telling.{told-cases}

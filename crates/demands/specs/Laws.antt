@@ -6,7 +6,6 @@ pub mod Zeroed
 pub mod Only
 -- What is printed
 pub mod Leaving
-pub mod Passing
 pub mod Along
 pub mod Printed
 -- Openings

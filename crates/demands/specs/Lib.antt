@@ -29,7 +29,8 @@ pub mod WritesHold
 pub mod InLimits
 pub mod InLimitsIff
 pub mod InLimitsKept
-pub mod StopRepeated
+-- and what every later call gets: a stop, a refused opening
+pub mod Repeated
 -- Each reply of a call, in its condition and in no other
 pub mod Conditions
 pub mod ConditionsHold
@@ -38,7 +39,6 @@ pub mod ByLog
 pub mod AnswersByLog
 pub mod AnswersByLogHold
 -- One plan, printed
-pub mod Horizon
 pub mod Timetables
 pub mod TimetablesHold
 pub mod Rows
@@ -49,4 +49,3 @@ pub mod Cases
 pub mod CasesHold
 -- The exported drive
 pub mod DriveRecords
-pub mod RefusedOpenings

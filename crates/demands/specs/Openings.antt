@@ -13,11 +13,9 @@ use Rattle.plan.specs.declared.Plan.{Plan}
 use Rattle.plan.specs.declared.Verdict.{Verdict}
 use Rattle.judge.specs.Judge.{judgeOf}
 use Rattle.activity.specs.Rules.{node}
-use Rattle.timing.specs.Times.{at}
 use Rattle.run.specs.declared.Unopened.{Unopened}
 use Rattle.run.specs.declared.Opening.{Opening}
 use Rattle.run.specs.Numbers.{openNumber, openPlace}
-use Rattle.opening.specs.Given.{availabilities}
 use Rattle.run.specs.Opening.{openOf}
 use Rattle.demand.specs.Nodes.{Working}
 use Rattle.demand.specs.Loading.{FirstBeyond, FirstMany}

@@ -1,6 +1,6 @@
 -- Promise 1, and the further promises of "Strength of the contracts", as statements.
 use mathlib.Core.Path.{_≡_}
-use mathlib.Core.Bool.{true, false}
+use mathlib.Core.Bool.{true}
 use mathlib.Core.List.{List, [], _∷_}
 use Prim.Native.Nat.{ℕ}
 use Rattle.time.specs.declared.Clock.{Clock}
@@ -49,3 +49,9 @@ StatementRefusedOpening =
 
 abbrev pub StatementZerosGet50 : Type 0
 StatementZerosGet50 = (c : Call) → callOf zeroRun c ≡ refuse zeroRun Refusal.OutOfLimits
+
+-- after a refused opening every call of the list gets 50, and the run stays the run of zeros: nothing is started
+abbrev pub StatementRefusedList : Type 0
+StatementRefusedList =
+    (bytes : List ℕ) (psi : Clock) (slack : ℕ) (ts : List ℕ) (u : Unopened) → openOf bytes psi slack ts .opening ≡ Opening.Refused u → (cs : List Call)
+    → drive [] (openOf bytes psi slack ts .run) cs ≡ record { log = answered (Reply.Refused Refusal.OutOfLimits) cs []; run = zeroRun }

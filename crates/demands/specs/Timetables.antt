@@ -27,7 +27,7 @@ use Rattle.lines.specs.Lines.{header, refused}
 use Rattle.judge.specs.Judge.{accepted, judgeOf}
 use Rattle.table.specs.Timetable.{tableOf, timetableOf}
 use Rattle.demands.specs.Accepted.{Bytes}
-use Rattle.demands.specs.Horizon.{Beyond, Within}
+use Rattle.demand.specs.Loading.{Beyond, Within}
 
 -- ---- the word of the outcomes
 

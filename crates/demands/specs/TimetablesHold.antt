@@ -23,6 +23,7 @@ use Rattle.specified.specs.Plans.{AtMostEight}
 use Rattle.demand.specs.Laws.Next.{lawful, few-pending}
 use Rattle.lines.specs.Lines.{header, refused}
 use Rattle.table.specs.Timetable.{positions, tableOf, judgedText, textOfPlan, timetableOf}
+use Rattle.demand.specs.Laws.Longest.{within-none}
 use Rattle.demands.specs.Accepted.{Bytes}
 use Rattle.planfile.specs.HoldPlan.{plan-rules}
 use Rattle.demands.specs.AcceptedIff.{accepted-iff}
@@ -36,7 +37,7 @@ module _ (p : Plan) (l : Lawful p) (eight : AtMostEight p) (m : MeetsAutomaton p
   forth : Prints p os (tableOf p os)
   unfolding P.text
   forth =
-      let f = P.found p l eight m os positions [] 0 Walk.none tt refl in
+      let f = P.found p l eight m os positions [] 0 Walk.none (within-none p (λ r. 0)) refl in
       let path = P.walk-path p l eight m os (f .walk) in
       let s = Along.solved (P.set p l eight m os) (f .word) path in
       record {

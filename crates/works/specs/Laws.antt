@@ -9,6 +9,7 @@ pub mod Entries
 pub mod Loaded
 pub mod Silent
 pub mod Crosses
+pub mod Passing
 pub mod Paths
 pub mod PathLimits
 pub mod PathNodes

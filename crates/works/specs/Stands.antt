@@ -29,8 +29,9 @@ use Rattle.run.specs.declared.Stop.{Stop}
 use Rattle.log.specs.Log.{Id, id, Log, FailedIn}
 use Rattle.log.specs.Log as Log
 use Rattle.demand.specs.Nodes.{lengthOf}
-use Rattle.demand.specs.TheWord.{stateAfter, wholeOf, Rests, Tail, Takes, Stuck}
-use Rattle.demand.specs.Loading.{Beyond, PathBeyond, PathFull}
+use Rattle.demand.specs.TheWord.{stateAfter, wholeOf, Rests, Takes, Stuck}
+use Rattle.demand.specs.Loading.{PathBeyond, PathFull}
+use Rattle.demand.specs.Loading as Loading
 use Rattle.demand.specs.OfPlan.{Long}
 use Rattle.works.specs.Engine.{Sized, Within, stateOf}
 
@@ -87,7 +88,7 @@ pub record Good (p : Plan) (psi : Clock) (slack : ℕ) (available : ℕ → ℕ)
   pub same-slack : run .slack ≡ slack
   pub stands : Stands p available log is (run .progress)
   pub rests : Rests p is
-  pub within : (us : List ℕ) → Tail us is → Beyond p available us → ⊥
+  pub within : Loading.Within p available is
   pub whole : (FailedIn log → ⊥) → Stuck p log is
   pub beyond : run .halt ≡ Halt.Stopped Stop.Beyond → PathBeyond p available log is
   pub full : run .halt ≡ Halt.Stopped Stop.Full → PathFull p available log is

@@ -1,6 +1,6 @@
 -- What is loaded is the longest beginning of the word that fits: where loading ends, no longer one does.
 use mathlib.Core.Path.{_≡_, sym, subst}
-use mathlib.Core.List.{List, _∷_}
+use mathlib.Core.List.{List, [], _∷_}
 use mathlib.Core.Logic.{_⊎_, inl, inr, ⊎-elim}
 use Prim.Native.Nat.{ℕ}
 use native.Mathlib.Omega.{arith}
@@ -14,7 +14,7 @@ use Rattle.run.specs.declared.Failure.{Failure}
 use Rattle.log.specs.Log.{Id, Log, said, Told, FailedIn, StoppedBy}
 use Rattle.demand.specs.Way.{haltOf, replyOf}
 use Rattle.demand.specs.TheWord.{nextAfter, Rests, Takes, Stuck}
-use Rattle.demand.specs.Loading.{Beyond, Silently, stays, goes-on, Onward, NextPath, PathBeyond, PathFull, EndsAt, whole, beyond, full, Loads, ends, later, Fits}
+use Rattle.demand.specs.Loading.{Exceeds, Beyond, Within, Silently, stays, goes-on, Onward, NextPath, PathBeyond, PathFull, EndsAt, whole, beyond, full, Loads, ends, later, Fits}
 use Rattle.demand.specs.Laws.Replies.{not-going, failed-by}
 use Rattle.demand.specs.Laws.Growth.{Tail, tail-next}
 use Rattle.demand.specs.Laws.TheWord.{last, silent, step-same, tail-takes, tail-extends}
@@ -80,17 +80,31 @@ module _ (p : Plan) (available : ℕ → ℕ) where
   silent-before us vs u (goes-on s e) Tail.here = inr (goes-on s e)
   silent-before us vs u (goes-on {vs = ws} s e) (Tail.later b) = silent-before us ws u s b
 
-  abbrev pub Within : List ℕ → Type 0
-  Within us = (u : List ℕ) → Tail u us → Beyond p available u → ⊥
+  -- a word that passes a limit has a transition
+  pub within-none : Within p available []
+  within-none u Tail.here y = has [] (y .exceeds)
+    where
+      some : List ℕ → Type 0
+      some [] = ⊥
+      some (t ∷ us) = Unit {0}
 
-  within-path : (log : Log) (us vs : List ℕ) → NextPath p log us vs → (PathBeyond p available log us → ⊥) → Within us → Within vs
+      has : (us : List ℕ) → Exceeds p (y .C) us → some us
+      has us (Exceeds.completion n k i h) = tt
+      has us (Exceeds.availability x r l i h) = tt
+      has us (Exceeds.position l) = tt
+
+  pub within-more : (us : List ℕ) (t : ℕ) → Within p available us → (Beyond p available (t ∷ us) → ⊥) → Within p available (t ∷ us)
+  within-more us t w n u Tail.here y = n y
+  within-more us t w n u (Tail.later b) y = w u b y
+
+  within-path : (log : Log) (us vs : List ℕ) → NextPath p log us vs → (PathBeyond p available log us → ⊥) → Within p available us → Within p available vs
   within-path log us vs n nb w u b y = ⊎-elim (λ c. first u c y) (λ s. nb (record { at = u; onward = record { first = n .onward .first; taken = n .onward .taken; silent = s }; beyond = y })) (silent-before (n .onward .first ∷ us) vs u (n .onward .silent) b)
     where
       first : (u : List ℕ) → Tail u (n .onward .first ∷ us) → Beyond p available u → ⊥
       first u Tail.here y = nb (record { at = n .onward .first ∷ us; onward = record { first = n .onward .first; taken = n .onward .taken; silent = stays }; beyond = y })
       first u (Tail.later c) y = w u c y
 
-  pub within-loads : (log : Log) (us vs : List ℕ) (f : Failure) → Loads p available log us vs f → Within us → Within vs
+  pub within-loads : (log : Log) (us vs : List ℕ) (f : Failure) → Loads p available log us vs f → Within p available us → Within p available vs
   within-loads log us vs f (ends e) w = w
   within-loads log us vs f (later {vs = ws} n nb few l) w = within-loads log ws vs f l (within-path log us ws n nb w)
 

@@ -79,10 +79,10 @@ takes-follows p log (t ∷ is) h =
 
 -- ---- it is determined
 
-goes-same : {t u : ℕ} → Next.Goes t ≡ Next.Goes u → t ≡ u
+pub goes-same : {t u : ℕ} → Next.Goes t ≡ Next.Goes u → t ≡ u
 goes-same e = cc
 
-waits-same : {t u : ℕ} → Next.Waits t ≡ Next.Waits u → t ≡ u
+pub waits-same : {t u : ℕ} → Next.Waits t ≡ Next.Waits u → t ≡ u
 waits-same e = cc
 
 move-same : {t u : ℕ} → Chosen.Move t ≡ Chosen.Move u → t ≡ u
@@ -91,10 +91,10 @@ move-same e = cc
 goes-waits : {A : Type 0} {t e : ℕ} → Next.Goes t ≡ Next.Waits e → A
 goes-waits e = absurd (let z : _≡_ {A = ℕ} 0 1 = cc in omega arith)
 
-ended-goes : {A : Type 0} {t : ℕ} → Next.Ended ≡ Next.Goes t → A
+pub ended-goes : {A : Type 0} {t : ℕ} → Next.Ended ≡ Next.Goes t → A
 ended-goes e = absurd (let z : _≡_ {A = ℕ} 0 1 = cc in omega arith)
 
-ended-waits : {A : Type 0} {e : ℕ} → Next.Ended ≡ Next.Waits e → A
+pub ended-waits : {A : Type 0} {e : ℕ} → Next.Ended ≡ Next.Waits e → A
 ended-waits e = absurd (let z : _≡_ {A = ℕ} 0 1 = cc in omega arith)
 
 position-same : {q m r n : ℕ} → named q m ≡ named r n → q ≡ r

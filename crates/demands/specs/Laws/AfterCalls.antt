@@ -12,7 +12,7 @@ use Rattle.run.specs.declared.Call.{Call}
 use Rattle.run.specs.declared.Reply.{Reply}
 use Rattle.run.specs.declared.Answer.{Answer}
 use Rattle.run.specs.declared.Refusal.{Refusal}
-use Rattle.run.specs.Calls.{answer, callOf, readingOf}
+use Rattle.run.specs.Calls.{callOf, readingOf}
 use Rattle.log.specs.Log.{Log, said, reading, StoppedIn, StoppedBy}
 use Rattle.log.specs.Drive.{drive}
 use Rattle.log.specs.Latest.{Right, reading-last}

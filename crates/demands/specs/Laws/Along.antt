@@ -35,8 +35,8 @@ use Rattle.text.specs.Text.{decimal, line, wordFree}
 use Rattle.demand.specs.TheWord.{stateAfter, wholeOf}
 use Rattle.works.specs.Laws.Taken.{next-position, next-state}
 use Rattle.activity.specs.Tells.{Tells}
-use Rattle.demands.specs.Horizon.{Beyond}
-use Rattle.demands.specs.Laws.Passing.{Leads, tells-leads}
+use Rattle.demand.specs.Loading.{Beyond}
+use Rattle.works.specs.Laws.Passing.{Leads, tells-leads}
 use Rattle.demands.specs.Timetables.{nodeRows, rowsOf, Frees}
 
 not-claim : (k : Kind) → isWork k ≡ true → NotClaim k

@@ -51,7 +51,7 @@ module _ (run : Run) (log : Log) (is : List ℕ) (S C : Ident → ℕ) (availabl
 
   pub at-stands : (x : Id) → Open known x → (i : ℕ) × IsHeld i × (nodeOf i ≡ x)
   at-stands x o =
-      let h = d .window-exact nf x .1 (o .node, o .unreported) in
+      let h = d .window-exact nf x .1 o in
       (h .place, subst (λ (e : Entry). isHeld (e .phase) ≡ true) (sym (h .holds .entry)) (h .holds .held), ap idOf (h .holds .entry) ∙ h .node)
 
   pub started-at : (i : ℕ) → IsHeld i → entryAt run i .phase ≡ Phase.Started → Started log (nodeOf i)

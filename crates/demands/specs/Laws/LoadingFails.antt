@@ -1,5 +1,6 @@
--- `loading-full`, `loading-beyond`: how loading fails in any run, one made up by the host too, which has no word: 44 or 43 exactly where a
--- path that the engine comes to crosses a limit, or has no room. Of the runs of an opening `answers-by-log` tells it over the word.
+-- `loading-full`, `loading-beyond`: how loading fails in any run, one made up by the host too, which has no word: 44 or 43
+-- exactly where a path that the engine comes to crosses a limit, or has no room. Of the runs of an opening `answers-by-log`
+-- tells it over the word.
 use mathlib.Core.Path.{_≡_, subst}
 use mathlib.Core.Bool.{Bool, true, cond}
 use mathlib.Core.List.{List, [], _++_}

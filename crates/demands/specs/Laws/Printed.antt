@@ -33,13 +33,14 @@ use Rattle.path.specs.Path.{entriesBy}
 use Rattle.lines.specs.Lines.{rows, waiting, refused}
 use Rattle.lines.specs.Lines as L
 use Rattle.demand.specs.TheWord.{stateAfter, wholeOf}
-use Rattle.demand.specs.Loading.{Exceeds}
+use Rattle.demand.specs.TheWord.{here, later}
+use Rattle.demand.specs.Loading.{Exceeds, Beyond, Within}
+use Rattle.demand.specs.Laws.Longest.{within-more}
 use Rattle.works.specs.Laws.Taken.{size-is}
 use Rattle.table.specs.Timetable.{Move, Takes, moveBy, tableFrom, positions}
 use Rattle.table.specs.Timetable as T
 use Rattle.demands.specs.Laws.OpeningTests.{is-true, is-false}
 use Rattle.demands.specs.TimesEqual.{zeros-at, no-lengths}
-use Rattle.demands.specs.Horizon.{Beyond, Within}
 use Rattle.demands.specs.Timetables.{Steps, Walk, Closes}
 use Rattle.demands.specs.Laws.Leaving.{goes-next, chosen-is}
 use Rattle.demands.specs.Laws.Along as Along
@@ -176,8 +177,8 @@ module _ (p : Plan) (l : Lawful p) (eight : AtMostEight p) (m : MeetsAutomaton p
   pub walk-text : {is : List ℕ} {n : ℕ} → Walk p os is n → Within p none is → (k : ℕ) → k + size (wordOf p is) ≡ positions → text positions [] 0 ≡ engineRows is ++ text k is n
   walk-text Walk.none w k e = let z : k ≡ positions = omega arith in rw z
   walk-text (Walk.more {is = is} {n = n} {t = t} {m = j} v s) w k e =
-      walk-text v (w .0) (suc k) (omega arith)
-      ∙ ap (λ (x : List ℕ). engineRows is ++ x) (goes-on k (walk-path v) (w .0) s (w .1))
+      walk-text v (λ u b. w u (later b)) (suc k) (omega arith)
+      ∙ ap (λ (x : List ℕ). engineRows is ++ x) (goes-on k (walk-path v) (λ u b. w u (later b)) s (w (t ∷ is) here))
       ∙ sym (append-assoc (engineRows is) (rows (entriesBy p t (now is))) (text k (t ∷ is) j))
 
   too-far : (t : ℕ) (is : List ℕ) → Path (t ∷ is) → 1_000_000_000 < size (wordOf p is) → Beyond p none (t ∷ is)
@@ -187,7 +188,7 @@ module _ (p : Plan) (l : Lawful p) (eight : AtMostEight p) (m : MeetsAutomaton p
 
   pub fits : (is : List ℕ) → Path is → Within p none is → size (wordOf p is) ≤ positions
   fits [] f w = omega arith
-  fits (t ∷ is) f w = elim (decLt 1_000_000_000 (size (wordOf p is))) [ yes h ↦ absurd (w .1 (too-far t is f h)) | no h ↦ omega arith ]
+  fits (t ∷ is) f w = elim (decLt 1_000_000_000 (size (wordOf p is))) [ yes h ↦ absurd (w (t ∷ is) here (too-far t is f h)) | no h ↦ omega arith ]
 
   -- ---- from the text to the words of the statement
 
@@ -239,7 +240,7 @@ module _ (p : Plan) (l : Lawful p) (eight : AtMostEight p) (m : MeetsAutomaton p
       by-next zero is n v w (λ t j s. found-44 zero is n v w s (too-far t is (Along.path-on set is t (walk-path v) (step-leaves s)) (omega arith))) (nextOf a (stateAfter p is)) refl (next-is a (stateAfter p is))
   found (suc k) is n v w e =
       by-next (suc k) is n v w (λ t j s.
-      on t j s (tells-passes t is (Along.path-on set is t (walk-path v) (step-leaves s))) (λ x. found k (t ∷ is) j (Walk.more v s) (w, x) (omega arith)))
+      on t j s (tells-passes t is (Along.path-on set is t (walk-path v) (step-leaves s))) (λ x. found k (t ∷ is) j (Walk.more v s) (within-more p none is t w x) (omega arith)))
       (nextOf a (stateAfter p is)) refl (next-is a (stateAfter p is))
     where
       on : (t j : ℕ) → Steps p os is n t j → {b : Bool} → Tells b (Beyond p none (t ∷ is)) → ((Beyond p none (t ∷ is) → ⊥) → Found (engineRows (t ∷ is) ++ text k (t ∷ is) j)) → Found (engineRows is ++ text (suc k) is n)

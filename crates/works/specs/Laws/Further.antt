@@ -1,6 +1,6 @@
 -- Loading after a report: "the next is loaded in the call that reports the awaited outcome, and further ones while their outcomes
--- are already reported." It goes as far as the log tells, unless a path fails, which then adds nothing; and it fails, or not, exactly as
--- the words, their times and the reports say.
+-- are already reported." It goes as far as the log tells, unless a path fails, which then adds nothing; and it fails, or not,
+-- exactly as the words, their times and the reports say.
 use mathlib.Core.Path.{_≡_, refl, sym, ap, _∙_, subst}
 use mathlib.Core.Bool.{false}
 use mathlib.Core.List.{List, _∷_}
@@ -37,7 +37,7 @@ use Rattle.log.specs.ByCases.{by-way}
 use Rattle.demand.specs.Machine.{idOf, Held}
 use Rattle.demand.specs.Nodes.{Work, lengthOf}
 use Rattle.demand.specs.TheWord.{wholeOf}
-use Rattle.demand.specs.Loading.{NextPath, PathBeyond, Waits, EndsAt, whole, beyond, full, Loads, ends}
+use Rattle.demand.specs.Loading.{NextPath, PathBeyond, Unreported, EndsAt, whole, beyond, full, Loads, ends}
 use Rattle.demand.specs.Laws.Growth.{Tail}
 use Rattle.works.specs.Engine.{rest, remaining, Settles, EngineLaws}
 use Rattle.works.specs.Stands.{Stands}
@@ -97,15 +97,15 @@ module _ (p : Plan) (lawful : Lawful p) (automaton : MeetsAutomaton p) (availabl
       omega arith)
 
   -- the window v holds what waits of the base, and what is reported stands there
-  module _ (unique : (x : Id) (o q : ℕ) → Told log x o → Told log x q → o ≡ q) (unreported : (i : ℕ) (e : Entry) → Holds v i e → Reported log (idOf e) → ⊥) (held : (x : Id) → Waits p log base x → Held (Holds v) x)
+  module _ (unique : (x : Id) (o q : ℕ) → Told log x o → Told log x q → o ≡ q) (unreported : (i : ℕ) (e : Entry) → Holds v i e → Reported log (idOf e) → ⊥) (held : (x : Id) → Unreported p log base x → Held (Holds v) x)
       (new : (x : Id) → Reported log x → x .position < lengthOf base) where
-    holds-waits : (us : List ℕ) (g : Progress) (w : List Entry) → In us g w → (i : ℕ) (e : Entry) → Holds w i e → Waits p log us (idOf e)
+    holds-waits : (us : List ℕ) (g : Progress) (w : List Entry) → In us g w → (i : ℕ) (e : Entry) → Holds w i e → Unreported p log us (idOf e)
     holds-waits us g w h i e q = record {
       node = h .agree i e q .node;
       unreported = λ r. ⊎-elim (λ k. unreported i e k r) (λ k. let u = new (idOf e) r in let y = k .1 in omega arith) (h .only i e q);
     }
 
-    waits-held : (us : List ℕ) (g : Progress) (w : List Entry) → In us g w → (x : Id) → Waits p log us x → Held (Holds w) x
+    waits-held : (us : List ℕ) (g : Progress) (w : List Entry) → In us g w → (x : Id) → Unreported p log us x → Held (Holds w) x
     waits-held us g w h x q =
         ⊎-elim (λ n. let k = held x (record { node = n; unreported = q .unreported }) in (k .0, k .1, h .kept (k .0) (k .1) (k .2), k .3)) (λ k. k) (h .all x (q .node))
 

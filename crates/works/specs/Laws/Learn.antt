@@ -41,7 +41,7 @@ use Rattle.log.specs.Log as Log
 use Rattle.demand.specs.Machine.{World, idOf, Held}
 use Rattle.demand.specs.Way.{learns, Agrees, haltOf, replyOf}
 use Rattle.demand.specs.Way as Way
-use Rattle.demand.specs.Loading.{Waits, EndsAt, whole, beyond, full, Loads}
+use Rattle.demand.specs.Loading.{Unreported, EndsAt, whole, beyond, full, Loads}
 use Rattle.demand.specs.Laws.Accounts.{always-map}
 use Rattle.demand.specs.OfPlan.{worldOf}
 use Rattle.demand.specs.Nodes.{whose, lengthOf}
@@ -50,7 +50,7 @@ use Rattle.demand.specs.Laws.Invariant.{Invariant}
 use Rattle.demand.specs.Laws.Growth.{here, extends-self}
 use Rattle.demand.specs.Laws.Replies.{failed-stopped}
 use Rattle.demand.specs.Laws.Longest.{within-loads, loads-end, ends-whole, ends-beyond, ends-full}
-use Rattle.demand.specs.Laws.TheWord.{told-once, takes-follows}
+use Rattle.demand.specs.Laws.TheWord.{told-once, takes-follows, waits-same, ended-waits}
 use Rattle.demand.specs.Laws.World.{old-position, new-start}
 use Rattle.demand.specs.OfRun.{machine}
 use Rattle.works.specs.Engine.{EngineLaws}
@@ -64,12 +64,6 @@ use Rattle.works.specs.Laws.Sums.{sum-at-most}
 use Rattle.works.specs.Laws.Further.{Onto, still, hearing, Furthered, further-loads, told}
 use Rattle.works.specs.Laws.Kinds.{kind-is}
 use Rattle.works.specs.Laws.Informed.{stands-informed}
-
-waits-same : {d e : ℕ} → Next.Waits d ≡ Next.Waits e → d ≡ e
-waits-same e = cc
-
-ended-waits : {A : Type 0} {e : ℕ} → Next.Ended ≡ Next.Waits e → A
-ended-waits e = absurd (let z : _≡_ {A = ℕ} 0 1 = cc in omega arith)
 
 tolds-few : (q : List Instance) → tolds q ≤ length q
 tolds-few [] = omega arith
@@ -176,7 +170,7 @@ module _ (laws : EngineLaws) (p : Plan) (psi : Clock) (slack : ℕ) (given : Acc
       unreported : (j : ℕ) (y : Entry) → Holds w1 j y → Reported log1 (idOf y) → ⊥
       unreported j y q = ⊎-elim (λ r. cleared-only w i j y q .0 (v .accounts .distinct j i y e (cleared-only w i j y q .1) held (sym (r .0)))) (λ r. v .accounts .unreported j y (cleared-only w i j y q .1) r)
 
-      held-still : (x : Id) → Waits p log1 is x → Held (Holds w1) x
+      held-still : (x : Id) → Unreported p log1 is x → Held (Holds w1) x
       held-still x q = ⊎-elim (λ (k : Held (Holds w) x). go k (ℕ-discrete (k .0) i)) (λ r. absurd (q .unreported (inr r))) (v .accounts .held x (q .node))
         where
           go : (k : Held (Holds w) x) → Dec (k .0 ≡ i) → Held (Holds w1) x

@@ -17,7 +17,7 @@ use Rattle.log.specs.Log.{Id, Log, Reported}
 use Rattle.demand.specs.Machine.{idOf, Held}
 use Rattle.demand.specs.Nodes.{Work, lengthOf}
 use Rattle.demand.specs.TheWord.{wholeOf}
-use Rattle.demand.specs.Loading.{Waits, TooMany}
+use Rattle.demand.specs.Loading.{Unreported, TooMany}
 use Rattle.works.specs.Laws.PathNodes.{Brings}
 
 -- ---- the nodes that a window holds
@@ -77,7 +77,7 @@ standing : (w : List Entry) (x : Id) → Held (Holds w) x → Among x (ids w)
 standing w x h = subst (λ (z : Id). Among z (ids w)) (h .3) (at-ids w (h .0) (h .1) (h .2))
 
 -- a window of 512 places that holds what waits is not passed
-pub room : (p : Plan) (log : Log) (us : List ℕ) (w : List Entry) → length w ≡ 512 → ((x : Id) → Waits p log us x → Held (Holds w) x) → TooMany p log us → ⊥
+pub room : (p : Plan) (log : Log) (us : List ℕ) (w : List Entry) → length w ≡ 512 → ((x : Id) → Unreported p log us x → Held (Holds w) x) → TooMany p log us → ⊥
 room p log us w long held m =
     let f = fewer (m .nodes) (ids w) (m .distinct) (λ x k. standing w x (held x (m .wait x k))) in
     let u = ids-length w in
@@ -87,7 +87,7 @@ room p log us w long held m =
 -- ---- a path that brings es after us, into the window w
 
 module _ (p : Plan) (log : Log) (us ws : List ℕ) (w es : List Entry) (long : length w ≡ 512) (once : Once w) (b : Brings p us ws es)
-    (holds : (i : ℕ) (e : Entry) → Holds w i e → Waits p log us (idOf e)) (held : (x : Id) → Waits p log us x → Held (Holds w) x)
+    (holds : (i : ℕ) (e : Entry) → Holds w i e → Unreported p log us (idOf e)) (held : (x : Id) → Unreported p log us x → Held (Holds w) x)
     (low : (x : Id) → Work (wholeOf p us) x → x .position < lengthOf us) (new : (x : Id) → Reported log x → x .position < lengthOf us) where
   pub too-many : vacancies w < length es → TooMany p log ws
   too-many l = record {
@@ -107,14 +107,14 @@ module _ (p : Plan) (log : Log) (us ws : List ℕ) (w es : List Entry) (long : l
           let y = ap (λ (k : Id). k .position) z in
           omega arith
 
-      old : (x : Id) → Among x (ids w) → Waits p log ws x
-      old x m = let r = ids-at w x m in let h = holds (r .0) (r .1) (r .2) in subst (Waits p log ws) (r .3) record { node = b .grows (idOf (r .1)) (h .node); unreported = h .unreported }
+      old : (x : Id) → Among x (ids w) → Unreported p log ws x
+      old x m = let r = ids-at w x m in let h = holds (r .0) (r .1) (r .2) in subst (Unreported p log ws) (r .3) record { node = b .grows (idOf (r .1)) (h .node); unreported = h .unreported }
 
-      brought : (x : Id) → Among x (map idOf es) → Waits p log ws x
+      brought : (x : Id) → Among x (map idOf es) → Unreported p log ws x
       brought x m =
           let d = map-among idOf x es m in
           let n = b .new (d .0) (d .1) in
-          subst (Waits p log ws) (sym (d .2)) record { node = n .0; unreported = λ r. let u = new (idOf (d .0)) r in let v = n .1 in omega arith }
+          subst (Unreported p log ws) (sym (d .2)) record { node = n .0; unreported = λ r. let u = new (idOf (d .0)) r in let v = n .1 in omega arith }
 
   pub not-many : length es ≤ vacancies w → TooMany p log ws → ⊥
   not-many l m =

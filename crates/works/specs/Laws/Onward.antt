@@ -36,9 +36,10 @@ use Rattle.log.specs.Log as Log
 use Rattle.demand.specs.Nodes.{whose}
 use Rattle.demand.specs.TheWord.{stateAfter, nextAfter, wholeOf, Oldest, Takes, hears, Stuck, ended, waits}
 use Rattle.demand.specs.Laws.Next.{Found, chosen-found}
+use Rattle.demand.specs.Laws.TheWord.{goes-same, ended-goes}
 use Rattle.works.specs.Engine.{rest, EngineLaws}
 use Rattle.works.specs.Stands.{identOf, idOf, ToldAs, Queued, Stands}
-use Rattle.works.specs.Laws.Paths.{isTold, tolds, Rests, ended-goes, waits-goes}
+use Rattle.works.specs.Laws.Paths.{isTold, tolds, Rests, waits-goes}
 
 -- ---- a state that awaits an event has a transition that processes it
 
@@ -89,9 +90,6 @@ whose-same x y e =
     let p : x .position ≡ y .position = (let u = position-same e in omega arith) in
     let n : x .node ≡ y .node = number-same e in
     λ i. record { position = p i; node = n i }
-
-goes-same : {t u : ℕ} → Next.Goes t ≡ Next.Goes u → t ≡ u
-goes-same e = cc
 
 module _ (p : Plan) (lawful : Lawful p) (automaton : MeetsAutomaton p) (available : ℕ → ℕ) (log : Log) (us : List ℕ) (g : Progress) (s : Stands p available log us g) where
   -- transition t processes the oldest instance of the awaited event, which is told

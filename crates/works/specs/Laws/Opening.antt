@@ -31,7 +31,7 @@ use Rattle.timing.specs.Times.{specified, at}
 use Rattle.timing.specs.Queues.{noInstance, pendingOf, queueOf}
 use Rattle.timing.specs.declared.Instance.{Instance}
 use Rattle.timing.specs.declared.Progress.{Progress}
-use Rattle.path.specs.Path.{pathFrom, longestPath}
+use Rattle.path.specs.Path.{pathFrom, longestPath, Path}
 use Rattle.window.specs.Window.{vacant, isHeld, vacancies}
 use Rattle.window.specs.Tests.{by-test}
 use Rattle.window.specs.Places.{Holds, Once}
@@ -55,18 +55,16 @@ use Rattle.demand.specs.Works.{Opened}
 use Rattle.demand.specs.OfPlan.{worldOf}
 use Rattle.demand.specs.TheWord.{none, wholeOf}
 use Rattle.demand.specs.Laws.Next.{lawful}
-use Rattle.demand.specs.Laws.Growth.{Tail, here, extends-self}
-use Rattle.demand.specs.Laws.Longest.{silent-before}
+use Rattle.demand.specs.Laws.Growth.{here, extends-self}
+use Rattle.demand.specs.Laws.Longest.{silent-before, within-none}
 use Rattle.demand.specs.Laws.Replies.{not-going}
 use Rattle.demand.specs.Laws.World.{old-position}
 use Rattle.demand.specs.OfRun.{machine}
 use Rattle.activity.specs.Tells.{Tells, told-false, tells-iff}
 use Rattle.limits.specs.Tells.{tells-ltb}
 use Rattle.demand.specs.Machine.{Held}
-use Rattle.behaviour.specs.Combined.{Ident}
-use Rattle.path.specs.Path.{Path}
 use Rattle.demand.specs.Nodes.{Work}
-use Rattle.demand.specs.Loading.{Silently, stays, goes-on, Exceeds, Beyond, Waits, TooMany, FirstBeyond, FirstMany}
+use Rattle.demand.specs.Loading.{Silently, stays, goes-on, Beyond, Within, Unreported, TooMany, FirstBeyond, FirstMany}
 use Rattle.works.specs.Laws.Silent.{one-rest}
 use Rattle.works.specs.Laws.PathLimits.{Quiet, tells-quiet}
 use Rattle.works.specs.Laws.PathNodes.{low, Passes, passes-quiet}
@@ -88,19 +86,6 @@ pub record Judged (p : Plan) : Type 0 where
 -- the plan that these bytes are accepted as meets the definitions
 abbrev pub AcceptedLaws : List ℕ → Type 0
 AcceptedLaws bytes = (p : Plan) → judgeOf bytes ≡ accepted p → Judged p
-
--- a word that passes a limit has a transition
-abbrev Some : List ℕ → Type 0
-Some [] = ⊥
-Some (t ∷ us) = Unit {0}
-
-exceeds-some : (p : Plan) (C : Ident → ℕ) (us : List ℕ) → Exceeds p C us → Some us
-exceeds-some p C us (Exceeds.completion n k i h) = tt
-exceeds-some p C us (Exceeds.availability x r l i h) = tt
-exceeds-some p C us (Exceeds.position l) = tt
-
-exceeds-none : (p : Plan) (available : ℕ → ℕ) (us : List ℕ) → Tail us [] → Beyond p available us → ⊥
-exceeds-none p available us here y = exceeds-some p (y .C) [] (y .exceeds)
 
 -- ---- the run at its opening
 
@@ -183,7 +168,7 @@ module _ (laws : EngineLaws) (p : Plan) (psi : Clock) (slack : ℕ) (given : Acc
   firstOf = pathFrom p longestPath (nextOf (p .automaton) (p .automaton .initial)) g
 
   quiet-first : (vs : List ℕ) → Silently p [] vs → Beyond p available vs → Quiet p (given .lawful) (given .automaton) available [] laws []
-  quiet-first vs stays y = absurd (exceeds-some p (y .C) [] (y .exceeds))
+  quiet-first vs stays y = absurd (within-none p available [] here y)
   quiet-first vs (goes-on {vs = ws} {t} h e) y = record { before = ws; number = t; silent = h; next = e; beyond = y }
 
   pub tells-first : Tells (firstOf .beyond) (FirstBeyond p available)
@@ -198,8 +183,8 @@ module _ (laws : EngineLaws) (p : Plan) (psi : Clock) (slack : ℕ) (given : Acc
     low-first = low p (given .lawful) (given .automaton) available [] laws [] none
 
     -- none of its transitions passes a limit
-    first-within : (vs : List ℕ) → Silently p [] vs → (us : List ℕ) → Tail us vs → Beyond p available us → ⊥
-    first-within vs s us c y = ⊎-elim (λ d. exceeds-none p available us d y) (λ q. told-false tells-first b (record { at = us; silent = q; beyond = y })) (silent-before p available [] vs us s c)
+    first-within : (vs : List ℕ) → Silently p [] vs → Within p available vs
+    first-within vs s us c y = ⊎-elim (λ d. within-none p available us d y) (λ q. told-false tells-first b (record { at = us; silent = q; beyond = y })) (silent-before p available [] vs us s c)
 
     pub tells-many : Tells (ltb (vacancies w) (length (firstOf .entries))) (FirstMany p)
     tells-many = tells-iff (λ l. record { path = passed .word; silent = passed .silent; rests = passed .rests; many = too-many p [] [] (passed .word) w (firstOf .entries) refl once (passed .brings) (λ i e h. unheld i e h) none-waits low-first (λ x r. absurd r) l }, λ m. go m (decLt (vacancies w) (length (firstOf .entries)))) (tells-ltb (vacancies w) (length (firstOf .entries)))
@@ -207,7 +192,7 @@ module _ (laws : EngineLaws) (p : Plan) (psi : Clock) (slack : ℕ) (given : Acc
         once : Once w
         once i j e f h k s = unheld i e h
 
-        none-waits : (x : Id) → Waits p [] [] x → Held (Holds w) x
+        none-waits : (x : Id) → Unreported p [] [] x → Held (Holds w) x
         none-waits x q = absurd (let u = low-first x (q .node) in omega arith)
 
         go : FirstMany p → Dec (vacancies w < length (firstOf .entries)) → vacancies w < length (firstOf .entries)

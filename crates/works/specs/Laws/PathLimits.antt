@@ -2,9 +2,8 @@
 use mathlib.Core.Path.{_≡_, refl, sym, ap, _∙_, subst}
 use mathlib.Core.Bool.{Bool, true, false, cond}
 use mathlib.Core.List.{List, [], _∷_, _++_}
-use mathlib.Core.Logic.{_⊎_, inl, inr, ⊎-elim}
+use mathlib.Core.Logic.{_⊎_, inl, inr}
 use Prim.Native.Nat.{ℕ, zero, suc}
-use native.Mathlib.Omega.{arith}
 use Rattle.plan.specs.declared.Plan.{Plan}
 use Rattle.activity.specs.Tells.{Tells, holds, fails, tells-iff}
 use Rattle.automaton.specs.Next.{nextOf}
@@ -13,21 +12,17 @@ use Rattle.automaton.specs.declared.Next.{Next}
 use Rattle.behaviour.specs.Paths.{Lawful}
 use Rattle.timing.specs.declared.Progress.{Progress}
 use Rattle.path.specs.Path.{Path, takenBy, entriesBy, pathFrom}
-use Rattle.window.specs.declared.Entry.{Entry}
 use Rattle.log.specs.Log.{Id, Log, Told}
 use Rattle.demand.specs.TheWord.{nextAfter, Takes, goes}
-use Rattle.demand.specs.Loading.{Silently, stays, goes-on, Onward, Beyond, PathBeyond}
-use Rattle.demand.specs.Laws.TheWord.{last, step-same}
+use Rattle.demand.specs.Loading.{Silently, stays, goes-on, Beyond, PathBeyond}
+use Rattle.demand.specs.Laws.TheWord.{last, goes-same, step-same, ended-goes}
 use Rattle.works.specs.Engine.{Settles, EngineLaws}
 use Rattle.works.specs.Stands.{Stands}
 use Rattle.works.specs.Laws.Silent.{silent-first, silent-next}
 use Rattle.works.specs.Laws.Taken.{next-state, stands-on}
 use Rattle.works.specs.Laws.Counts.{possible, pending-length}
-use Rattle.works.specs.Laws.Crosses.{tells-beyond}
-use Rattle.works.specs.Laws.Paths.{ended-goes, waits-goes}
-
-goes-same : {t u : ℕ} → Next.Goes t ≡ Next.Goes u → t ≡ u
-goes-same e = cc
+use Rattle.works.specs.Laws.Passing.{tells-beyond}
+use Rattle.works.specs.Laws.Paths.{waits-goes}
 
 module _ (p : Plan) (lawful : Lawful p) (automaton : MeetsAutomaton p) (available : ℕ → ℕ) (log : Log) (laws : EngineLaws) where
   -- where the run stands after one transition more

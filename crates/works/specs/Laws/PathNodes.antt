@@ -1,13 +1,13 @@
 -- The entries of a path are those of the actions and events that it adds to the word, each once.
 use mathlib.Core.Path.{_≡_, refl, sym, ap, _∙_, subst}
-use mathlib.Core.Bool.{Bool, true, false, cond, true≢false}
+use mathlib.Core.Bool.{true, false, true≢false}
 use mathlib.Core.List.{List, [], _∷_, _++_, map, map-append}
 use mathlib.Core.Logic.{_⊎_, inl, inr, ⊎-elim}
 use Prim.Native.Nat.{ℕ, zero, suc, _+_, _≤_, _<_}
 use native.Mathlib.Omega.{arith}
 use lib.ListN.{length, getD}
 use Rattle.lists.specs.Lists.{Among, Distinct}
-use Rattle.plan.specs.Plan.{move, emittedBy, resourceOf}
+use Rattle.plan.specs.Plan.{move, emittedBy}
 use Rattle.plan.specs.declared.Kind.{Kind}
 use Rattle.plan.specs.declared.Node.{Node}
 use Rattle.plan.specs.declared.Plan.{Plan}
@@ -31,15 +31,15 @@ use Rattle.demand.specs.Machine.{idOf}
 use Rattle.demand.specs.Nodes.{whose, Working, Work, lengthOf}
 use Rattle.demand.specs.TheWord.{stateAfter, nextAfter, wholeOf, Rests, Takes, goes}
 use Rattle.demand.specs.Loading.{Silently, stays}
-use Rattle.demand.specs.Laws.TheWord.{takes-follows}
+use Rattle.demand.specs.Laws.TheWord.{takes-follows, ended-goes}
 use Rattle.demand.specs.Laws.World.{old-position}
 use Rattle.works.specs.Engine.{Settles, EngineLaws}
 use Rattle.works.specs.Stands.{Stands}
 use Rattle.works.specs.Laws.Silent.{silent-first}
 use Rattle.works.specs.Laws.Taken.{size-is, next-state}
-use Rattle.works.specs.Laws.Entries.{among-at, at-among, Brought, brought, brings, different}
+use Rattle.works.specs.Laws.Entries.{at-among, brought, brings, different}
 use Rattle.works.specs.Laws.Loaded.{work-working, working-work}
-use Rattle.works.specs.Laws.Paths.{ended-goes, waits-goes}
+use Rattle.works.specs.Laws.Paths.{waits-goes}
 use Rattle.works.specs.Laws.PathLimits.{on}
 
 not-release : (k : Kind) → Working k → NotRelease k

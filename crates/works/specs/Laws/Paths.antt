@@ -25,6 +25,7 @@ use Rattle.window.specs.declared.Entry.{Entry}
 use Rattle.log.specs.Log.{Log}
 use Rattle.demand.specs.TheWord.{nextAfter, Takes, goes}
 use Rattle.demand.specs.Loading.{Silently, stays}
+use Rattle.demand.specs.Laws.TheWord.{ended-goes}
 use Rattle.works.specs.Laws.Silent.{silent-first}
 pub use Rattle.demand.specs.TheWord.{Rests}
 use Rattle.demand.specs.Laws.Next.{next-found}
@@ -55,9 +56,6 @@ tolds-new position C (n ∷ ns) = let u = tolds-new position C ns in omega arith
 pub tail-on : (is us vs : List ℕ) → Tail is us → Tail us vs → Tail is vs
 tail-on is us vs a here = a
 tail-on is us vs a (later b) = later (tail-on is us _ a b)
-
-pub ended-goes : {A : Type 0} {t : ℕ} → Next.Ended ≡ Next.Goes t → A
-ended-goes e = absurd (let z : _≡_ {A = ℕ} 0 1 = cc in omega arith)
 
 pub waits-goes : {A : Type 0} {e t : ℕ} → Next.Waits e ≡ Next.Goes t → A
 waits-goes e = absurd (let z : _≡_ {A = ℕ} 0 1 = cc in omega arith)

@@ -16,7 +16,6 @@ use Rattle.opening.specs.declared.Short.{Short}
 use Rattle.opening.specs.Laws.{or-false}
 use Rattle.run.specs.Opening as Opening
 use Rattle.demand.specs.OfPlan.{Outlast}
-use Rattle.demand.specs.TheWord.{none}
 use Rattle.works.specs.Laws.Bools.{and-false}
 use Rattle.works.specs.Laws.Loaded.{working-work}
 

@@ -1,15 +1,13 @@
 -- Transitions that process nothing: there is one way to go on by them, up to a waiting or final state.
-use mathlib.Core.Path.{_≡_, refl, sym, ap, _∙_, subst}
+use mathlib.Core.Path.{_≡_, refl, sym, _∙_, subst}
 use mathlib.Core.List.{List, _∷_}
 use mathlib.Core.Logic.{_⊎_, inl, inr}
 use Prim.Native.Nat.{ℕ}
 use Rattle.plan.specs.declared.Plan.{Plan}
 use Rattle.automaton.specs.declared.Next.{Next}
 use Rattle.demand.specs.Loading.{Silently, stays, goes-on}
-use Rattle.demand.specs.TheWord.{nextAfter, Rests, Tail, here, later}
-
-goes-same : {t u : ℕ} → Next.Goes t ≡ Next.Goes u → t ≡ u
-goes-same e = cc
+use Rattle.demand.specs.TheWord.{nextAfter, Rests}
+use Rattle.demand.specs.Laws.TheWord.{goes-same}
 
 module _ (p : Plan) where
   pub silent-first : (us : List ℕ) (t : ℕ) → nextAfter p us ≡ Next.Goes t → (vs : List ℕ) → Silently p (t ∷ us) vs → Silently p us vs

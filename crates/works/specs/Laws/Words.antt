@@ -21,17 +21,17 @@ use Rattle.automaton.specs.Rules.{MeetsAutomaton}
 use Rattle.automaton.specs.declared.Next.{Next}
 use Rattle.automaton.specs.declared.Chosen.{Chosen}
 use Rattle.behaviour.specs.Word.{size, once, times}
-use Rattle.behaviour.specs.Combined.{Ident, named, Instance, processing, combined}
+use Rattle.behaviour.specs.Combined.{Ident, named, Instance, processing}
 use Rattle.behaviour.specs.Accepted.{GoodWord}
 use Rattle.behaviour.specs.Exec.{emitsOf}
-use Rattle.behaviour.specs.Paths.{stepOf, wordOf, Follows, Lawful}
+use Rattle.behaviour.specs.Paths.{wordOf, Lawful}
 use Rattle.behaviour.specs.Laws.Instances.{Listing, listing-grows, instance-cut, next-instance, only-instance}
 use Rattle.behaviour.specs.Laws.Lists.{among-either, map-among}
 use Rattle.behaviour.specs.Laws.Unique.{shape-of}
 use Rattle.behaviour.specs.Laws.Computed.{emits}
 use Rattle.behaviour.specs.Laws.Plans.{good-path}
 use Rattle.timing.specs.Queues.{noInstance, pendingOf, queueOf, emission}
-use Rattle.timing.specs.Limits.{InstanceInLimits, ToldNames}
+use Rattle.timing.specs.Limits.{ToldNames}
 use Rattle.timing.specs.declared.Told.{Told}
 use Rattle.timing.specs.declared.Instance.{Instance as Pending}
 use Rattle.timing.specs.declared.Progress.{Progress}
@@ -40,11 +40,11 @@ use Rattle.log.specs.Log as Log
 use Rattle.demand.specs.Nodes.{whose, lengthOf}
 use Rattle.demand.specs.TheWord.{stateAfter, nextAfter, wholeOf, Oldest, Takes, goes, hears, Stuck, ended, waits, TheWord}
 use Rattle.demand.specs.Laws.Next.{next-found, chosen-found}
-use Rattle.demand.specs.Laws.TheWord.{takes-follows}
+use Rattle.demand.specs.Laws.TheWord.{takes-follows, ended-goes}
 use Rattle.works.specs.Engine.{rest, Settles, EngineLaws}
 use Rattle.works.specs.Stands.{identOf, idOf, ToldAs, Queued, Stands}
 use Rattle.works.specs.Laws.Taken.{size-is, popped, emissions-are}
-use Rattle.works.specs.Laws.Paths.{isTold, tolds, tolds-append, tolds-new, Rests, ended-goes, waits-goes}
+use Rattle.works.specs.Laws.Paths.{isTold, tolds, tolds-append, tolds-new, Rests, waits-goes}
 use Rattle.works.specs.Laws.Sums.{sum, sum-same, sum-falls}
 use Rattle.works.specs.Laws.Onward.{awaited, whose-same}
 

@@ -28,13 +28,18 @@ use Rattle.behaviour.specs.Laws.OneActivity.{latest-bound}
 use Rattle.behaviour.specs.Laws.Plans.{good-path}
 use Rattle.behaviour.specs.Laws.TimesEqual.{Equal}
 use Rattle.demand.specs.Nodes.{lengthOf}
-use Rattle.demand.specs.TheWord.{stateAfter, wholeOf}
-use Rattle.demand.specs.Loading as L
-use Rattle.works.specs.Laws.Taken.{size-is}
+use Rattle.demand.specs.TheWord.{stateAfter, wholeOf, Takes}
+use Rattle.demand.specs.Loading.{Exceeds, Beyond}
 use Rattle.behaviour.specs.Laws.Shape.{sort}
 use Rattle.behaviour.specs.Laws.Unique.{shape-of}
+use Rattle.automaton.specs.Rules.{MeetsAutomaton}
+use Rattle.log.specs.Log.{Log}
+use Rattle.demand.specs.Laws.TheWord.{takes-follows}
+use Rattle.works.specs.Engine.{Possible, Advances, EngineLaws}
+use Rattle.works.specs.Stands.{Stands}
+use Rattle.works.specs.Laws.Taken.{size-is, trace, runs-on, state-on, end-on}
+use Rattle.works.specs.Laws.Counts.{possible, pending-length}
 use Rattle.works.specs.Laws.Crosses.{Crosses, tells-crosses}
-use Rattle.demands.specs.Horizon.{Beyond}
 
 last-step : {R : ℕ} {available : ℕ → ℕ} {tr : Trace} {w : Word} {x : Step} → Run R available tr (w ▷ x) → Stepped R x tr (size w)
 last-step (goes r s) = s
@@ -116,7 +121,7 @@ module _ (p : Plan) (l : Lawful p) (available : ℕ → ℕ) where
     ends-before m n (one h) = ends-later m n h
     ends-before m n (more {k = k} c h) = let u = ends-before m k c in let v = ends-later k n h in omega arith
 
-    found : L.Exceeds p (endAt (leads .trace)) (t ∷ is) → Beyond p available (t ∷ is)
+    found : Exceeds p (endAt (leads .trace)) (t ∷ is) → Beyond p available (t ∷ is)
     found x = record { S = startAt (leads .trace); C = endAt (leads .trace); times = equal .timing; exceeds = x }
 
     place : identity (size (wordOf p is)) ≡ identity (lengthOf is)
@@ -126,7 +131,7 @@ module _ (p : Plan) (l : Lawful p) (available : ℕ → ℕ) where
     late-node n h nc over =
         let u = leads .ends n in
         let x : horizon < endAt (leads .trace) (identity (size (wordOf p is)) n) = omega arith in
-        found (L.Exceeds.completion n (node a n .kind)
+        found (Exceeds.completion n (node a n .kind)
         (subst (λ (q : ℕ → Ident). Is (wholeOf p (t ∷ is)) (q n) (node a n .kind)) place (node a n .duration, own n h nc))
         (subst (λ (q : ℕ → Ident). horizon < endAt (leads .trace) (q n)) place x))
 
@@ -145,20 +150,38 @@ module _ (p : Plan) (l : Lawful p) (available : ℕ → ℕ) where
         let x = equal .free r h in
         let u = leads .free r in
         let v = x .2 in
-        found (L.Exceeds.availability (x .0) r h (x .1) (omega arith))
-    passes (Crosses.position over) = found (L.Exceeds.position (let u = leads .position in let v = size-is p is in omega arith))
+        found (Exceeds.availability (x .0) r h (x .1) (omega arith))
+    passes (Crosses.position over) = found (Exceeds.position (let u = leads .position in let v = size-is p is in omega arith))
 
     exceeds : Beyond p available (t ∷ is) → Crosses p t g
     exceeds b = by (b .exceeds)
       where
-        by : L.Exceeds p (b .C) (t ∷ is) → Crosses p t g
-        by (L.Exceeds.completion n k h over) =
+        by : Exceeds p (b .C) (t ∷ is) → Crosses p t g
+        by (Exceeds.completion n k h over) =
             let i : Is (wholeOf p (t ∷ is)) (identity (size (wordOf p is)) n) k = subst (λ (q : ℕ → Ident). Is (wholeOf p (t ∷ is)) (q n) k) (sym place) h in
             let o : horizon < b .C (identity (size (wordOf p is)) n) = subst (λ (q : ℕ → Ident). horizon < b .C (q n)) (sym place) over in
             let u = end-there (b .S) (b .C) (b .times) n k (i .0) (i .1) in
             Crosses.completion n (inside n k (i .0) (i .1)) (omega arith)
-        by (L.Exceeds.availability x r h i over) = let u = free-at (b .S) (b .C) (b .times) x r h i in Crosses.availability r h (omega arith)
-        by (L.Exceeds.position over) = Crosses.position (let u = leads .position in let v = size-is p is in omega arith)
+        by (Exceeds.availability x r h i over) = let u = free-at (b .S) (b .C) (b .times) x r h i in Crosses.availability r h (omega arith)
+        by (Exceeds.position over) = Crosses.position (let u = leads .position in let v = size-is p is in omega arith)
 
     pub tells-leads : Tells (takenBy p t g .beyond) (Beyond p available (t ∷ is))
     tells-leads = tells-iff (passes, exceeds) (tells-crosses p t g)
+
+-- ---- where a run stands
+
+module _ (p : Plan) (lawful : Lawful p) (automaton : MeetsAutomaton p) (available : ℕ → ℕ) (log : Log) (laws : EngineLaws) (us : List ℕ) (g : Progress) (s : Stands p available log us g) (t : ℕ) (next : Takes p log (t ∷ us)) where
+  can : Possible p t g
+  can = possible p lawful automaton available log us g s t next
+
+  adv : Advances p t g
+  adv = laws .advances p lawful t g can
+
+  pub tells-beyond : Tells (takenBy p t g .beyond) (Beyond p available (t ∷ us))
+  tells-beyond = tells-leads p lawful available t us g (takes-follows p log (t ∷ us) next) record {
+    trace = trace p lawful available log us g s t next (can .pending) (pending-length p lawful automaton available log us g s) adv;
+    runs = runs-on p lawful available log us g s t next (can .pending) (pending-length p lawful automaton available log us g s) adv;
+    ends = end-on p lawful available log us g s t next (can .pending) (pending-length p lawful automaton available log us g s) adv;
+    free = λ r. ap (λ z. z .free r) (state-on p lawful available log us g s t next (can .pending) (pending-length p lawful automaton available log us g s) adv);
+    position = s .position ∙ sym (size-is p us);
+  }

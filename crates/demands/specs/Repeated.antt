@@ -1,23 +1,24 @@
 -- `stop-repeated`: of any run, a call that is answered stopped is followed, whatever calls come, by the same stop and the same run.
-use mathlib.Core.Path.{_≡_, refl, sym, ap, _∙_, subst}
-use mathlib.Core.Bool.{Bool, true, false, cond}
+-- `refused-list`: so is a refused opening, by 50 and the run of zeros.
+use mathlib.Core.Path.{_≡_, refl, sym, ap, _∙_}
+use mathlib.Core.Bool.{Bool, true, false}
 use mathlib.Core.List.{List, [], _∷_}
 use Prim.Native.Nat.{ℕ}
 use native.Mathlib.Omega.{arith}
 use Rattle.time.specs.declared.Clock.{Clock}
 use Rattle.run.specs.declared.Run.{Run}
-use Rattle.run.specs.declared.Halt.{Halt}
 use Rattle.run.specs.declared.Stop.{Stop}
 use Rattle.run.specs.declared.Call.{Call}
 use Rattle.run.specs.declared.Reply.{Reply}
 use Rattle.run.specs.declared.Answer.{Answer}
 use Rattle.run.specs.declared.Refusal.{Refusal}
 use Rattle.run.specs.Limits.{runInLimits}
+use Rattle.run.specs.Opening.{zeroRun}
 use Rattle.run.specs.Calls.{answer, refuse, called, askOf, completionOf, outcomeOf, callOf}
 use Rattle.log.specs.Log.{Log, said}
-use Rattle.log.specs.Drive.{Driven, drive}
-use Rattle.demands.specs.Promises.{answered, StatementStopRepeated}
-use Rattle.demands.specs.Unchanged.{stop-kept, stops-stay}
+use Rattle.log.specs.Drive.{drive}
+use Rattle.demands.specs.Promises.{answered, StatementStopRepeated, StatementRefusedList}
+use Rattle.demands.specs.Unchanged.{stop-kept, stops-stay, refused-opening, zeros-get-50}
 use Rattle.demands.specs.InLimitsIff.{in-limits}
 use Rattle.demands.specs.InLimitsKept.{limits-kept}
 
@@ -38,12 +39,16 @@ stopped-in : (run : Run) (c : Call) (s : Stop) → callOf run c .reply ≡ Reply
 stopped-in run c s e true q = q
 stopped-in run c s e false q = refused-stopped (sym (ap (λ (a : Answer). a .reply) (out run c q)) ∙ e)
 
--- a run that has stopped, and is in limits
-repeats : (run : Run) (s : Stop) → runInLimits run ≡ true → run .halt ≡ Halt.Stopped s → (log : Log) (cs : List Call) → drive log run cs ≡ record { log = answered (Reply.Stopped s) cs log; run = run }
-repeats run s l h log [] = refl
-repeats run s l h log (c ∷ cs) =
-    ap (λ (a : Answer). drive (said c (a .reply) ∷ log) (a .run) cs) (stop-kept run s c l h) ∙ repeats run s l h (said c (Reply.Stopped s) ∷ log) cs
+-- a run that answers every call alike, and stays
+steady : (run : Run) (r : Reply) → ((c : Call) → callOf run c ≡ answer r run) → (log : Log) (cs : List Call) → drive log run cs ≡ record { log = answered r cs log; run = run }
+steady run r same log [] = refl
+steady run r same log (c ∷ cs) = ap (λ (a : Answer). drive (said c (a .reply) ∷ log) (a .run) cs) (same c) ∙ steady run r same (said c r ∷ log) cs
 
 pub stop-repeated : StatementStopRepeated
-stop-repeated run s c e log cs =
-    repeats (callOf run c .run) s (in-limits (callOf run c .run) .1 (limits-kept run c (in-limits run .0 (stopped-in run c s e (runInLimits run) refl)))) (stops-stay run s c e) log cs
+stop-repeated run s c e = steady (callOf run c .run) (Reply.Stopped s) (λ d. stop-kept (callOf run c .run) s d limits (stops-stay run s c e))
+  where
+    limits : runInLimits (callOf run c .run) ≡ true
+    limits = in-limits (callOf run c .run) .1 (limits-kept run c (in-limits run .0 (stopped-in run c s e (runInLimits run) refl)))
+
+pub refused-list : StatementRefusedList
+refused-list bytes psi slack ts u e cs = ap (λ (r : Run). drive [] r cs) (refused-opening bytes psi slack ts u e) ∙ steady zeroRun (Reply.Refused Refusal.OutOfLimits) zeros-get-50 [] cs
