@@ -9,35 +9,37 @@ use Rattle.plan.specs.declared.Plan.{Plan}
 use Rattle.judge.specs.Judge.{judgeOf}
 use Rattle.timing.specs.declared.Progress.{Progress}
 use Rattle.table.specs.declared.Begun.{Begun}
-use Rattle.table.specs.declared.Heard.{Heard}
+use Rattle.table.specs.declared.Drafted.{Drafted}
 use Rattle.table.specs.declared.Turned.{Turned}
+use Rattle.table.specs.Lent.{Lends}
 use Rattle.table.specs.Turn.{OneTurn, turnOf, isRefused, firstText, firstProgress, Open}
 
 -- the table of the plan `bytes` is begun at the front of a buffer
 pub record Begins (bytes before after : List ℕ) (r : Begun) : Type 0 where
-  pub text : Puts before 0 (firstText (judgeOf bytes .verdict)) after (r .next)
+  pub text : Lends before 0 (firstText (judgeOf bytes .verdict)) after (r .put)
   pub closed : r .closed ≡ isRefused (judgeOf bytes .verdict)
   pub plan : r .plan ≡ judgeOf bytes .plan
   pub progress : r .progress ≡ firstProgress (judgeOf bytes .plan)
+  -- what the first turn needs of it
   pub stays : r .closed ≡ false → Open (r .plan) (r .progress)
-  pub few : r .next ≤ 50
-
--- one line is put at the front of a buffer
-pub record OneLine (before line after : List ℕ) (next : ℕ) : Type 0 where
-  pub text : Puts before 0 line after next
-  pub few : next ≤ 50
 
 -- the turn x is put at `at`
-pub record Turns (before : List ℕ) (at : ℕ) (x : OneTurn) (after : List ℕ) (r : Turned) : Type 0 where
+pub record Turns (p : Plan) (before : List ℕ) (at : ℕ) (x : OneTurn) (after : List ℕ) (r : Turned) : Type 0 where
+  pub text : Lends before at (x .text) after (r .put)
+  pub closed : r .closed ≡ x .closed
+  pub heard : r .heard ≡ x .heard
+  pub progress : r .progress ≡ x .progress
+  -- what the next turn needs of it
+  pub stays : r .closed ≡ false → Open p (r .progress)
+
+-- ---- before the text is lent
+
+-- the turn x is put at `at` of a buffer of the table's own
+pub record Drafts (before : List ℕ) (at : ℕ) (x : OneTurn) (after : List ℕ) (r : Drafted) : Type 0 where
   pub text : Puts before at (x .text) after (r .next)
   pub closed : r .closed ≡ x .closed
   pub heard : r .heard ≡ x .heard
   pub progress : r .progress ≡ x .progress
-
--- and what the next turn needs of it
-pub record Follows (p : Plan) (at : ℕ) (r : Turned) : Type 0 where
-  pub stays : r .closed ≡ false → Open p (r .progress)
-  pub few : r .next ≤ at + 4_000
 
 -- ---- what is asked
 

@@ -2,3 +2,6 @@
 pub mod ByTurns
 pub mod InLimits
 pub mod Short
+pub mod Hearing
+-- and about text put into a lent buffer
+pub mod Lent

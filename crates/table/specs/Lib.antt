@@ -2,5 +2,7 @@
 pub mod Timetable
 -- the same, one turn at a time
 pub mod Turn
+-- the text in a lent buffer
+pub mod Lent
 pub mod Answers
 pub mod Laws

@@ -1,6 +1,7 @@
 // The timetable, one turn at a time.
 use automaton::Next;
 use automaton::next_of;
+use lent::lend;
 use lines::put_header;
 use lines::put_refused;
 use plan::Plan;
@@ -10,10 +11,12 @@ use timing::Progress;
 ghost use mathlib.Core.Path.{_≡_};
 ghost use Rattle.plan.specs.Fault.{numberOf};
 ghost use Rattle.plan.specs.declared.Fault.{Fault};
-ghost use Rattle.lines.specs.Lines.{refused};
-ghost use Rattle.table.specs.Turn.{isWaiting, waitsOf, Open};
-ghost use Rattle.table.specs.Answers.{Begins, OneLine};
+ghost use Rattle.lines.specs.Lines.{header, refused};
+ghost use Rattle.table.specs.Turn.{isWaiting, waitsOf, isRefused, firstText, Open};
+ghost use Rattle.table.specs.Lent.{Lends};
+ghost use Rattle.table.specs.Answers.{Begins};
 
+pub mod lent; // text put into a lent buffer
 pub mod turns; // one turn
 
 // The next outcome byte, if there is one.
@@ -22,10 +25,17 @@ pub enum Heard {
     Outcome(u8),
 }
 
+// Text put into a lent buffer.
+pub enum Put {
+    // the offset past it
+    Past(usize),
+    // it does not fit: number 36, place 0, and the buffer is as it was
+    TooShort,
+}
+
 // The table before its first turn.
 pub struct Begun {
-    // the offset past the text
-    pub next: usize,
+    pub put: Put,
     // the text is the whole table
     pub closed: bool,
     pub plan: Plan,
@@ -34,8 +44,7 @@ pub struct Begun {
 
 // One turn of the table.
 pub struct Turned {
-    // the offset past the text
-    pub next: usize,
+    pub put: Put,
     // the text closes the table
     pub closed: bool,
     // the outcome byte was taken
@@ -44,7 +53,56 @@ pub struct Turned {
     pub progress: Progress,
 }
 
-// The header of an accepted plan's table; "A refused plan prints only refused, number, place".
+// The same before its text is lent.
+pub struct Drafted {
+    // the offset past the text
+    pub next: usize,
+    pub closed: bool,
+    pub heard: bool,
+    pub progress: Progress,
+}
+
+fn is_refused(verdict: Verdict) -> bool
+    ensures { λ r. ⌜ r ≡ isRefused verdict ⌝ }
+{
+    match verdict {
+        Verdict::Accepted => false,
+        Verdict::Refused(_, _) => true,
+    }
+}
+
+fn header_line(out: &mut [u8]) -> Put
+    ensures { λ r. ⌜ Lends (now (out .entry)) 0 header (now (out .exit)) r ⌝ }
+{
+    let mut text = [0u8; 64];
+    let next = put_header(&mut text, 0);
+    lend(out, 0, &text, next)
+}
+
+fn refused_line(out: &mut [u8], number: u8, place: u64) -> Put
+    ensures { λ r. ⌜ Lends (now (out .entry)) 0 (refused number place) (now (out .exit)) r ⌝ }
+{
+    let mut text = [0u8; 64];
+    let next = put_refused(&mut text, 0, number, place);
+    lend(out, 0, &text, next)
+}
+
+// "A refused plan prints only refused, number, place"; an accepted one, the header.
+fn first_line(out: &mut [u8], verdict: Verdict) -> Put
+    ensures { λ r. ⌜ Lends (now (out .entry)) 0 (firstText verdict) (now (out .exit)) r ⌝ }
+{
+    match verdict {
+        Verdict::Accepted => {
+            return header_line(out);
+        }
+        Verdict::Refused(f, place) => {
+            let number = faults::number_of(f);
+            return refused_line(out, number, place as u64);
+        }
+    }
+}
+
+// The first line of a plan's table, and where the behaviour stands before its first turn.
 pub fn begin(out: &mut [u8], bytes: &[u8]) -> Begun
     ensures { λ r. ⌜ Begins (now (bytes .entry)) (now (out .entry)) (now (out .exit)) r ⌝ }
 {
@@ -53,34 +111,21 @@ pub fn begin(out: &mut [u8], bytes: &[u8]) -> Begun
     let initial = plan.automaton.initial;
     let progress = opening::at_first([Specified(0); 16], initial);
     let verdict = judged.verdict;
-    match verdict {
-        Verdict::Accepted => {
-            let next = put_header(out, 0);
-            return Begun {
-                next,
-                closed: false,
-                plan,
-                progress,
-            };
-        }
-        Verdict::Refused(f, place) => {
-            let number = faults::number_of(f);
-            let next = put_refused(out, 0, number, place as u64);
-            return Begun {
-                next,
-                closed: true,
-                plan,
-                progress,
-            };
-        }
+    let closed = is_refused(verdict);
+    let put = first_line(out, verdict);
+    Begun {
+        put,
+        closed,
+        plan,
+        progress,
     }
 }
 
 // "input that ends inside the length or the plan gives 1, place = the plan bytes present"
-pub fn cut(out: &mut [u8], present: u64) -> usize
-    ensures { λ r. ⌜ OneLine (now (out .entry)) (refused (numberOf Fault.Ends) present) (now (out .exit)) r ⌝ }
+pub fn cut(out: &mut [u8], present: u64) -> Put
+    ensures { λ r. ⌜ Lends (now (out .entry)) 0 (refused (numberOf Fault.Ends) present) (now (out .exit)) r ⌝ }
 {
-    put_refused(out, 0, 1, present)
+    refused_line(out, 1, present)
 }
 
 fn is_waiting(next: Next) -> bool

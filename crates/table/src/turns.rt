@@ -1,6 +1,8 @@
 // One turn of the table: the rows of one position, or the text that closes it.
+use crate::Drafted;
 use crate::Heard;
 use crate::Turned;
+use crate::lent::lend;
 use automaton::Chosen;
 use automaton::Next;
 use automaton::chosen_of;
@@ -26,8 +28,8 @@ ghost use Rattle.plan.specs.Plan.{nodesOf};
 ghost use Rattle.automaton.specs.Next.{chosenOf};
 ghost use Rattle.path.specs.Path.{entriesFrom};
 ghost use Rattle.lines.specs.Lines.{rows, waiting};
-ghost use Rattle.table.specs.Turn.{closes, takes, chooses, hears, turnOf};
-ghost use Rattle.table.specs.Answers.{Turns, Follows, Turnable, Takeable};
+ghost use Rattle.table.specs.Turn.{closes, takes, chooses, hears, turnOf, Open};
+ghost use Rattle.table.specs.Answers.{Drafts, Turns, Turnable, Takeable};
 
 fn wide(x: u8) -> usize
     ensures { λ r. ⌜ r ≡ x ⌝ }
@@ -79,9 +81,9 @@ fn put_rows(
 }
 
 // Transition t; "44, place = the position, whose rows are left out".
-fn take(out: &mut [u8], at: usize, plan: Plan, progress: Progress, heard: bool, t: u16) -> Turned
+fn take(out: &mut [u8], at: usize, plan: Plan, progress: Progress, heard: bool, t: u16) -> Drafted
     requires { ⌜ Takeable plan progress at t ⌝ }
-    ensures { λ r. ⌜ Turns (now (out .entry)) at (takes plan progress heard t) (now (out .exit)) r ⌝ }
+    ensures { λ r. ⌜ Drafts (now (out .entry)) at (takes plan progress heard t) (now (out .exit)) r ⌝ }
 {
     let i = long(t);
     let automaton = plan.automaton;
@@ -92,7 +94,7 @@ fn take(out: &mut [u8], at: usize, plan: Plan, progress: Progress, heard: bool, 
     let advanced = advance(plan.resources, activity, input, m.to, progress);
     if advanced.beyond {
         let next = put_refused(out, at, 44, progress.position as u64);
-        return Turned {
+        return Drafted {
             next,
             closed: true,
             heard: false,
@@ -103,7 +105,7 @@ fn take(out: &mut [u8], at: usize, plan: Plan, progress: Progress, heard: bool, 
     let times = advanced.schedule;
     let number = activity_number(output);
     let next = put_rows(out, at, progress.position, number, times, activity);
-    Turned {
+    Drafted {
         next,
         closed: false,
         heard,
@@ -112,12 +114,12 @@ fn take(out: &mut [u8], at: usize, plan: Plan, progress: Progress, heard: bool, 
 }
 
 // The table ends in waiting for event e.
-fn wait(out: &mut [u8], at: usize, plan: Plan, progress: Progress, e: u8) -> Turned
+fn wait(out: &mut [u8], at: usize, plan: Plan, progress: Progress, e: u8) -> Drafted
     requires { ⌜ Turnable plan progress at ⌝ }
-    ensures { λ r. ⌜ Turns (now (out .entry)) at (closes progress (waiting plan progress e)) (now (out .exit)) r ⌝ }
+    ensures { λ r. ⌜ Drafts (now (out .entry)) at (closes progress (waiting plan progress e)) (now (out .exit)) r ⌝ }
 {
     let next = put_waiting(out, at, plan, progress, e);
-    Turned {
+    Drafted {
         next,
         closed: true,
         heard: false,
@@ -126,9 +128,9 @@ fn wait(out: &mut [u8], at: usize, plan: Plan, progress: Progress, e: u8) -> Tur
 }
 
 // The transition of outcome o of event e, if the state has one.
-fn choose(out: &mut [u8], at: usize, plan: Plan, progress: Progress, e: u8, o: u8) -> Turned
+fn choose(out: &mut [u8], at: usize, plan: Plan, progress: Progress, e: u8, o: u8) -> Drafted
     requires { ⌜ Turnable plan progress at ⌝ }
-    ensures { λ r. ⌜ Turns (now (out .entry)) at (chooses plan progress e (chosenOf (plan .automaton) (progress .state) e o)) (now (out .exit)) r ⌝ }
+    ensures { λ r. ⌜ Drafts (now (out .entry)) at (chooses plan progress e (chosenOf (plan .automaton) (progress .state) e o)) (now (out .exit)) r ⌝ }
 {
     let automaton = plan.automaton;
     let chosen = chosen_of(automaton, progress.state, e, o);
@@ -151,10 +153,10 @@ fn judge_outcome(
     e: u8,
     read: u32,
     o: u8,
-) -> Turned
+) -> Drafted
     requires { ⌜ Turnable plan progress at ⌝ }
     requires { ⌜ e < 16 ⌝ }
-    ensures { λ r. ⌜ Turns (now (out .entry)) at (hears plan progress e read (Heard.Outcome o)) (now (out .exit)) r ⌝ }
+    ensures { λ r. ⌜ Drafts (now (out .entry)) at (hears plan progress e read (Heard.Outcome o)) (now (out .exit)) r ⌝ }
 {
     let i = wide(e);
     let outcomes = plan.outcomes;
@@ -162,7 +164,7 @@ fn judge_outcome(
         return choose(out, at, plan, progress, e, o);
     }
     let next = put_refused(out, at, 55, read as u64);
-    Turned {
+    Drafted {
         next,
         closed: true,
         heard: false,
@@ -179,10 +181,10 @@ fn hear(
     e: u8,
     read: u32,
     heard: Heard,
-) -> Turned
+) -> Drafted
     requires { ⌜ Turnable plan progress at ⌝ }
     requires { ⌜ e < 16 ⌝ }
-    ensures { λ r. ⌜ Turns (now (out .entry)) at (hears plan progress e read heard) (now (out .exit)) r ⌝ }
+    ensures { λ r. ⌜ Drafts (now (out .entry)) at (hears plan progress e read heard) (now (out .exit)) r ⌝ }
 {
     match heard {
         Heard::Nothing => {
@@ -202,16 +204,16 @@ fn turn_by(
     progress: Progress,
     read: u32,
     heard: Heard,
-) -> Turned
+) -> Drafted
     requires { ⌜ Turnable plan progress at ⌝ }
-    ensures { λ r. ⌜ Turns (now (out .entry)) at (turnOf plan progress read heard) (now (out .exit)) r ⌝ }
+    ensures { λ r. ⌜ Drafts (now (out .entry)) at (turnOf plan progress read heard) (now (out .exit)) r ⌝ }
 {
     let automaton = plan.automaton;
     let next = next_of(automaton, progress.state);
     match next {
         Next::Ended => {
             let past = put_ended(out, at, plan, progress);
-            return Turned {
+            return Drafted {
                 next: past,
                 closed: true,
                 heard: false,
@@ -227,7 +229,7 @@ fn turn_by(
     }
 }
 
-// One turn: the outcome byte is taken only where one is asked for.
+// One turn, with its text from `at` on: the outcome byte is taken only where one is asked for.
 pub fn turn(
     out: &mut [u8],
     at: usize,
@@ -236,8 +238,17 @@ pub fn turn(
     read: u32,
     heard: Heard,
 ) -> Turned
-    requires { ⌜ Turnable plan progress at ⌝ }
-    ensures { λ r. ⌜ Turns (now (out .entry)) at (turnOf plan progress read heard) (now (out .exit)) r × Follows plan at r ⌝ }
+    requires { ⌜ Open plan progress ⌝ }
+    ensures { λ r. ⌜ Turns plan (now (out .entry)) at (turnOf plan progress read heard) (now (out .exit)) r ⌝ }
 {
-    turn_by(out, at, plan, progress, read, heard)
+    let mut text = [0u8; 4096];
+    let drafted = turn_by(&mut text, 0, plan, progress, read, heard);
+    let put = lend(out, at, &text, drafted.next);
+    let after = drafted.progress;
+    Turned {
+        put,
+        closed: drafted.closed,
+        heard: drafted.heard,
+        progress: after,
+    }
 }

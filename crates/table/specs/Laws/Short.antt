@@ -1,4 +1,4 @@
--- How long the text of a turn is, at most: 64 rows. Assumes nothing.
+-- How long the first line and the text of a turn are, at most: 50 bytes, and 64 rows. Assumes nothing.
 use mathlib.Core.Path.{_≡_, refl, ap}
 use mathlib.Core.Bool.{Bool, true, false, cond}
 use mathlib.Core.List.{List, [], _∷_, _++_}
@@ -9,6 +9,8 @@ use lib.ListN.{length, length-append}
 use Rattle.lists.specs.Parts.{length-part}
 use Rattle.plan.specs.Plan.{outcomesOf, emittedBy, move, pastNode}
 use Rattle.plan.specs.Limits.{InLimits, OutputNames}
+use Rattle.plan.specs.Fault.{numberOf}
+use Rattle.plan.specs.declared.Verdict.{Verdict}
 use Rattle.plan.specs.declared.Node.{Node}
 use Rattle.plan.specs.declared.Output.{Output}
 use Rattle.plan.specs.declared.Plan.{Plan}
@@ -23,9 +25,9 @@ use Rattle.path.specs.Inner.{emittedOf}
 use Rattle.path.specs.Laws.Emitting.{emitted-nodes, emitted-fits}
 use Rattle.path.specs.Laws.Stepping.{next-leads}
 use Rattle.lines.specs.Lines.{row, rows, ended, waiting, refused}
-use Rattle.lines.specs.Laws.{row-within, ended-length, waiting-length, refused-length}
+use Rattle.lines.specs.Laws.{header-length, row-within, ended-length, waiting-length, refused-length}
 use Rattle.table.specs.declared.Heard.{Heard}
-use Rattle.table.specs.Turn.{closes, takes, chooses, hears, turnBy, turnOf, Open}
+use Rattle.table.specs.Turn.{closes, takes, chooses, hears, turnBy, turnOf, firstText, Open}
 use Rattle.table.specs.Laws.InLimits.{chosen-below}
 
 -- ---- rows
@@ -45,6 +47,12 @@ rows-within position a s n (x ∷ xs) p h k =
 number-small : (p : Plan) → InLimits p → (o : Output) → OutputNames p o → activityNumber o < 256
 number-small p h Output.Empty l = omega arith
 number-small p h (Output.Activity a) l = let u = h .activities in omega arith
+
+-- ---- the first line
+
+pub first-short : (v : Verdict) → length (firstText v) ≤ 50
+first-short Verdict.Accepted = let u = header-length in omega arith
+first-short (Verdict.Refused f place) = refused-length (numberOf f) place
 
 -- ---- a turn
 

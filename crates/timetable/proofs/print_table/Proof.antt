@@ -1,5 +1,12 @@
--- `print_table` is safe: an accepted plan's table is open. Assumes nothing.
+-- `print_table` meets its contract: an accepted plan's table is open. Assumes nothing.
+use mathlib.Core.Path.{_≡_, refl, sym, _∙_}
 use native.Mathlib.Omega.{arith}
+use mathlib.Core.Bool.{false}
+use denote.Ref.{now}
+use Rattle.judge.specs.Judge.{judgeOf}
+use Rattle.table.specs.Turn.{firstText}
+use Rattle.table.specs.Laws.Short.{first-short}
+use Rattle.timetable.proofs.Printing.{gathers-first, printed-refused, printed-all}
 use borrow.Author.Needs.{needs}
 use Rattle.timetable.proofs.print_table.Statement.{statement}
 use Rattle.timetable.proofs.print_table.Tie as tie
@@ -13,32 +20,62 @@ slice-aggregate-begin c = search needs
 begin-requires : tie.Need-begin-requires
 begin-requires c κs = search needs
 
+past-requires : tie.Need-past-requires
+past-requires c κs = search needs
+
 slice-aggregate-hand-on : tie.Need-slice-aggregate-hand-on
 slice-aggregate-hand-on c = search needs
 
 hand-on-requires : tie.Need-hand-on-requires
-hand-on-requires c κs = search needs
+hand-on-requires c κs =
+    let v = judgeOf (now (c .before .before .before .before .before .before .before .before .args .bytes)) .verdict in
+    let u = first-short v in
+    let b = c .before .before .before .before .before .before .large-buffer .ensures in
+    let k = c .before .before .before .before .begin in
+    let g = gathers-first _ (firstText v) _ _ _ false (omega arith) (k .ensures .text) (c .before .before .past .ensures) in
+    let w = g .whole in
+    (omega (arith, k .kept .0), omega arith)
 
 returns : tie.Need-returns
-returns c = search needs
+returns c =
+    let v = judgeOf (now (c .before .before .before .before .before .before .before .before .before .args .bytes)) .verdict in
+    let u = first-short v in
+    let b = c .before .before .before .before .before .before .before .large-buffer .ensures in
+    let k = c .before .before .before .before .before .begin in
+    let g = gathers-first _ (firstText v) _ _ _ false (omega arith) (k .ensures .text) (c .before .before .before .past .ensures) in
+    let w = g .whole in
+    printed-refused _ _ (sym (k .ensures .closed) ∙ c .before .before .if1 .taken) (omega (arith, c .hand-on .ensures .0 .count, c .hand-on .ensures .1))
 
 slice-aggregate-all-turns : tie.Need-slice-aggregate-all-turns
 slice-aggregate-all-turns c = search needs
 
 all-turns-requires : tie.Need-all-turns-requires
 all-turns-requires c κs =
-    let g = c .before .before .before .before .before .begin .ensures in (
+    let v = judgeOf (now (c .before .before .before .before .before .before .before .before .before .before .args .bytes)) .verdict in
+    let u = first-short v in
+    let b = c .before .before .before .before .before .before .before .before .large-buffer .ensures in
+    let k = c .before .before .before .before .before .before .begin in
+    let g = gathers-first _ (firstText v) _ _ _ false (omega arith) (k .ensures .text) (c .before .before .before .before .past .ensures) in
+    let w = g .whole in (
       search needs,
       record {
-        fits = omega (arith, g .few);
-        room = λ k. omega (arith, g .few);
-        within = λ k. g .stays (c .before .before .before .if1 .left);
+        fits = omega arith;
+        room = λ m. omega arith;
+        within = λ m. k .ensures .stays (c .before .before .before .if1 .left);
+        went = λ m. refl;
         turns = omega arith;
+        few = omega arith;
       },
     )
 
 returns-2 : tie.Need-returns-2
-returns-2 c = search needs
+returns-2 c =
+    let v = judgeOf (now (c .before .before .before .before .before .before .before .before .before .before .before .before .args .bytes)) .verdict in
+    let u = first-short v in
+    let b = c .before .before .before .before .before .before .before .before .before .before .large-buffer .ensures in
+    let k = c .before .before .before .before .before .before .before .before .begin in
+    let g = gathers-first _ (firstText v) _ _ _ false (omega arith) (k .ensures .text) (c .before .before .before .before .before .before .past .ensures) in
+    printed-all _ _ (k .result .plan) _ _ (sym (k .ensures .closed) ∙ c .before .before .before .before .before .if1 .left) (k .ensures .plan) (k .ensures .progress) refl refl g (c .before .all-turns .ensures)
 
 pub print-table-spec : {M : Type 1} → statement M
 print-table-spec =
@@ -47,6 +84,7 @@ print-table-spec =
     large-buffer-requires
     slice-aggregate-begin
     begin-requires
+    past-requires
     slice-aggregate-hand-on
     hand-on-requires
     returns
