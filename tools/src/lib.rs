@@ -12,3 +12,6 @@ pub mod proved;
 pub mod table;
 pub mod text;
 pub mod toggles;
+
+#[cfg(test)]
+mod tests;

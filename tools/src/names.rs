@@ -63,7 +63,7 @@ impl Names {
     /// is given to something else gets underscores in front until it is unlike.
     pub fn completed(&self, plan: &Plan) -> Names {
         let mut names = Names::default();
-        for (space, count) in spaces(plan) {
+        for (space, count) in spaces(plan).into_iter().filter(|(_, count)| *count > 0) {
             let given = self.list(space);
             let mut list: Vec<String> = given.iter().take(count).cloned().collect();
             for number in list.len()..count {

@@ -12,7 +12,7 @@ enum Cause {
     Node(usize, u8),
 }
 
-/// Actions and events by position on a path and node, each after the one before, the first after the resource.
+/// Nodes by position on a path and number, each right after the one before; the first is a claim of the resource.
 #[derive(Clone, Debug, PartialEq, Eq)]
 pub struct Chain {
     path: Vec<usize>,
@@ -28,7 +28,7 @@ struct Search {
     /// When each resource is available, and the last completion of each event.
     available: Vec<Ready>,
     last: Vec<Option<Ready>>,
-    /// The causes of the starts of the actions and events passed, by position and node.
+    /// The starts of the nodes passed, by position and node, with their causes.
     starts: Vec<((usize, u8), Ready)>,
 }
 
@@ -86,11 +86,8 @@ impl Search {
                     _ => {}
                 }
                 let Some(&(start, cause)) = before.iter().max_by_key(|ready| ready.0) else { continue };
-                ends[n] = Some((start, cause));
-                if node.is_executed() {
-                    self.starts.push(((position, n as u8), (start, cause)));
-                    ends[n] = Some((start + node.duration as u64, Cause::Node(position, n as u8)));
-                }
+                self.starts.push(((position, n as u8), (start, cause)));
+                ends[n] = Some((start + node.duration as u64, Cause::Node(position, n as u8)));
             }
         }
         for (node, end) in nodes.iter().zip(ends) {
@@ -124,7 +121,7 @@ pub fn holds(plan: &Plan, availabilities: &[u64], chain: &Chain) -> bool {
     let sum: u64 = chain.nodes.iter().map(|&at| duration(plan, &chain.path, at)).sum();
     is_path(plan, &chain.path)
         && availabilities.get(chain.resource as usize) == Some(&chain.available)
-        && claimed(plan, &chain.path, chain.resource, None, first)
+        && is_next_claim(plan, &chain.path, chain.resource, 0, first)
         && arrows
         && chain.available + sum > HORIZON
 }
@@ -133,36 +130,26 @@ fn duration(plan: &Plan, path: &[usize], (position, node): (usize, u8)) -> u64 {
     nodes_at(plan, path, position)[node as usize].duration as u64
 }
 
-fn find_kind(plan: &Plan, path: &[usize], position: usize, kind: Kind) -> Option<u8> {
-    (0..).zip(nodes_at(plan, path, position)).find(|(_, node)| node.kind == kind).map(|(n, _)| n)
-}
-
-/// Whether the node comes right after a claim of the resource, which nothing has held since a position (None: ever)
-/// but activities that release it at once.
-fn claimed(plan: &Plan, path: &[usize], resource: u8, since: Option<usize>, (at, node): (usize, u8)) -> bool {
-    let claim = find_kind(plan, path, at, Kind::Claim(resource));
-    let follows = claim.is_some_and(|c| nodes_at(plan, path, at)[node as usize].predecessors.contains(&c));
-    let is_passed = |between: usize| {
-        let nodes = nodes_at(plan, path, between);
-        let held = find_kind(plan, path, between, Kind::Claim(resource));
-        let released = find_kind(plan, path, between, Kind::Release(resource));
-        held.is_none_or(|c| released.is_some_and(|r| nodes[r as usize].predecessors.contains(&c)))
+/// Whether the node is a claim of the resource, and no position from `since` on names it before.
+fn is_next_claim(plan: &Plan, path: &[usize], resource: u8, since: usize, (at, node): (usize, u8)) -> bool {
+    let names = |position: usize| {
+        nodes_at(plan, path, position).iter().any(|node| node.kind == Kind::Claim(resource))
     };
-    follows && (since.map_or(0, |since| since + 1)..at).all(is_passed)
+    let is_claim = nodes_at(plan, path, at)[node as usize].kind == Kind::Claim(resource);
+    is_claim && since <= at && !(since..at).any(names)
 }
 
+/// Inside an activity by its arrow; from a release to the next claim; from an event to a later node of it.
 fn has_arrow(plan: &Plan, path: &[usize], one: (usize, u8), other: (usize, u8)) -> bool {
     let node = |(position, n): (usize, u8)| &nodes_at(plan, path, position)[n as usize];
     if one.0 == other.0 {
         return node(other).predecessors.contains(&one.1);
     }
-    let joined = |resource: u8| {
-        let release = find_kind(plan, path, one.0, Kind::Release(resource));
-        let precedes = release.is_some_and(|r| node((one.0, r)).predecessors.contains(&one.1));
-        precedes && claimed(plan, path, resource, Some(one.0), other)
-    };
-    let same_event = matches!(node(one).kind, Kind::Event(_)) && node(one).kind == node(other).kind;
-    one.0 < other.0 && (same_event || (0..plan.resources).any(joined))
+    match node(one).kind {
+        Kind::Release(resource) => is_next_claim(plan, path, resource, one.0 + 1, other),
+        Kind::Event(_) => one.0 < other.0 && node(one).kind == node(other).kind,
+        _ => false,
+    }
 }
 
 impl Chain {
@@ -173,7 +160,8 @@ impl Chain {
             let name = names.of(Space::Node(activity), node as usize);
             format!("{} {name} for {lasts}", names.of(Space::Activity, activity as usize))
         };
-        let nodes: Vec<String> = self.nodes.iter().map(node).collect();
+        let lasting = self.nodes.iter().filter(|&&at| duration(plan, &self.path, at) > 0);
+        let nodes: Vec<String> = lasting.map(node).collect();
         let resource = names.of(Space::Resource, self.resource as usize);
         let start = format!("{resource} is available at {}", self.available);
         format!("{start}; after it, one after the other: {}: above {HORIZON}", nodes.join(", "))

@@ -111,7 +111,7 @@ impl<'a> Teller<'a> {
         }
         let rows = self.rows;
         let row_of = |node: u8| (first..self.next).find(|&row| rows[row].node == node);
-        let mut arrows = Vec::new();
+        let (mut arrows, mut freed) = (Vec::new(), Vec::new());
         for to in first..self.next {
             for &p in &nodes[rows[to].node as usize].predecessors {
                 match nodes[p as usize].kind {
@@ -125,11 +125,14 @@ impl<'a> Teller<'a> {
         }
         for node in nodes {
             let Kind::Release(resource) = node.kind else { continue };
-            let users = node.predecessors.iter().filter_map(|&p| row_of(p));
-            if let Some(user) = users.max_by_key(|&row| rows[row].end) {
-                self.users[resource as usize] = Some(user);
-            }
+            let user = |&p: &u8| match nodes[p as usize].kind {
+                Kind::Claim(other) => self.users[other as usize],
+                _ => row_of(p),
+            };
+            let users = node.predecessors.iter().filter_map(user);
+            freed.push((resource, users.max_by_key(|&row| rows[row].end)));
         }
+        freed.into_iter().for_each(|(resource, user)| self.users[resource as usize] = user);
         self.arrows.extend(arrows);
         self.emit(first, nodes);
     }

@@ -17,6 +17,7 @@ const HEADING: f64 = 22.0;
 const LABEL_ROW: f64 = 15.0;
 const MOST_LABEL_ROWS: usize = 6;
 const MARGIN: f64 = 12.0;
+const AXIS: &str = "microseconds";
 
 struct Picture<'a> {
     plan: &'a Plan,
@@ -28,6 +29,8 @@ struct Picture<'a> {
     tops: Vec<f64>,
     /// The row of each outcome's label.
     labels: Vec<Option<usize>>,
+    /// The right edge of the lanes.
+    right: f64,
 }
 
 /// Writes the picture of a story.
@@ -49,15 +52,18 @@ impl<'a> Picture<'a> {
     fn new(plan: &'a Plan, names: &'a Names, story: &'a Story) -> Picture<'a> {
         let lanes = Lanes::of(plan);
         let labels = (0..lanes.list.len()).map(|lane| room(&lanes.name(lane, names)));
-        let left = labels.fold(60.0, f64::max) + 3.0 * MARGIN;
+        let left = labels.fold(room(AXIS), f64::max) + 3.0 * MARGIN;
         let scale = Scale::of(story, names, left);
-        let mut picture = Picture { plan, names, story, lanes, scale, tops: vec![], labels: vec![] };
+        let mut picture =
+            Picture { plan, names, story, lanes, scale, tops: vec![], labels: vec![], right: 0.0 };
         let spans: Vec<(f64, f64)> = story
             .held
             .iter()
             .map(|held| (picture.scale.x(held.at), room(&picture.label(held.event, held.outcome))))
             .collect();
         picture.labels = stacked(&spans, MOST_LABEL_ROWS);
+        let last = picture.scale.x(picture.scale.latest) + room("00000000");
+        picture.right = spans.iter().map(|(x, room)| x + room).fold(last, f64::max);
         let label_rows = picture.labels.iter().flatten().max().map_or(0, |row| row + 1);
         let mut top = 2.0 * LABEL_ROW + label_rows as f64 * LABEL_ROW + MARGIN;
         for lane in 0..picture.lanes.list.len() {
@@ -83,10 +89,9 @@ impl<'a> Picture<'a> {
 
     /// The size, the lanes with their names, and the axis.
     fn frame(&self, out: &mut impl Write) -> Result<()> {
-        let past_labels =
-            self.story.held.iter().map(|h| self.scale.x(h.at) + room(&self.label(h.event, h.outcome)));
-        let right = past_labels.fold(self.scale.x(self.scale.latest) + room("00000000"), f64::max);
-        let (width, height) = (right + MARGIN, self.bottom() + 4.0 * LABEL_ROW);
+        let legend_rows = self.legend_places().last().map_or(0, |(row, _)| row + 1);
+        let (right, rows) = (self.right, legend_rows as f64 + 2.5);
+        let (width, height) = (right + MARGIN, self.bottom() + rows * LABEL_ROW);
         writeln!(
             out,
             "<svg xmlns=\"http://www.w3.org/2000/svg\" width=\"{width:.0}\" height=\"{height:.0}\" viewBox=\"0 0 {width:.0} {height:.0}\" font-family=\"DejaVu Sans Mono, monospace\" font-size=\"11\">"
@@ -115,7 +120,7 @@ impl<'a> Picture<'a> {
 
     fn axis(&self, out: &mut impl Write) -> Result<()> {
         let (top, bottom) = (self.top(), self.bottom());
-        writeln!(out, "<text x=\"{MARGIN}\" y=\"{LABEL_ROW}\" fill=\"#555\">microseconds</text>")?;
+        writeln!(out, "<text x=\"{MARGIN}\" y=\"{LABEL_ROW}\" fill=\"#555\">{AXIS}</text>")?;
         for time in self.scale.marks() {
             let x = self.scale.x(time);
             writeln!(
@@ -190,22 +195,45 @@ impl<'a> Picture<'a> {
         if y == to_y && to_x - x < 8.0 {
             return Ok(());
         }
-        let bend = ((to_x - x) / 2.0).clamp(10.0, 40.0);
-        let way =
-            format!("M{x:.1} {y:.1}C{:.1} {y:.1} {:.1} {to_y:.1} {to_x:.1} {to_y:.1}", x + bend, to_x - bend);
+        let way = match to_x - x < 20.0 {
+            // One begins where the other ends: from edge to edge, straight.
+            true => {
+                let edge = if y < to_y { BAR / 2.0 } else { -BAR / 2.0 };
+                format!("M{:.1} {:.1}L{:.1} {:.1}", x - 5.0, y + edge, to_x + 5.0, to_y - edge)
+            }
+            false => {
+                let bend = ((to_x - x) / 2.0).min(40.0);
+                let (one, other) = (x + bend, to_x - bend);
+                format!("M{x:.1} {y:.1}C{one:.1} {y:.1} {other:.1} {to_y:.1} {to_x:.1} {to_y:.1}")
+            }
+        };
         writeln!(out, "<path class=\"arrow\" d=\"{way}\" fill=\"none\" stroke=\"#333\"{dash} marker-end=\"url(#head)\"/>")
+    }
+
+    /// The row and the left edge of each activity in the legend.
+    fn legend_places(&self) -> Vec<(usize, f64)> {
+        let (mut row, mut x) = (0, MARGIN);
+        let mut place = |activity: usize| {
+            let wide = room(&self.names.of(Space::Activity, activity)) + 30.0;
+            if x > MARGIN && x + wide > self.right {
+                (row, x) = (row + 1, MARGIN);
+            }
+            x += wide;
+            (row, x - wide)
+        };
+        (0..self.plan.activities.len()).map(&mut place).collect()
     }
 
     /// Which colour is which activity, and how the table ends.
     fn legend(&self, out: &mut impl Write) -> Result<()> {
-        let y = self.bottom() + 1.5 * LABEL_ROW;
-        let mut x = MARGIN;
-        for activity in 0..self.plan.activities.len() {
-            let name = self.names.of(Space::Activity, activity);
+        let mut y = self.bottom();
+        for (activity, (row, x)) in self.legend_places().into_iter().enumerate() {
+            y = self.bottom() + (row as f64 + 1.3) * LABEL_ROW;
+            let name = escaped(&self.names.of(Space::Activity, activity));
             let colour = COLOURS[activity % COLOURS.len()];
-            writeln!(out, "<rect x=\"{x:.1}\" y=\"{:.1}\" width=\"10\" height=\"10\" fill=\"{colour}\" stroke=\"#444\"/>", y - 9.0)?;
-            writeln!(out, "<text x=\"{:.1}\" y=\"{y:.1}\">{}</text>", x + 14.0, escaped(&name))?;
-            x += room(&name) + 30.0;
+            let top = y - 9.0;
+            writeln!(out, "<rect x=\"{x:.1}\" y=\"{top:.1}\" width=\"10\" height=\"10\" fill=\"{colour}\" stroke=\"#444\"/>")?;
+            writeln!(out, "<text x=\"{:.1}\" y=\"{y:.1}\">{name}</text>", x + 14.0)?;
         }
         let state = |state: u8| escaped(&self.names.of(Space::State, state as usize));
         let end = match self.story.closing.end {
