@@ -14,9 +14,11 @@ pub const LONGEST_WORD: usize = 127;
 /// A count of as many never falls to 0 within a longest word, so that larger ones need not be told apart.
 const MANY: usize = LONGEST_WORD + 1;
 
+/// Of words as short the one that asks too early: a step processes before anything can be left.
 pub fn find(plan: &Plan, number: u8) -> Option<Finding> {
     let words = (0..plan.events.len() as u8).filter_map(|event| Search::new(plan, event, number).word());
-    let (mut transitions, event, end) = words.min_by_key(|(transitions, ..)| transitions.len())?;
+    let (mut transitions, event, end) =
+        words.min_by_key(|(transitions, _, end)| (transitions.len(), *end != Pending::Unsensed))?;
     if broken(Broken::WordOneShort) {
         transitions.pop();
     }

@@ -101,7 +101,7 @@ pub fn round_trip(seed: u64, cases: usize) -> Result<(), String> {
 #[test]
 fn the_text_of_t() {
     let plan = read(&jidlekuvo_reference::generate::plan_t()).unwrap();
-    let expected = include_str!("../../../examples/course/T.plan");
+    let expected = include_str!("../../../examples/course/3-right.plan");
     assert_eq!(print(&plan, &Names::default()), expected);
     assert_eq!(parse(expected).unwrap().plan, plan);
 }
