@@ -37,9 +37,11 @@ struct Picture<'a> {
 pub fn svg(plan: &Plan, names: &Names, story: &Story, out: &mut impl Write) -> Result<()> {
     let picture = Picture::new(plan, names, story);
     picture.frame(out)?;
-    picture.held(out)?;
+    // Arrows and lines go over the bars, and the texts over all.
     story.rows.iter().try_for_each(|row| picture.bar(row, out))?;
+    picture.held(out)?;
     story.arrows.iter().try_for_each(|arrow| picture.arrow(arrow, out))?;
+    story.rows.iter().try_for_each(|row| picture.texts(row, out))?;
     picture.legend(out)?;
     writeln!(out, "</svg>")
 }
@@ -63,7 +65,7 @@ impl<'a> Picture<'a> {
             .collect();
         picture.labels = stacked(&spans, MOST_LABEL_ROWS);
         let last = picture.scale.x(picture.scale.latest) + room("00000000");
-        picture.right = spans.iter().map(|(x, room)| x + room).fold(last, f64::max);
+        picture.right = spans.iter().map(|(x, room)| x + room + 4.0).fold(last, f64::max);
         let label_rows = picture.labels.iter().flatten().max().map_or(0, |row| row + 1);
         let mut top = 2.0 * LABEL_ROW + label_rows as f64 * LABEL_ROW + MARGIN;
         for lane in 0..picture.lanes.list.len() {
@@ -163,24 +165,45 @@ impl<'a> Picture<'a> {
         self.tops[lane.min(self.tops.len() - 1)] + LANE / 2.0
     }
 
+    /// The left edge and the width of a row's bar.
+    fn span(&self, row: &Row) -> (f64, f64) {
+        let x = self.scale.x(row.start);
+        (x, (self.scale.x(row.end) - x).max(2.0))
+    }
+
+    fn colour(&self, activity: usize) -> &'static str {
+        COLOURS[activity % COLOURS.len()]
+    }
+
+    fn node(&self, row: &Row) -> String {
+        escaped(&self.names.of(Space::Node(row.activity), row.node as usize))
+    }
+
     fn bar(&self, row: &Row, out: &mut impl Write) -> Result<()> {
-        let (x, wide) = (self.scale.x(row.start), (self.scale.x(row.end) - self.scale.x(row.start)).max(2.0));
-        let middle = self.middle(row);
-        let colour = COLOURS[row.activity as usize % COLOURS.len()];
-        let name = escaped(&self.names.of(Space::Node(row.activity), row.node as usize));
+        let ((x, wide), y) = (self.span(row), self.middle(row) - BAR / 2.0);
+        let (colour, name) = (self.colour(row.activity as usize), self.node(row));
         let activity = escaped(&self.names.of(Space::Activity, row.activity as usize));
-        let times = format!("{}-{}", row.start, row.end);
-        let y = middle - BAR / 2.0;
-        write!(out, "<rect class=\"bar\" x=\"{x:.1}\" y=\"{y:.1}\" width=\"{wide:.1}\" height=\"{BAR}\" rx=\"3\" fill=\"{colour}\" stroke=\"#444\">")?;
-        writeln!(
+        write!(
             out,
-            "<title>position {}, {activity}, {name}: {} to {}</title></rect>",
-            row.position, row.start, row.end
+            "<rect class=\"bar\" x=\"{x:.1}\" y=\"{y:.1}\" width=\"{wide:.1}\" height=\"{BAR}\" rx=\"3\""
         )?;
-        for (text, below) in [(&name, -3.0), (&times, 10.0)] {
+        write!(
+            out,
+            " fill=\"{colour}\" stroke=\"#444\"><title>position {}, {activity}, {name}:",
+            row.position
+        )?;
+        writeln!(out, " {} to {}</title></rect>", row.start, row.end)
+    }
+
+    /// The name and the times of a bar, each where it fits. What does not fit is in the bar's title.
+    fn texts(&self, row: &Row, out: &mut impl Write) -> Result<()> {
+        let ((x, wide), middle) = (self.span(row), self.middle(row));
+        let (colour, times) = (self.colour(row.activity as usize), format!("{}-{}", row.start, row.end));
+        for (text, below) in [(&self.node(row), -3.0), (&times, 10.0)] {
             if room(text) + 4.0 <= wide {
                 let (x, y) = (x + wide / 2.0, middle + below);
-                writeln!(out, "<text x=\"{x:.1}\" y=\"{y:.1}\" text-anchor=\"middle\">{text}</text>")?;
+                write!(out, "<text x=\"{x:.1}\" y=\"{y:.1}\" text-anchor=\"middle\" paint-order=\"stroke\"")?;
+                writeln!(out, " stroke=\"{colour}\" stroke-width=\"3\">{text}</text>")?;
             }
         }
         Ok(())
@@ -230,7 +253,7 @@ impl<'a> Picture<'a> {
         for (activity, (row, x)) in self.legend_places().into_iter().enumerate() {
             y = self.bottom() + (row as f64 + 1.3) * LABEL_ROW;
             let name = escaped(&self.names.of(Space::Activity, activity));
-            let colour = COLOURS[activity % COLOURS.len()];
+            let colour = self.colour(activity);
             let top = y - 9.0;
             writeln!(out, "<rect x=\"{x:.1}\" y=\"{top:.1}\" width=\"10\" height=\"10\" fill=\"{colour}\" stroke=\"#444\"/>")?;
             writeln!(out, "<text x=\"{:.1}\" y=\"{y:.1}\">{name}</text>", x + 14.0)?;
