@@ -68,7 +68,7 @@ impl Names {
             let mut list: Vec<String> = given.iter().take(count).cloned().collect();
             for number in list.len()..count {
                 let mut name = plain(space, number);
-                while list.contains(&name) {
+                while given.contains(&name) {
                     name.insert(0, '_');
                 }
                 list.push(name);

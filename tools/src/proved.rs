@@ -8,7 +8,7 @@ use std::io::{self, BufRead, BufReader, Read, Write};
 use std::process::{Command, Stdio};
 
 fn fault(word: u64) -> Option<Fault> {
-    (word != 0).then(|| Fault { number: (word >> 32) as u8, place: word & 0xFFFF_FFFF })
+    (word != 0).then_some(Fault { number: (word >> 32) as u8, place: word & 0xFFFF_FFFF })
 }
 
 /// Reading alone, 1 to 8.

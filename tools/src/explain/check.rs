@@ -37,67 +37,63 @@ fn all_before(nodes: &Activity, node: u8) -> Vec<u8> {
 fn of_activity(plan: &Plan, fault: Fault, finding: &Finding) -> bool {
     let Some(nodes) = plan.activities.get(fault.place as usize) else { return false };
     let kind = |n: u8| nodes[n as usize].kind;
-    let is_here = |activity: &u8| *activity as u64 == fault.place;
-    match finding {
-        Finding::Cycle { activity, nodes: cycle } => {
-            is_here(activity) && fault.number == 11 && !cycle.is_empty() && is_cycle(nodes, cycle)
-        }
-        Finding::Unordered { activity, one, other } => {
-            let is_apart =
-                !all_before(nodes, *one).contains(other) && !all_before(nodes, *other).contains(one);
-            let alike = match (kind(*one), kind(*other)) {
-                (Kind::Action { peripheral: a, .. }, Kind::Action { peripheral: b, .. }) => {
-                    fault.number == 12 && a == b
-                }
-                (Kind::Event(a), Kind::Event(b)) => fault.number == 18 && a == b,
-                _ => false,
-            };
-            is_here(activity) && one != other && alike && is_apart
-        }
+    let (number, is_here) = match finding {
+        Finding::Cycle { activity, nodes: cycle } => (if is_cycle(nodes, cycle) { 11 } else { 0 }, activity),
+        Finding::Unordered { activity, one, other } => (unordered(nodes, *one, *other), activity),
         Finding::Twice { activity, one, other } => {
             let is_held = matches!(kind(*one), Kind::Claim(_) | Kind::Release(_));
-            is_here(activity) && fault.number == 13 && one != other && is_held && kind(*one) == kind(*other)
+            (if is_held && one != other && kind(*one) == kind(*other) { 13 } else { 0 }, activity)
         }
         Finding::NoClaimBefore { activity, node, resource } => {
-            let claims = all_before(nodes, *node).into_iter().filter(|&n| kind(n) == Kind::Claim(*resource));
-            is_here(activity)
-                && needs(plan, fault.number, kind(*node), *resource, true)
-                && claims.count() == 0
+            let is_claimed = all_before(nodes, *node).iter().any(|&n| kind(n) == Kind::Claim(*resource));
+            (if is_claimed { 0 } else { needing(plan, kind(*node), *resource, true) }, activity)
         }
         Finding::NoReleaseAfter { activity, node, resource } => {
-            let releases = (0..nodes.len() as u8).filter(|&n| kind(n) == Kind::Release(*resource));
-            let after = releases.filter(|&release| all_before(nodes, release).contains(node));
-            is_here(activity)
-                && needs(plan, fault.number, kind(*node), *resource, false)
-                && after.count() == 0
+            let mut releases = (0..nodes.len() as u8).filter(|&n| kind(n) == Kind::Release(*resource));
+            let is_released = releases.any(|release| all_before(nodes, release).contains(node));
+            (if is_released { 0 } else { needing(plan, kind(*node), *resource, false) }, activity)
         }
         Finding::Arrow { activity, from, to } => {
             let is_bad = matches!(kind(*to), Kind::Claim(_)) || matches!(kind(*from), Kind::Release(_));
-            is_here(activity)
-                && fault.number == 16
-                && is_bad
-                && nodes[*to as usize].predecessors.contains(from)
+            let exists = nodes[*to as usize].predecessors.contains(from);
+            (if is_bad && exists { 16 } else { 0 }, activity)
         }
         Finding::NoPredecessor { activity, node } => {
-            let bare = nodes[*node as usize].predecessors.is_empty();
-            is_here(activity) && fault.number == 17 && matches!(kind(*node), Kind::Event(_)) && bare
+            let is_bare = nodes[*node as usize].predecessors.is_empty();
+            (if is_bare && matches!(kind(*node), Kind::Event(_)) { 17 } else { 0 }, activity)
         }
-        _ => false,
+        _ => return false,
+    };
+    fault == Fault::new(number, *is_here as usize)
+}
+
+/// The number that two unordered nodes give: 12 for actions on one peripheral, 18 for nodes of one event.
+fn unordered(nodes: &Activity, one: u8, other: u8) -> u8 {
+    if one == other || all_before(nodes, one).contains(&other) || all_before(nodes, other).contains(&one) {
+        return 0;
+    }
+    match (nodes[one as usize].kind, nodes[other as usize].kind) {
+        (Kind::Action { peripheral: a, .. }, Kind::Action { peripheral: b, .. }) if a == b => 12,
+        (Kind::Event(a), Kind::Event(b)) if a == b => 18,
+        _ => 0,
     }
 }
 
 fn is_cycle(nodes: &Activity, cycle: &[u8]) -> bool {
+    if cycle.is_empty() {
+        return false;
+    }
     let next = |at: usize| cycle[(at + 1) % cycle.len()];
     (0..cycle.len()).all(|at| nodes[next(at) as usize].predecessors.contains(&cycle[at]))
 }
 
-/// Whether a node of this kind needs a claim before it, or a release after it, of the resource.
-fn needs(plan: &Plan, number: u8, kind: Kind, resource: u8, claim: bool) -> bool {
+/// The number that a node of this kind gives without a claim before it, or a release after it, of the resource.
+fn needing(plan: &Plan, kind: Kind, resource: u8, claim: bool) -> u8 {
     match kind {
-        Kind::Action { peripheral, .. } => number == 14 && plan.peripherals[peripheral as usize] == resource,
-        Kind::Release(named) => number == 15 && claim && named == resource,
-        Kind::Claim(named) => number == 15 && !claim && named == resource,
-        Kind::Event(_) => false,
+        Kind::Action { peripheral, .. } if plan.peripherals[peripheral as usize] == resource => 14,
+        Kind::Release(named) if claim && named == resource => 15,
+        Kind::Claim(named) if !claim && named == resource => 15,
+        _ => 0,
     }
 }
 

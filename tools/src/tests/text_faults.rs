@@ -32,55 +32,58 @@ fn the_text_of_the_issue_is_good() {
     assert!(checked_bytes(GOOD).is_ok());
 }
 
+/// A line, what stands there instead, and the fault.
+#[rustfmt::skip]
+const FAULTS: &[(usize, &str, &str)] = &[
+    (1, "plan 2", "line 1, column 6: expected the version, 1, found '2'"),
+    (1, "plan", "line 1, column 5: expected the version, 1, found the end of the line"),
+    (1, "# none", "line 2, column 1: expected 'plan 1' as the first line, found none"),
+    (2, "resource", "line 2, column 9: expected a name for the resource (it begins with a letter), found the end of the line"),
+    (2, "resource 1st", "line 2, column 10: expected a name for the resource (it begins with a letter), found '1st'"),
+    (2, "resource head tail", "line 2, column 15: expected the end of the line, found 'tail'"),
+    (2, "plan 1", "line 2, column 1: expected one 'plan' line, found a second one"),
+    (3, "peripheral needle on haed", "line 3, column 22: expected a resource, found 'haed'; the nearest is 'head'"),
+    (3, "peripheral needle in head", "line 3, column 19: expected 'on', found 'in'"),
+    (4, "event thread whole, broken", "line 4, column 14: expected ':', found 'whole'"),
+    (4, "event thread: whole,", "line 4, column 21: expected a name for an outcome (it begins with a letter), found the end of the line"),
+    (4, "event thread: whole, whole", "line 4, column 22: expected a new name, found 'whole' a second time"),
+    (4, "event thread: a, b, c, d, e, f, g, h, i", "line 4, column 39: expected at most 8 outcomes of an event, found one more, 'i'"),
+    (4, "resource frame", "line 4, column 1: expected it before the first 'peripheral' line, found a 'resource' line"),
+    (5, "", "line 6, column 1: expected an 'activity' line before the first node, found a 'claim' line"),
+    (9, "activity trim", "line 10, column 1: expected a node of the activity, found a 'state' line"),
+    (6, "  c: claims head", "line 6, column 6: expected 'claim', 'action', 'release' or 'event', found 'claims'; the nearest is 'claim'"),
+    (7, "  sew: action 256 needle after c", "line 7, column 15: expected an action number, from 0 to 255, found '256'"),
+    (7, "  sew: action 01 needle after c", "line 7, column 15: expected an action number, from 0 to 255, found '01'"),
+    (7, "  sew: action 1 needle for 0 after c", "line 7, column 28: expected a duration, from 1 to 60000000, found '0'"),
+    (7, "  sew: action 1 needle for 60000001", "line 7, column 28: expected a duration, from 1 to 60000000, found '60000001'"),
+    (7, "  sew: action 1 nedle for 1", "line 7, column 17: expected a peripheral, found 'nedle'; the nearest is 'needle'"),
+    (7, "  sew: action 1 needle after c, c", "line 7, column 33: expected each predecessor once, found 'c' a second time"),
+    (7, "  sew: action 1 needle after", "line 7, column 29: expected a node of this activity (it begins with a letter), found the end of the line"),
+    (7, "  sew: action 1 needle behind c", "line 7, column 24: expected 'for' or 'after' or the end of the line, found 'behind'"),
+    (8, "  look: event thraed for 500 after sew", "line 8, column 15: expected an event, found 'thraed'; the nearest is 'thread'"),
+    (8, "  look: event thread for 500 after swe", "line 8, column 36: expected a node of this activity, found 'swe'; the nearest is 'sew'"),
+    (8, "  sew: event thread for 500 after c", "line 8, column 3: expected a new name, found 'sew' a second time"),
+    (10, "state begin", "line 16, column 1: expected one state marked 'initial', found the end of the text"),
+    (11, "state asks initial", "line 11, column 7: expected one initial state, found a second one, 'asks'"),
+    (13, "from begin to ask do stitch", "line 13, column 15: expected a state, found 'ask'; the nearest is 'asks'"),
+    (13, "from begin to asks do stich", "line 13, column 23: expected an activity, found 'stich'; the nearest is 'stitch'"),
+    (14, "from asks to asks on thread hole do stitch", "line 14, column 29: expected an outcome of this event, found 'hole'; the nearest is 'whole'"),
+    (14, "from asks to asks on bobbin full", "line 14, column 22: expected an event, found 'bobbin'"),
+];
+
 #[test]
 fn each_fault_is_told() {
-    let letters = "letters, digits, `_`, `-`, `.`, `:`, `,` or a comment";
-    let words = "'plan', 'resource', 'peripheral', 'event', 'activity', 'state' or 'from'";
-    let long = "n".repeat(65);
-    let cases: Vec<(usize, String, String)> = [
-        (1, "plan 2", "line 1, column 6: expected the version, 1, found '2'"),
-        (1, "plan", "line 1, column 5: expected the version, 1, found the end of the line"),
-        (1, "# none", "line 2, column 1: expected 'plan 1' as the first line, found none"),
-        (2, "resorce head", &format!("line 2, column 1: expected {words}, found 'resorce'; the nearest is 'resource'")),
-        (2, "resource", "line 2, column 9: expected a name for the resource (it begins with a letter), found the end of the line"),
-        (2, "resource 1st", "line 2, column 10: expected a name for the resource (it begins with a letter), found '1st'"),
-        (2, &format!("resource {long}"), &format!("line 2, column 10: expected a name for the resource of at most 64 characters, found '{long}'")),
-        (2, "resource head tail", "line 2, column 15: expected the end of the line, found 'tail'"),
-        (2, "resource he;d", &format!("line 2, column 12: expected {letters}, found ';'")),
-        (2, "plan 1", "line 2, column 1: expected one 'plan' line, found a second one"),
-        (3, "peripheral needle on haed", "line 3, column 22: expected a resource, found 'haed'; the nearest is 'head'"),
-        (3, "peripheral needle in head", "line 3, column 19: expected 'on', found 'in'"),
-        (4, "event thread whole, broken", "line 4, column 14: expected ':', found 'whole'"),
-        (4, "event thread: whole,", "line 4, column 21: expected a name for an outcome (it begins with a letter), found the end of the line"),
-        (4, "event thread: whole, whole", "line 4, column 22: expected a new name, found 'whole' a second time"),
-        (4, "event thread: a, b, c, d, e, f, g, h, i", "line 4, column 39: expected at most 8 outcomes of an event, found one more, 'i'"),
-        (4, "resource frame", "line 4, column 1: expected it before the first 'peripheral' line, found a 'resource' line"),
-        (5, "", "line 6, column 1: expected an 'activity' line before the first node, found a 'claim' line"),
-        (9, "activity trim", "line 10, column 1: expected a node of the activity, found a 'state' line"),
-        (6, "  c: claims head", "line 6, column 6: expected 'claim', 'action', 'release' or 'event', found 'claims'; the nearest is 'claim'"),
-        (7, "  sew: action 256 needle after c", "line 7, column 15: expected an action number, from 0 to 255, found '256'"),
-        (7, "  sew: action 01 needle after c", "line 7, column 15: expected an action number, from 0 to 255, found '01'"),
-        (7, "  sew: action 1 needle for 0 after c", "line 7, column 28: expected a duration, from 1 to 60000000, found '0'"),
-        (7, "  sew: action 1 needle for 60000001", "line 7, column 28: expected a duration, from 1 to 60000000, found '60000001'"),
-        (7, "  sew: action 1 nedle for 1", "line 7, column 17: expected a peripheral, found 'nedle'; the nearest is 'needle'"),
-        (7, "  sew: action 1 needle after c, c", "line 7, column 33: expected each predecessor once, found 'c' a second time"),
-        (7, "  sew: action 1 needle after", "line 7, column 29: expected a node of this activity (it begins with a letter), found the end of the line"),
-        (7, "  sew: action 1 needle behind c", "line 7, column 24: expected 'for' or 'after' or the end of the line, found 'behind'"),
-        (8, "  look: event thraed for 500 after sew", "line 8, column 15: expected an event, found 'thraed'; the nearest is 'thread'"),
-        (8, "  look: event thread for 500 after swe", "line 8, column 36: expected a node of this activity, found 'swe'; the nearest is 'sew'"),
-        (8, "  sew: event thread for 500 after c", "line 8, column 3: expected a new name, found 'sew' a second time"),
-        (10, "state begin", "line 16, column 1: expected one state marked 'initial', found the end of the text"),
-        (11, "state asks initial", "line 11, column 7: expected one initial state, found a second one, 'asks'"),
-        (13, "from begin to ask do stitch", "line 13, column 15: expected a state, found 'ask'; the nearest is 'asks'"),
-        (13, "from begin to asks do stich", "line 13, column 23: expected an activity, found 'stich'; the nearest is 'stitch'"),
-        (14, "from asks to asks on thread hole do stitch", "line 14, column 29: expected an outcome of this event, found 'hole'; the nearest is 'whole'"),
-        (14, "from asks to asks on bobbin full", "line 14, column 22: expected an event, found 'bobbin'"),
-    ]
-    .map(|(line, text, said)| (line, text.to_string(), said.to_string()))
-    .into();
-    for (line, text, said) in cases {
-        assert_eq!(fault_with(line, &text), said, "{text}");
+    for (line, text, said) in FAULTS {
+        assert_eq!(fault_with(*line, text), *said, "{text}");
     }
+    let words = "'plan', 'resource', 'peripheral', 'event', 'activity', 'state' or 'from'";
+    let said = format!("line 2, column 1: expected {words}, found 'resorce'; the nearest is 'resource'");
+    assert_eq!(fault_with(2, "resorce head"), said);
+    let letters = "letters, digits, `_`, `-`, `.`, `:`, `,` or a comment";
+    assert_eq!(fault_with(2, "resource he;d"), format!("line 2, column 12: expected {letters}, found ';'"));
+    let long = "n".repeat(65);
+    let said = "line 2, column 10: expected a name for the resource of at most 64 characters";
+    assert_eq!(fault_with(2, &format!("resource {long}")), format!("{said}, found '{long}'"));
 }
 
 /// So many lines, each from its number, between a start and an end.

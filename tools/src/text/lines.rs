@@ -5,13 +5,20 @@ use super::nearest::nearest;
 use super::tokens::{tokens, Token, LONGEST_NAME};
 use super::TextFault;
 
+/// A name in a line.
+#[derive(Clone, Debug, PartialEq, Eq)]
+pub struct Word {
+    pub text: String,
+    pub column: usize,
+}
+
 /// What stands at a part of a line that may vary. `Absent` fills the places of parts that are left out.
 #[derive(Clone, Debug, PartialEq, Eq)]
 pub enum Value {
     Absent,
     Present,
-    Name(Token),
-    Names(Vec<Token>),
+    Name(Word),
+    Names(Vec<Word>),
     Number(u64),
 }
 
@@ -36,7 +43,7 @@ pub fn lines(text: &str) -> Result<Vec<Line>, TextFault> {
 
 struct Reader<'a> {
     number: usize,
-    tokens: &'a [Token],
+    tokens: &'a [Token<'a>],
     at: usize,
 }
 
@@ -51,7 +58,7 @@ impl Reader<'_> {
     }
 
     fn text(&self) -> Option<&str> {
-        self.tokens.get(self.at).map(|token| token.text.as_str())
+        self.tokens.get(self.at).map(|token| token.text)
     }
 
     /// A line whose second token is `:` is a node's; its third word says which. Otherwise the first word says it.
@@ -106,7 +113,7 @@ impl Reader<'_> {
         Ok(())
     }
 
-    fn name(&mut self, what: &str) -> Result<Token, TextFault> {
+    fn name(&mut self, what: &str) -> Result<Word, TextFault> {
         let is_name = |token: &&Token| token.text.starts_with(|c: char| c.is_alphabetic() || c == '_');
         let Some(token) = self.tokens.get(self.at).filter(is_name) else {
             return Err(self.fault(&format!("{what} (it begins with a letter)"), None));
@@ -115,10 +122,10 @@ impl Reader<'_> {
             return Err(self.fault(&format!("{what} of at most {LONGEST_NAME} characters"), None));
         }
         self.at += 1;
-        Ok(token.clone())
+        Ok(Word { text: token.text.to_string(), column: token.column })
     }
 
-    fn names(&mut self, what: &str) -> Result<Vec<Token>, TextFault> {
+    fn names(&mut self, what: &str) -> Result<Vec<Word>, TextFault> {
         let mut names = vec![self.name(what)?];
         while self.text() == Some(",") {
             self.at += 1;

@@ -2,9 +2,8 @@
 //! name a later one.
 
 use super::forms::{shape, Form};
-use super::lines::{Line, Value};
+use super::lines::{Line, Value, Word};
 use super::nearest::nearest;
-use super::tokens::Token;
 use super::{Named, TextFault};
 use crate::names::{Names, Space};
 use crate::toggles::{broken, Broken};
@@ -92,7 +91,7 @@ fn declare(names: &mut Names, line: &Line) -> Result<(), TextFault> {
     Ok(())
 }
 
-fn add(names: &mut Names, space: Space, line: &Line, name: &Token) -> Result<(), TextFault> {
+fn add(names: &mut Names, space: Space, line: &Line, name: &Word) -> Result<(), TextFault> {
     let (most, what) = limit(space);
     if names.find(space, &name.text).is_some() {
         return Err(fault(line.number, name.column, "a new name", format!("'{}' a second time", name.text)));
@@ -106,14 +105,14 @@ fn add(names: &mut Names, space: Space, line: &Line, name: &Token) -> Result<(),
 }
 
 impl Line {
-    fn name(&self, at: usize) -> &Token {
+    fn name(&self, at: usize) -> &Word {
         match &self.values[at] {
             Value::Name(name) => name,
             other => unreachable!("the form has a name here, not {other:?}"),
         }
     }
 
-    fn names(&self, at: usize) -> &[Token] {
+    fn names(&self, at: usize) -> &[Word] {
         match &self.values[at] {
             Value::Names(names) => names,
             _ => &[],
@@ -140,7 +139,7 @@ struct Builder<'a> {
 
 impl Builder<'_> {
     /// The number of a name that must be known.
-    fn known(&self, space: Space, line: &Line, name: &Token) -> Result<u8, TextFault> {
+    fn known(&self, space: Space, line: &Line, name: &Word) -> Result<u8, TextFault> {
         let list = self.names.list(space);
         let what = match space {
             Space::Resource => "a resource",
@@ -192,7 +191,7 @@ impl Builder<'_> {
     }
 
     /// The nodes of an `after`, by number: the file wants them rising, the text takes them in any order.
-    fn predecessors(&self, line: &Line, after: &[Token]) -> Result<Vec<u8>, TextFault> {
+    fn predecessors(&self, line: &Line, after: &[Word]) -> Result<Vec<u8>, TextFault> {
         let space = Space::Node(self.plan.activities.len() as u8 - 1);
         let mut found = Vec::new();
         for name in after {

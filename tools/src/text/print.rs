@@ -1,8 +1,7 @@
 //! From a plan and its names to text.
 
 use super::forms::Form;
-use super::lines::{Line, Value};
-use super::tokens::Token;
+use super::lines::{Line, Value, Word};
 use super::written::written;
 use crate::names::{Names, Space};
 use crate::toggles::{broken, Broken};
@@ -29,8 +28,8 @@ fn line(form: Form, values: Vec<Value>) -> Line {
     Line { form, number: 0, values }
 }
 
-fn named(text: String) -> Token {
-    Token { text, column: 0 }
+fn named(text: String) -> Word {
+    Word { text, column: 0 }
 }
 
 struct Printer<'a> {

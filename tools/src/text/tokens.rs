@@ -5,10 +5,10 @@ use super::TextFault;
 /// A name of more characters is refused, so that a text and what is printed of it stay short.
 pub const LONGEST_NAME: usize = 64;
 
-/// A word (letters, digits, `_`, `-`, `.`) or one of the marks `:` and `,`.
-#[derive(Clone, Debug, PartialEq, Eq)]
-pub struct Token {
-    pub text: String,
+/// A word (letters, digits, `_`, `-`, `.`) or one of the marks `:` and `,`, as it stands in a line.
+#[derive(Clone, Copy, Debug, PartialEq, Eq)]
+pub struct Token<'a> {
+    pub text: &'a str,
     pub column: usize,
 }
 
@@ -17,20 +17,24 @@ pub fn is_word_letter(c: char) -> bool {
 }
 
 /// The tokens of a line; `#` begins a comment.
-pub fn tokens(line: &str, number: usize) -> Result<Vec<Token>, TextFault> {
+pub fn tokens(line: &str, number: usize) -> Result<Vec<Token<'_>>, TextFault> {
     let mut tokens: Vec<Token> = Vec::new();
-    let mut in_word = false;
-    for (column, c) in (1..).zip(line.chars()) {
+    // Where the word that is being read begins.
+    let mut word: Option<(usize, usize)> = None;
+    for (column, (at, c)) in (1..).zip(line.char_indices()) {
+        if is_word_letter(c) {
+            word = word.or(Some((at, column)));
+            continue;
+        }
+        tokens.extend(word.take().map(|(from, column)| Token { text: &line[from..at], column }));
         match c {
-            '#' => break,
-            ':' | ',' => tokens.push(Token { text: c.to_string(), column }),
+            '#' => return Ok(tokens),
+            ':' | ',' => tokens.push(Token { text: &line[at..at + 1], column }),
             _ if c.is_whitespace() => {}
-            _ if is_word_letter(c) && in_word => tokens.last_mut().expect("a word is begun").text.push(c),
-            _ if is_word_letter(c) => tokens.push(Token { text: c.to_string(), column }),
             _ => return Err(odd_character(number, column, c)),
         }
-        in_word = is_word_letter(c);
     }
+    tokens.extend(word.map(|(from, column)| Token { text: &line[from..], column }));
     Ok(tokens)
 }
 
