@@ -1,0 +1,20 @@
+//! `plan`: the tools for who writes a plan. `./plan` builds and calls it.
+
+use jidlekuvo_tools::arguments::{arguments, USAGE};
+use jidlekuvo_tools::commands::run;
+use std::process::ExitCode;
+
+fn main() -> ExitCode {
+    let words: Vec<String> = std::env::args().skip(1).collect();
+    if matches!(words.first().map(String::as_str), Some("help" | "--help" | "-h")) {
+        println!("{USAGE}");
+        return ExitCode::SUCCESS;
+    }
+    match arguments(&words).and_then(|given| run(&given)) {
+        Ok(status) => ExitCode::from(status),
+        Err(why) => {
+            eprintln!("plan: {why}");
+            ExitCode::from(2)
+        }
+    }
+}

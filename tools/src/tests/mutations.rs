@@ -1,0 +1,41 @@
+//! The tools are broken on purpose, one way at a time, and some check must notice each. Nothing may be noticed while
+//! nothing is broken, which the other tests show.
+
+use super::{CHECKS, SEED};
+use crate::toggles::{with_broken, Broken, ALL};
+use std::panic::{catch_unwind, set_hook, take_hook, AssertUnwindSafe};
+
+/// The first check that notices, with the number of cases it was given.
+fn noticed(toggle: Broken) -> Option<(&'static str, usize)> {
+    for cases in [30, 300] {
+        for (name, check) in CHECKS {
+            let run = || check(SEED, cases);
+            // Tools that panic are noticed as well.
+            let answer = with_broken(toggle, || catch_unwind(AssertUnwindSafe(run)));
+            if !matches!(answer, Ok(Ok(()))) {
+                return Some((name, cases));
+            }
+        }
+    }
+    None
+}
+
+#[test]
+fn every_mutation_is_noticed() {
+    let usual = take_hook();
+    set_hook(Box::new(move |info| {
+        if std::thread::current().name() != Some("broken on purpose") {
+            usual(info);
+        }
+    }));
+    let work = || ALL.iter().map(|&(toggle, what)| (what, noticed(toggle))).collect::<Vec<_>>();
+    let found =
+        std::thread::Builder::new().name("broken on purpose".into()).spawn(work).unwrap().join().unwrap();
+    for (what, by) in &found {
+        match by {
+            Some((name, cases)) => println!("noticed by {name:<26} ({cases:>3} cases): {what}"),
+            None => println!("NOT NOTICED: {what}"),
+        }
+    }
+    assert!(found.iter().all(|(_, by)| by.is_some()), "some mutation was not noticed");
+}
