@@ -5,7 +5,7 @@ mod rules;
 mod write;
 
 pub use read::read;
-pub use rules::meets_file_rules;
+pub use rules::{is_in_limits, meets_file_rules};
 pub use write::{encode, write};
 
 pub const MOST_RESOURCES: u64 = 16;
