@@ -1,7 +1,7 @@
 -- The proofs of what the statements say.
 pub mod LikeActivity
 pub mod LikeAutomaton
-pub mod Zeroed
+pub mod ReadAlike
 pub mod Only
 pub mod Leaving
 pub mod Passing
