@@ -15,6 +15,8 @@ ghost use lib.ListN.{length};
 ghost use Rattle.drive.specs.Drive.{writtenInto, bufferAfter};
 ghost use Rattle.exports.specs.Codes.{codeOf, activitiesCode, writtenCode, backCode, backBuffer};
 
+pub mod timetables; // the timetable
+
 // Document 01's number of a fault.
 fn number(f: Fault) -> u64
     ensures { λ r. ⌜ (r ≡ numberOf f) × (r < 256) ⌝ }
