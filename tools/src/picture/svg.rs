@@ -215,6 +215,7 @@ impl<'a> Picture<'a> {
         let (x, y) = (self.scale.x(from.end), self.middle(from));
         let (to_x, to_y) = (self.scale.x(to.start), self.middle(to));
         let dash = if arrow.handed { " stroke-dasharray=\"4 3\"" } else { "" };
+        let inside = |row: &Row| (self.span(row).1 / 2.0).min(5.0);
         if y == to_y && to_x - x < 8.0 {
             return Ok(());
         }
@@ -222,7 +223,8 @@ impl<'a> Picture<'a> {
             // One begins where the other ends: from edge to edge, straight.
             true => {
                 let edge = if y < to_y { BAR / 2.0 } else { -BAR / 2.0 };
-                format!("M{:.1} {:.1}L{:.1} {:.1}", x - 5.0, y + edge, to_x + 5.0, to_y - edge)
+                let (one, other) = (x - inside(from), to_x + inside(to));
+                format!("M{one:.1} {:.1}L{other:.1} {:.1}", y + edge, to_y - edge)
             }
             false => {
                 let bend = ((to_x - x) / 2.0).min(40.0);

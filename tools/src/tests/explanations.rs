@@ -10,12 +10,15 @@ use jidlekuvo_reference::compare::hits::{wanted_of_files, Hits};
 use jidlekuvo_reference::generate::layout::{Layout, Role};
 use jidlekuvo_reference::generate::{damage, plans, templates, to_hex, Random};
 use jidlekuvo_reference::plan_file::{encode, read};
-use jidlekuvo_reference::Fault;
+use jidlekuvo_reference::{verdict, Fault};
 
 /// One file: its refusal must be explained.
 fn explained(bytes: &[u8], hits: &mut Hits) -> Result<(), String> {
     let fault = proved::judge(bytes);
     hits.verdict(fault.map(|fault| fault.number));
+    if fault != verdict::judge(bytes).err() {
+        return Err(format!("the two builds differ on {}", to_hex(bytes)));
+    }
     let Some(fault) = fault else { return Ok(()) };
     match explain(bytes, &Names::default(), fault) {
         Some(sentence) if is_sentence(&sentence) => Ok(()),
