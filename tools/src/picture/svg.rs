@@ -211,7 +211,7 @@ impl<'a> Picture<'a> {
 
     /// An arrow from the end of a bar to the start of another. Bars of one lane that touch need none.
     fn arrow(&self, arrow: &Arrow, out: &mut impl Write) -> Result<()> {
-        let (from, to) = (&self.story.rows[arrow.from], &self.story.rows[arrow.to]);
+        let (from, to) = (&self.story.rows[arrow.from as usize], &self.story.rows[arrow.to as usize]);
         let (x, y) = (self.scale.x(from.end), self.middle(from));
         let (to_x, to_y) = (self.scale.x(to.start), self.middle(to));
         let dash = if arrow.handed { " stroke-dasharray=\"4 3\"" } else { "" };
