@@ -7,6 +7,7 @@ use crate::explain::{explain, find, Finding};
 use crate::names::Names;
 use crate::proved;
 use jidlekuvo_reference::compare::hits::{wanted_of_files, Hits};
+use jidlekuvo_reference::compare::settings::is_by_hand;
 use jidlekuvo_reference::generate::layout::{Layout, Role};
 use jidlekuvo_reference::generate::{damage, plans, templates, to_hex, Random};
 use jidlekuvo_reference::plan_file::{encode, read};
@@ -76,7 +77,7 @@ pub fn refusals(seed: u64, cases: usize) -> Result<(), String> {
         explained(&refused_file(&mut random, case), &mut hits)
             .map_err(|why| format!("seed {}: {why}", seed + case as u64))?;
     }
-    if cases < 12_000 {
+    if cases < 12_000 || is_by_hand() {
         return Ok(());
     }
     hits.print("refusals explained");
