@@ -74,10 +74,15 @@ fn bytes(given: &Arguments) -> Status {
     }
 }
 
+/// Says something on the standard output; whether anybody listens does not change the answer.
+fn say(text: &str) {
+    let _ = io::stdout().write_all(text.as_bytes());
+}
+
 /// Prints a plan's refusal; None where it is not refused.
 fn refused(source: &Source, fault: Option<Fault>) -> Option<u8> {
     let fault = fault?;
-    print!("{}", refusal(fault, explain::explain(&source.bytes, &source.names, fault)));
+    say(&refusal(fault, explain::explain(&source.bytes, &source.names, fault)));
     Some(1)
 }
 
@@ -189,7 +194,7 @@ fn drawn(given: &Arguments) -> Status {
     };
     let story = Story::of(&asked.plan, &asked.source.bytes, &asked.outcomes)?;
     if let End::Refused(fault) = story.closing.end {
-        print!("{}", refusal(fault, asked.sentence(story.closing.latest, fault)));
+        say(&refusal(fault, asked.sentence(story.closing.latest, fault)));
         return Ok(1);
     }
     let names = asked.source.names.completed(&asked.plan);

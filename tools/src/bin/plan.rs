@@ -5,7 +5,11 @@ use jidlekuvo_tools::commands::run;
 use std::process::ExitCode;
 
 fn main() -> ExitCode {
-    let words: Vec<String> = std::env::args().skip(1).collect();
+    let words: Result<Vec<String>, _> = std::env::args_os().skip(1).map(|word| word.into_string()).collect();
+    let Ok(words) = words else {
+        eprintln!("plan: a word of the command is not UTF-8");
+        return ExitCode::from(2);
+    };
     if matches!(words.first().map(String::as_str), Some("help" | "--help" | "-h")) {
         println!("{USAGE}");
         return ExitCode::SUCCESS;

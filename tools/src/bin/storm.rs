@@ -1,22 +1,23 @@
 //! `storm COUNT [SEED]`: so many random, cut and mutated inputs of each kind through the tools. Fails where one
-//! panics, takes over a second, or the whole takes more than 64 MB.
+//! panics, takes over ten seconds, or the whole takes more than 64 MB.
 
 use jidlekuvo_reference::generate::{damage::damaged_blindly, inputs, openings, plans, to_hex, Random};
-use jidlekuvo_reference::plan_file::{encode, read};
+use jidlekuvo_reference::plan_file::{encode, Automaton, Kind, Plan, Transition};
 use jidlekuvo_tools::arguments::arguments;
 use jidlekuvo_tools::commands::{checked_bytes, text_of};
 use jidlekuvo_tools::explain::{explain, opening};
 use jidlekuvo_tools::input::{recognised, Content};
 use jidlekuvo_tools::names::Names;
 use jidlekuvo_tools::picture::{svg, trace, Story};
+use jidlekuvo_tools::text::LONGEST_TEXT;
 use jidlekuvo_tools::{proved, text};
 use std::process::ExitCode;
 use std::time::{Duration, Instant};
 
 /// One input of a kind: the answer is whether it was taken (read, parsed, opened, drawn).
-type Kind = fn(&mut Random) -> bool;
+type Input = fn(&mut Random) -> bool;
 
-const KINDS: [(&str, Kind); 6] = [
+const KINDS: [(&str, Input); 6] = [
     ("binary", binary),
     ("hexadecimal", hexadecimal),
     ("text", written),
@@ -25,7 +26,8 @@ const KINDS: [(&str, Kind); 6] = [
     ("picture (1 in 50)", drawn),
 ];
 
-const LONGEST: Duration = Duration::from_secs(1);
+/// Longer is a hang; on a busy machine a process may stand still for a while.
+const LONGEST: Duration = Duration::from_secs(10);
 const MOST_KILOBYTES: u64 = 64 * 1024;
 
 /// Everything that the tools do with a plan's bytes.
@@ -133,14 +135,47 @@ fn drawn(random: &mut Random) -> bool {
     if !random.one_in(50) {
         return false;
     }
-    let bytes = encode(&plans::any_plan(random));
-    let plan = read(&bytes).expect("it is accepted");
+    let plan = plans::any_plan(random);
     let outcomes = inputs::outcomes(random, &plan, 40);
-    let story = Story::of(&plan, &bytes, &outcomes).expect("the program answers");
-    let names = Names::default();
-    svg(&plan, &names, &story, &mut std::io::sink()).expect("a sink takes all");
-    trace(&plan, &names, &story, &mut std::io::sink()).expect("a sink takes all");
+    drawn_whole(&plan, &outcomes);
     true
+}
+
+/// Draws a plan's picture and trace; the answer is how many rows they have.
+fn drawn_whole(plan: &Plan, outcomes: &[u8]) -> usize {
+    let story = Story::of(plan, &encode(plan), outcomes).expect("the program answers");
+    let names = Names::default();
+    svg(plan, &names, &story, &mut std::io::sink()).expect("a sink takes all");
+    trace(plan, &names, &story, &mut std::io::sink()).expect("a sink takes all");
+    story.rows.len()
+}
+
+/// Texts as long as they may be, and a picture of nearly 100,000 rows with as many arrows as there can be.
+fn extremes() {
+    let many = |start: &str, part: &str| start.to_string() + &part.repeat((LONGEST_TEXT - 100) / part.len());
+    let texts = [
+        many("plan 1\nstate s initial\n", "from s to s\n"),
+        many("plan 1\nresource r\nactivity a\nn: claim r after n", ",n"),
+        many("plan 1\nresource r", "r"),
+        many("plan 1\n", "resource r # and so on\n"),
+        many("", "n"),
+        many("", "# nothing\n"),
+    ];
+    for text in texts {
+        assert!(recognised(text.into_bytes()).is_ok_and(|content| match content {
+            Content::Text(text) => checked_bytes(&text).is_err_and(|why| why.len() < 1000),
+            Content::Bytes(_) => false,
+        }));
+    }
+    let mut executed = vec![(Kind::Action { number: 0, peripheral: 0 }, 1_000); 62];
+    executed[61] = (Kind::Event(0), 1_000);
+    let activities = vec![plans::dense_activity(0, &executed)];
+    let way = |from, to, input| Transition { from, to, input, activity: Some(0) };
+    let mut transitions = vec![way(0, 1, None), way(1, 1, Some((0, 0))), way(1, 2, Some((0, 1)))];
+    transitions[2].activity = None;
+    let automaton = Automaton { states: 3, initial: 0, finals: 4, transitions };
+    let plan = Plan { resources: 1, peripherals: vec![0], events: vec![2], activities, automaton };
+    assert!(drawn_whole(&plan, &[0; 1_611]) > 99_900);
 }
 
 /// The most memory that this process has had, in kilobytes.
@@ -174,6 +209,9 @@ fn main() -> ExitCode {
             longest.as_micros()
         );
     }
+    let began = Instant::now();
+    extremes();
+    println!("the longest texts and a picture of 99,944 rows: {} ms", began.elapsed().as_millis());
     let memory = most_memory();
     is_good &= memory <= MOST_KILOBYTES;
     println!("most memory {memory} kB of {MOST_KILOBYTES} kB");

@@ -13,8 +13,8 @@ pub const MOST_ROWS: usize = 100_000;
 /// An arrow between two rows; `handed` where a resource goes from one activity to the next.
 #[derive(Clone, Copy, Debug, PartialEq, Eq)]
 pub struct Arrow {
-    pub from: usize,
-    pub to: usize,
+    pub from: u32,
+    pub to: u32,
     pub handed: bool,
 }
 
@@ -117,9 +117,9 @@ impl<'a> Teller<'a> {
                 match nodes[p as usize].kind {
                     Kind::Claim(resource) => {
                         let user = self.users[resource as usize];
-                        arrows.extend(user.map(|from| Arrow { from, to, handed: true }));
+                        arrows.extend(user.map(|from| arrow(from, to, true)));
                     }
-                    _ => arrows.extend(row_of(p).map(|from| Arrow { from, to, handed: false })),
+                    _ => arrows.extend(row_of(p).map(|from| arrow(from, to, false))),
                 }
             }
         }
@@ -149,6 +149,11 @@ impl<'a> Teller<'a> {
         emitted.sort_unstable();
         emitted.into_iter().for_each(|(_, row, event)| self.pending[event as usize].push_back(row));
     }
+}
+
+/// There are at most as many rows as a u32 holds.
+fn arrow(from: usize, to: usize, handed: bool) -> Arrow {
+    Arrow { from: from as u32, to: to as u32, handed }
 }
 
 /// How many nodes are before a node, by one or more arrows.

@@ -211,10 +211,11 @@ impl<'a> Picture<'a> {
 
     /// An arrow from the end of a bar to the start of another. Bars of one lane that touch need none.
     fn arrow(&self, arrow: &Arrow, out: &mut impl Write) -> Result<()> {
-        let (from, to) = (&self.story.rows[arrow.from], &self.story.rows[arrow.to]);
+        let (from, to) = (&self.story.rows[arrow.from as usize], &self.story.rows[arrow.to as usize]);
         let (x, y) = (self.scale.x(from.end), self.middle(from));
         let (to_x, to_y) = (self.scale.x(to.start), self.middle(to));
         let dash = if arrow.handed { " stroke-dasharray=\"4 3\"" } else { "" };
+        let inside = |row: &Row| (self.span(row).1 / 2.0).min(5.0);
         if y == to_y && to_x - x < 8.0 {
             return Ok(());
         }
@@ -222,7 +223,8 @@ impl<'a> Picture<'a> {
             // One begins where the other ends: from edge to edge, straight.
             true => {
                 let edge = if y < to_y { BAR / 2.0 } else { -BAR / 2.0 };
-                format!("M{:.1} {:.1}L{:.1} {:.1}", x - 5.0, y + edge, to_x + 5.0, to_y - edge)
+                let (one, other) = (x - inside(from), to_x + inside(to));
+                format!("M{one:.1} {:.1}L{other:.1} {:.1}", y + edge, to_y - edge)
             }
             false => {
                 let bend = ((to_x - x) / 2.0).min(40.0);

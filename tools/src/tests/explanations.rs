@@ -7,15 +7,19 @@ use crate::explain::{explain, find, Finding};
 use crate::names::Names;
 use crate::proved;
 use jidlekuvo_reference::compare::hits::{wanted_of_files, Hits};
+use jidlekuvo_reference::compare::settings::is_by_hand;
 use jidlekuvo_reference::generate::layout::{Layout, Role};
 use jidlekuvo_reference::generate::{damage, plans, templates, to_hex, Random};
 use jidlekuvo_reference::plan_file::{encode, read};
-use jidlekuvo_reference::Fault;
+use jidlekuvo_reference::{verdict, Fault};
 
 /// One file: its refusal must be explained.
 fn explained(bytes: &[u8], hits: &mut Hits) -> Result<(), String> {
     let fault = proved::judge(bytes);
     hits.verdict(fault.map(|fault| fault.number));
+    if fault != verdict::judge(bytes).err() {
+        return Err(format!("the two builds differ on {}", to_hex(bytes)));
+    }
     let Some(fault) = fault else { return Ok(()) };
     match explain(bytes, &Names::default(), fault) {
         Some(sentence) if is_sentence(&sentence) => Ok(()),
@@ -73,7 +77,7 @@ pub fn refusals(seed: u64, cases: usize) -> Result<(), String> {
         explained(&refused_file(&mut random, case), &mut hits)
             .map_err(|why| format!("seed {}: {why}", seed + case as u64))?;
     }
-    if cases < 12_000 {
+    if cases < 12_000 || is_by_hand() {
         return Ok(());
     }
     hits.print("refusals explained");

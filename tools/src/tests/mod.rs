@@ -7,7 +7,7 @@ mod pictures;
 mod text_faults;
 mod texts;
 
-use jidlekuvo_reference::compare::settings::cases;
+use jidlekuvo_reference::compare::settings::{cases, seed};
 use jidlekuvo_reference::generate::{inputs, plans, Random};
 use jidlekuvo_reference::plan_file::encode;
 
@@ -23,10 +23,8 @@ pub const CHECKS: &[(&str, Check)] = &[
     ("pictures and traces", pictures::drawn),
 ];
 
-const SEED: u64 = 4_200_000;
-
 fn run(check: Check, default: usize) {
-    check(SEED, cases(default)).unwrap_or_else(|why| panic!("{why}"));
+    check(seed(), cases(default)).unwrap_or_else(|why| panic!("{why}"));
 }
 
 /// A file that is accepted, damaged, or breaks a rule.

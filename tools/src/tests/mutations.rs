@@ -1,9 +1,11 @@
 //! The tools are broken on purpose, one way at a time, and some check must notice each. Nothing may be noticed while
 //! nothing is broken, which the other tests show.
 
-use super::{CHECKS, SEED};
+use super::CHECKS;
 use crate::toggles::{with_broken, Broken, ALL};
 use std::panic::{catch_unwind, set_hook, take_hook, AssertUnwindSafe};
+
+const SEED: u64 = 4_200_000;
 
 /// The first check that notices, with the number of cases it was given.
 fn noticed(toggle: Broken) -> Option<(&'static str, usize)> {

@@ -4,6 +4,7 @@ use crate::explain::opening::explain;
 use crate::names::Names;
 use crate::proved;
 use jidlekuvo_reference::compare::hits::Hits;
+use jidlekuvo_reference::compare::settings::is_by_hand;
 use jidlekuvo_reference::generate::activity::Durations;
 use jidlekuvo_reference::generate::plans::{plan, wide_plan, Style};
 use jidlekuvo_reference::generate::Random;
@@ -50,7 +51,7 @@ pub fn refusals(seed: u64, cases: usize) -> Result<(), String> {
             return Err(format!("seed {}: {told}", seed + case as u64));
         }
     }
-    if cases < 6_000 {
+    if cases < 6_000 || is_by_hand() {
         return Ok(());
     }
     hits.print("refused openings explained");

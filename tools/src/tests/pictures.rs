@@ -1,5 +1,6 @@
 //! Pictures and traces have the table's rows and no more; outcomes go by name.
 
+use crate::explain::outcomes;
 use crate::names::{Names, Space};
 use crate::picture::{svg, trace, Lanes, Story};
 use crate::table::{self, End, Row};
@@ -9,6 +10,7 @@ use jidlekuvo_reference::generate::{inputs, plan_t, plans, Random};
 use jidlekuvo_reference::plan_file::{encode, read, Plan};
 use jidlekuvo_reference::specified_times::incremental::shapes;
 use jidlekuvo_reference::specified_times::Moment;
+use jidlekuvo_reference::{Fault, HORIZON};
 
 /// The rows that the program prints, read without the tools.
 fn printed_rows(bytes: &[u8], outcomes: &[u8]) -> Vec<Vec<u64>> {
@@ -209,14 +211,21 @@ fn an_outcome_that_the_event_lacks_is_told() {
         let outcomes = [0, value];
         let closing = table::rows(&bytes, &outcomes, |_| Ok(true)).unwrap().unwrap();
         let End::Refused(fault) = closing.end else { panic!("{value} is taken") };
-        let said =
-            crate::explain::outcomes::explain(&plan, &Names::default(), &outcomes, closing.latest, fault)
-                .unwrap();
+        let said = outcomes::explain(&plan, &Names::default(), &outcomes, closing.latest, fault).unwrap();
         assert_eq!((fault.number, fault.place), (55, 1));
         assert_eq!(said, format!("outcome 1 is {value}; state s1 waits for e0, which has 0 o0, 1 o1"));
         found += 1;
     }
     assert!(found >= 100);
+}
+
+#[test]
+fn a_completion_past_the_horizon_is_told() {
+    let plan = read(&plan_t()).unwrap();
+    let said = |latest| outcomes::explain(&plan, &Names::default(), &[0], latest, Fault::new(44, 1));
+    let above = "position 1, activity a0: a completion would lie above 1000000000000000";
+    assert_eq!(said(HORIZON - 1_000), Some(format!("{above}; the latest before it is 999999999999000")));
+    assert_eq!(said(5), None);
 }
 
 #[test]

@@ -125,6 +125,21 @@ fn each_limit_is_told() {
 }
 
 #[test]
+fn limits_of_the_text_are_told() {
+    let many = format!("plan 1\nstate s initial\n{}", "from s to s\n".repeat(3_000));
+    let said = parse(&many).unwrap_err().to_string();
+    assert_eq!(
+        said,
+        "line 2498, column 1: expected at most 2497 lines, as many as a plan can need, found one more"
+    );
+    let long = format!("plan 1\nresource {}\n", "r ".repeat(100));
+    let said = parse(&long).unwrap_err().to_string();
+    assert_eq!(said, "line 2, column 137: expected at most 64 words and marks in a line, found more");
+    let said = fault_with(2, &format!("resource {}", "r".repeat(1_000)));
+    assert!(said.ends_with("r'..") && said.len() < 250, "{said}");
+}
+
+#[test]
 fn limits_of_the_automaton_are_told() {
     let state = |n: usize| format!("state x{n}\n");
     let start = "plan 1\nstate s initial\n";

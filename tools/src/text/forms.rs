@@ -137,3 +137,48 @@ pub static SHAPES: [Shape; 11] = [
 pub fn shape(form: Form) -> &'static Shape {
     SHAPES.iter().find(|shape| shape.form == form).expect("every form has its shape")
 }
+
+#[cfg(test)]
+mod tests {
+    use super::*;
+
+    /// A part as docs/TEXT.md writes it.
+    fn written(part: &Part) -> String {
+        match *part {
+            Word(word) => format!("\"{word}\""),
+            Mark(mark) => format!("\"{mark}\""),
+            Name(what) => named(what),
+            Names(what) => format!("{0} {{ \",\" {0} }}", named(what)),
+            Number { least, most, .. } if least == most => format!("\"{least}\""),
+            Number { .. } => "NUMBER".into(),
+            Maybe([Word(word @ ("for" | "after")), ..]) => format!("[ {word} ]"),
+            Maybe(parts) => format!("[ {} ]", parts.iter().map(written).collect::<Vec<_>>().join(" ")),
+        }
+    }
+
+    /// What kind of name it is: NAME for a new one.
+    fn named(what: &str) -> String {
+        let kinds = ["resource", "peripheral", "event", "outcome", "activity", "node", "state"];
+        let kind = kinds.iter().find(|kind| what.split(' ').nth(1) == Some(**kind));
+        kind.map_or("NAME".into(), |kind| kind.to_uppercase())
+    }
+
+    #[test]
+    fn the_grammar_of_the_document_is_this_one() {
+        let document = include_str!("../../../docs/TEXT.md");
+        for shape in &SHAPES {
+            let line = shape.parts.iter().map(written).collect::<Vec<_>>().join(" ");
+            let ends =
+                |text: &str| text.trim_start().splitn(2, ['=', '|']).nth(1).map(str::trim) == Some(&line);
+            let is_there = document
+                .lines()
+                .any(|text| ends(text) || text.ends_with(&format!("= {line} node {{ node }}")));
+            assert!(is_there, "docs/TEXT.md lacks: {line}");
+        }
+        for part in [FOR, AFTER] {
+            let Maybe(parts) = part else { unreachable!("both may be left out") };
+            let line = parts.iter().map(written).collect::<Vec<_>>().join(" ");
+            assert!(document.contains(&format!("= {line}\n")), "docs/TEXT.md lacks: {line}");
+        }
+    }
+}

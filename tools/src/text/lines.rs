@@ -29,14 +29,29 @@ pub struct Line {
     pub values: Vec<Value>,
 }
 
+/// A plan with everything that the file can hold has as many lines.
+const MOST_LINES: usize = 1 + 16 + 64 + 16 + 32 * (1 + 64) + 64 + 256;
+
 /// The lines of a text that say something.
 pub fn lines(text: &str) -> Result<Vec<Line>, TextFault> {
     let mut lines = Vec::new();
     for (number, line) in (1..).zip(text.lines()) {
         let tokens = tokens(line, number)?;
-        if !tokens.is_empty() {
-            lines.push(Reader { number, tokens: &tokens, at: 0 }.line()?);
+        if tokens.is_empty() {
+            continue;
         }
+        let read = Reader { number, tokens: &tokens, at: 0 }.line()?;
+        if lines.len() == MOST_LINES {
+            let expected = format!("at most {MOST_LINES} lines, as many as a plan can need");
+            return Err(TextFault {
+                line: number,
+                column: 1,
+                expected,
+                found: "one more".into(),
+                nearest: None,
+            });
+        }
+        lines.push(read);
     }
     Ok(lines)
 }
@@ -51,7 +66,7 @@ impl Reader<'_> {
     fn fault(&self, expected: &str, nearest: Option<String>) -> TextFault {
         let end = self.tokens.last().map_or(1, |token| token.column + token.text.chars().count());
         let (column, found) = match self.tokens.get(self.at) {
-            Some(token) => (token.column, format!("'{}'", token.text)),
+            Some(token) => (token.column, quoted(token.text)),
             None => (end, "the end of the line".to_string()),
         };
         TextFault { line: self.number, column, expected: expected.to_string(), found, nearest }
@@ -155,6 +170,14 @@ impl Reader<'_> {
             values.push(Value::Present);
         }
         parts[1..].iter().try_for_each(|part| self.part(part, values))
+    }
+}
+
+/// A word of the text, cut where it is too long to show.
+fn quoted(word: &str) -> String {
+    match word.char_indices().nth(2 * LONGEST_NAME) {
+        Some((end, _)) => format!("'{}'..", &word[..end]),
+        None => format!("'{word}'"),
     }
 }
 

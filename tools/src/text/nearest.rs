@@ -1,7 +1,12 @@
 //! The known name that is nearest to one that is not known.
 
+use super::tokens::LONGEST_NAME;
+
 /// The nearest by letters put in, left out or changed; none where over half of the letters differ.
 pub fn nearest<'a>(name: &str, known: impl Iterator<Item = &'a str>) -> Option<String> {
+    if name.chars().count() > LONGEST_NAME {
+        return None;
+    }
     let found = known.map(|other| (distance(name, other), other)).min()?;
     let longer = name.chars().count().max(found.1.chars().count());
     (2 * found.0 <= longer).then(|| found.1.to_string())

@@ -5,6 +5,9 @@ use super::TextFault;
 /// A name of more characters is refused, so that a text and what is printed of it stay short.
 pub const LONGEST_NAME: usize = 64;
 
+/// A line with everything that one can need has 23.
+const MOST_TOKENS: usize = 64;
+
 /// A word (letters, digits, `_`, `-`, `.`) or one of the marks `:` and `,`, as it stands in a line.
 #[derive(Clone, Copy, Debug, PartialEq, Eq)]
 pub struct Token<'a> {
@@ -27,6 +30,10 @@ pub fn tokens(line: &str, number: usize) -> Result<Vec<Token<'_>>, TextFault> {
             continue;
         }
         tokens.extend(word.take().map(|(from, column)| Token { text: &line[from..at], column }));
+        if tokens.len() > MOST_TOKENS {
+            let expected = format!("at most {MOST_TOKENS} words and marks in a line");
+            return Err(TextFault { line: number, column, expected, found: "more".into(), nearest: None });
+        }
         match c {
             '#' => return Ok(tokens),
             ':' | ',' => tokens.push(Token { text: &line[at..at + 1], column }),
