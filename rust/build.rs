@@ -3,7 +3,7 @@
 use std::env;
 use std::path::PathBuf;
 
-const LINKED: [&str; 5] = ["READ", "WRITE_BACK", "ACTIVITIES", "JUDGE", "DRIVE"];
+const LINKED: [&str; 7] = ["READ", "WRITE_BACK", "ACTIVITIES", "JUDGE", "DRIVE", "MADE_UP", "TIMETABLE"];
 
 fn main() {
     println!("cargo:rerun-if-changed=build.rs");

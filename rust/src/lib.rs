@@ -9,6 +9,7 @@ pub mod check;
 pub mod compare;
 pub mod drive;
 pub mod generate;
+pub mod made_up;
 pub mod plan_file;
 pub mod run;
 pub mod specified_times;

@@ -1,5 +1,6 @@
-//! The texts of the program *timetable* from both builds: valid inputs, damaged ones, inputs cut at
-//! every byte, and words of several thousand positions.
+//! The texts of the program *timetable* and of `jidlekuvo_timetable` from both builds: valid inputs,
+//! damaged ones, inputs cut at every byte, and words of several thousand positions; the function on a
+//! buffer that fits exactly, on a longer one, on one a byte too short, and on one that holds nothing.
 
 #![cfg(feature = "rattle_timetable")]
 
@@ -10,8 +11,34 @@ use jidlekuvo_reference::compare::{rattle, settings, Failure};
 use jidlekuvo_reference::generate::{inputs, plan_t, Random};
 use jidlekuvo_reference::timetable::timetable;
 
-fn difference(input: &[u8]) -> Option<String> {
-    let wanted = timetable(input);
+/// What no byte of a text is.
+const UNTOUCHED: u8 = 0xA5;
+
+/// The function on a buffer with `more` bytes than the text has: text and what follows it.
+fn put_into(input: &[u8], wanted: &[u8], more: usize) -> Option<String> {
+    let mut out = vec![UNTOUCHED; wanted.len() + more];
+    let length = rattle::timetable_into(input, &mut out);
+    let is_put = length == wanted.len() && out.starts_with(wanted);
+    let is_kept = out[wanted.len()..].iter().all(|&byte| byte == UNTOUCHED);
+    (!is_put || !is_kept).then(|| format!("a buffer with {more} bytes more: answer {length}"))
+}
+
+/// The function on a buffer with `less` bytes than the text has: 36, and the buffer is as it was.
+fn refused_in(input: &[u8], wanted: &[u8], less: usize) -> Option<String> {
+    let mut out = vec![UNTOUCHED; wanted.len().saturating_sub(less)];
+    let answer = rattle::timetable_into(input, &mut out);
+    let is_refused = answer == 36 << 32 && out.iter().all(|&byte| byte == UNTOUCHED);
+    (!is_refused).then(|| format!("a buffer with {less} bytes less: answer {answer}"))
+}
+
+fn difference_in_process(input: &[u8], wanted: &str) -> Option<String> {
+    let wanted = wanted.as_bytes();
+    (put_into(input, wanted, 0).or_else(|| put_into(input, wanted, 7)))
+        .or_else(|| refused_in(input, wanted, 1))
+        .or_else(|| refused_in(input, wanted, wanted.len()))
+}
+
+fn difference_printed(input: &[u8], wanted: &str) -> Option<String> {
     let printed = rattle::timetable(input).expect("the program timetable runs");
     let printed = String::from_utf8_lossy(&printed).into_owned();
     if wanted == printed {
@@ -20,6 +47,11 @@ fn difference(input: &[u8]) -> Option<String> {
     let mut lines = wanted.lines().zip(printed.lines()).enumerate();
     let at = lines.find(|(_, (ours, theirs))| ours != theirs);
     Some(format!("line {at:?} (number, Rust, Rattle); lengths {} and {}", wanted.len(), printed.len()))
+}
+
+fn difference(input: &[u8]) -> Option<String> {
+    let wanted = timetable(input);
+    difference_printed(input, &wanted).or_else(|| difference_in_process(input, &wanted))
 }
 
 fn compared(input: &[u8]) -> Result<(), Failure> {

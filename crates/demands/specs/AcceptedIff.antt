@@ -1,7 +1,6 @@
 -- `accepted-iff`: judging accepts bytes as a plan iff the plan meets the definitions and the bytes are its writing.
 -- `longest`: no accepted plan exceeds 34,433 bytes. `written-back`: writing an accepted plan gives back its bytes. From the
 -- file's description (planfile), the activities (activity) and the automaton (automaton).
-use mathlib.Core.Path.{_≡_}
 use mathlib.Core.List.{List}
 use Prim.Native.Nat.{ℕ}
 use Rattle.plan.specs.declared.Plan.{Plan}
@@ -10,7 +9,6 @@ use Rattle.planfile.specs.HoldPlan.{plan-rules}
 use Rattle.activity.specs.Activities as A
 use Rattle.automaton.specs.Decides as D
 use Rattle.writing.specs.Back as B
-use Rattle.judge.specs.Judge.{accepted, judgeOf}
 use Rattle.judge.specs.Laws.{Passes, passed, passing}
 use Rattle.demands.specs.Accepted.{Bytes, Accepts, StatementAcceptedIff, StatementLongest, StatementWrittenBack}
 

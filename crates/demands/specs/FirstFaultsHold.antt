@@ -2,7 +2,7 @@
 -- `local`, `cut`, `left-over`, `in-front`: where, and on which bytes it depends. From planfile/Refused and the whole verdict (VerdictsHold).
 use mathlib.Core.Path.{_≡_, refl}
 use mathlib.Core.List.{List}
-use Prim.Native.Nat.{ℕ, _+_, _≤_, _<_}
+use Prim.Native.Nat.{ℕ, _≤_, _<_}
 use native.Mathlib.Omega.{arith}
 use lib.ListN.{length}
 use Rattle.plan.specs.Fault.{numberOf}
@@ -14,10 +14,9 @@ use Rattle.format.specs.Reading.{fault-given, on-reached}
 use Rattle.format.specs.Writing.{Agree, reached-agree, no-earlier, no-earlier-end}
 use Rattle.planfile.specs.PlanFile.{faultOrder, planFile}
 use Rattle.planfile.specs.Refused as P
-use Rattle.demands.specs.Accepted.{Bytes}
 use Rattle.demands.specs.Verdicts.{Judged}
 use Rattle.demands.specs.VerdictsHold.{verdict, of-field, reading-numbers, activity-numbers, automaton-numbers}
-use Rattle.demands.specs.FirstFaults.{Unread, StatementRefusedExactly, StatementUnread, StatementPlaceIn, StatementLocal, StatementCut, StatementLeftOver, StatementInFront}
+use Rattle.demands.specs.FirstFaults.{StatementRefusedExactly, StatementUnread, StatementPlaceIn, StatementLocal, StatementCut, StatementLeftOver, StatementInFront}
 
 pub refused-exactly : StatementRefusedExactly
 refused-exactly b f k bytes = P.refused-exactly b bytes f k

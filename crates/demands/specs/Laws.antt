@@ -2,7 +2,7 @@
 -- Plans that differ in nothing but slots past a count
 pub mod LikeActivity
 pub mod LikeAutomaton
-pub mod Zeroed
+pub mod ReadAlike
 pub mod Only
 -- What is printed
 pub mod Leaving

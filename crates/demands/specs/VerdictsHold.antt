@@ -19,7 +19,7 @@ use Rattle.format.specs.Format as F
 use Rattle.format.specs.Format.{faulty, more, Faulty, short, wrong, result}
 use Rattle.planfile.specs.PlanFile.{faultOrder, planFile}
 use Rattle.planfile.specs.Accepted as W
-use Rattle.planfile.specs.HoldPlan.{plan-rules, plan-result}
+use Rattle.planfile.specs.HoldPlan.{plan-rules}
 use Rattle.planfile.specs.Refused.{refused-exactly}
 use Rattle.activity.specs.Number.{activitiesVerdict}
 use Rattle.activity.specs.Activities as A
@@ -33,7 +33,7 @@ use Rattle.demands.specs.Accepted.{Bytes}
 use Rattle.demands.specs.Laws.Numbers.{same-fault}
 use Rattle.judge.specs.Laws.{passed}
 use Rattle.demands.specs.Alike.{SamePlan}
-use Rattle.demands.specs.Laws.Zeroed.{zeroed-alike}
+use Rattle.demands.specs.Laws.ReadAlike.{read-alike}
 use Rattle.demands.specs.Laws.Only.{turned-plan, both, each-meets, first-at, automaton-judges}
 use Rattle.demands.specs.Verdicts.{FileOf, EachMeets, Judged, Meeting, StatementVerdict, StatementAcceptedPlain, StatementOnlyPlan, StatementHandedOn, StatementRefusedPlan, StatementVerdictNumbers, StatementReadingNumbers, StatementActivityNumbers, StatementAutomatonNumbers}
 
@@ -77,7 +77,7 @@ module _ (b : List ℕ) (bytes : Bytes b) where
     read = W.read-printed b bytes p (h .holds) (h .printed)
 
     same : SamePlan p q
-    same = subst (SamePlan p) (sym (plan-result p (h .holds))) (zeroed-alike p (limits b p h))
+    same = read-alike p (h .holds)
 
     in-limits : InLimits q
     in-limits = limits b q (file-of b bytes q read)

@@ -5,15 +5,16 @@ use mathlib.Core.List.{List}
 use mathlib.Core.Logic.{_↔_}
 use Prim.Native.Nat.{ℕ, _≤_, _<_}
 use lib.ListN.{length, take, drop}
-use Rattle.plan.specs.Limits.{FileRules}
+use Rattle.plan.specs.Limits.{FileRules, ByteActions}
 use Rattle.plan.specs.Encoding.{encode}
 use Rattle.plan.specs.Reading.{readPlan}
 use Rattle.plan.specs.declared.Plan.{Plan}
 use Rattle.plan.specs.declared.Verdict.{Verdict}
+use Rattle.format.specs.Format.{Holds, print}
+use Rattle.planfile.specs.PlanFile.{faultOrder, planFile}
 use Rattle.writing.specs.Writing.{numberOf, placeOf, writtenOf, bufferOf}
 use Rattle.writing.specs.declared.NotWritten.{NotWritten}
 use Rattle.writing.specs.declared.Written.{Written}
-use Rattle.demands.specs.Accepted.{Bytes}
 use Rattle.demands.specs.Alike.{SamePlan}
 
 pub data Writes (p : Plan) (out : List ℕ) : Written → Type 0 where
@@ -34,10 +35,14 @@ StatementBuffer =
     (p : Plan) (out : List ℕ) (n : ℕ) → writtenOf p out ≡ Written.Bytes n
     → (take n (bufferOf p out) ≡ encode p) × (drop n (bufferOf p out) ≡ drop n out) × (length (bufferOf p out) ≡ length out)
 
+-- these rules and bytes are those of the file's description, for every plan whose action numbers are bytes, as those of a stored plan are
+abbrev pub StatementTheFile : Type 0
+StatementTheFile = (p : Plan) → ByteActions p → (FileRules p ↔ Holds faultOrder planFile p) × (FileRules p → encode p ≡ print planFile p)
+
 -- what was written is read as the same plan
 abbrev pub StatementReadBack : Type 0
 StatementReadBack =
-    (p : Plan) (out : List ℕ) (n : ℕ) → Bytes (encode p) → writtenOf p out ≡ Written.Bytes n
+    (p : Plan) (out : List ℕ) (n : ℕ) → ByteActions p → writtenOf p out ≡ Written.Bytes n
     → (readPlan (take n (bufferOf p out)) .verdict ≡ Verdict.Accepted) × SamePlan p (readPlan (take n (bufferOf p out)) .plan)
 
 -- ---- by number and place

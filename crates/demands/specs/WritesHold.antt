@@ -1,6 +1,6 @@
 -- `writing-iff`: writing answers 50, 36 or the bytes, each in its condition. `not-written`, `buffer`: what the buffer then holds.
--- `read-back`: what was written is read as the same plan. `writing-numbers`: the same by number and place.
-use mathlib.Core.Path.{_≡_, refl, sym, ap, subst}
+-- `the-file`: the rules and the bytes are the description's. `read-back`: what was written is read as the same plan. `writing-numbers`: the same by number and place.
+use mathlib.Core.Path.{_≡_, refl, sym, _∙_, ap, subst}
 use mathlib.Core.Bool.{Bool, true, false, cond}
 use mathlib.Core.List.{List, _++_}
 use Prim.Native.Nat.{ℕ, _≤_, _<_}
@@ -11,21 +11,24 @@ use lib.Dec.{leb}
 use borrow.Author.Tests.{leb-true, leb-false}
 use Rattle.plan.specs.Limits.{FileRules}
 use Rattle.plan.specs.Encoding.{encode}
-use Rattle.plan.specs.Reading.{readPlan}
-use Rattle.plan.specs.Spare.{zeroed}
 use Rattle.plan.specs.declared.Plan.{Plan}
 use Rattle.plan.specs.declared.PlanRead.{PlanRead}
 use Rattle.activity.specs.Tells.{Tells, holds, fails}
 use Rattle.limits.specs.Limits.{fileRules}
 use Rattle.limits.specs.Files.{tells-file-rules}
-use Rattle.roundtrip.specs.RoundTrip.{accepted, read-written}
+use Rattle.format.specs.Format.{print}
+use Rattle.format.specs.Writing.{printed-bytes}
+use Rattle.planfile.specs.PlanFile.{planFile}
+use Rattle.planfile.specs.Accepted.{read-printed}
+use Rattle.planfile.specs.HoldPlan.{plan-rules, plan-print}
+use Rattle.planfile.specs.RulesPlan.{plan-holds}
 use Rattle.writing.specs.Writing.{numberOf, writtenOf, bufferOf}
 use Rattle.writing.specs.declared.NotWritten.{NotWritten}
 use Rattle.writing.specs.declared.Written.{Written}
 use Rattle.demands.specs.Accepted.{Bytes}
 use Rattle.demands.specs.Alike.{SamePlan}
-use Rattle.demands.specs.Laws.Zeroed.{zeroed-alike}
-use Rattle.demands.specs.Writes.{Writes, StatementWriting, StatementNotWritten, StatementBuffer, StatementReadBack, StatementWritingNumbers}
+use Rattle.demands.specs.Laws.ReadAlike.{read-alike}
+use Rattle.demands.specs.Writes.{Writes, StatementWriting, StatementNotWritten, StatementBuffer, StatementTheFile, StatementReadBack, StatementWritingNumbers}
 
 abbrev Writing : Written → Type 0
 Writing (Written.Bytes n) = Unit {0}
@@ -103,11 +106,16 @@ rules p out w n (Writes.breaks x) e = absurd (apart e)
 rules p out w n (Writes.short h l) e = h
 rules p out w n (Writes.written h l) e = h
 
+pub the-file : StatementTheFile
+the-file p actions = ((λ r. plan-holds p r actions, λ h. plan-rules p h), λ r. sym (plan-print p (plan-holds p r actions)))
+
 pub read-back : StatementReadBack
-read-back p out n bytes e =
-    let h = rules p out (writtenOf p out) n (leaves p out .case) e in
-    let r : readPlan (take n (bufferOf p out)) ≡ accepted (zeroed p) = rw (buffer p out n e .0) (read-written (encode p) bytes p h refl) in
-    (ap (λ (x : PlanRead). x .verdict) r, subst (SamePlan p) (sym (ap (λ (x : PlanRead). x .plan) r)) (zeroed-alike p (h .limits)))
+read-back p out n actions e =
+    let h = plan-holds p (rules p out (writtenOf p out) n (leaves p out .case) e) actions in
+    let b = take n (bufferOf p out) in
+    let w : print planFile p ≡ b = plan-print p h ∙ sym (buffer p out n e .0) in
+    let r = read-printed b (subst Bytes w (printed-bytes planFile p)) p h w in
+    (ap (λ (x : PlanRead). x .verdict) r, subst (SamePlan p) (sym (ap (λ (x : PlanRead). x .plan) r)) (read-alike p h))
 
 -- ---- by number and place
 

@@ -17,6 +17,8 @@ ghost use Rattle.drive.specs.Drive.{recordedOf, bufferOf};
 ghost use Rattle.made_up.specs.Answers.{madeCode, madeBuffer};
 ghost use Rattle.exports.specs.Codes.{codeOf, activitiesCode, writtenCode, backCode, backBuffer, recordedCode};
 
+pub mod timetables; // the timetable
+
 // Document 01's number of a fault.
 fn number(f: Fault) -> u64
     ensures { λ r. ⌜ (r ≡ numberOf f) × (r < 256) ⌝ }

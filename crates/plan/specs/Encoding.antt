@@ -1,3 +1,4 @@
+-- Inner, but for the three maps, which the description cites: crate planfile shows that it is what its description writes.
 -- The encoding of a plan, in the words of "The plan file". A count or a duration of 0 is absent.
 use mathlib.Core.Bool.{Bool, true, false}
 use mathlib.Core.List.{List, [], _∷_, _++_}

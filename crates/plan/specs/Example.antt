@@ -1,26 +1,14 @@
--- The definition of reading at work: K1, K2, K3 and K5 of document 01, and plan T.
-use mathlib.Core.Path.{_≡_, refl}
+-- Plan T of document 01, as bytes and as a plan.
 use mathlib.Core.List.{List, [], _∷_, _++_}
 use Prim.Native.Nat.{ℕ}
-use Rattle.plan.specs.declared.Fault.{Fault}
-use Rattle.plan.specs.declared.Verdict.{Verdict}
 use Rattle.plan.specs.declared.Plan.{Plan}
-use Rattle.plan.specs.declared.PlanRead.{PlanRead}
 use Rattle.plan.specs.declared.Kind.{Kind}
 use Rattle.plan.specs.declared.Node.{Node}
 use Rattle.plan.specs.declared.Input.{Input}
 use Rattle.plan.specs.declared.Output.{Output}
-use Rattle.plan.specs.declared.Transition.{Transition}
 use lib.ListN.{replicate}
-use Rattle.wire.specs.Number.{number, optional, optionalBytes}
-use Rattle.plan.specs.Encoding.{nodeMap, kindBytes, predBytes, encodeNode, encodeNodes, encodeActivities, inputBytes, outputBytes, moveMap, encodeMove, encodeMoves, encodeAutomaton, peripheralBytes, eventBytes, activityBytes, sectionMap, encode}
-use Rattle.plan.specs.Spare.{placed, zeroed}
 use Rattle.plan.specs.Plan.{pastMove}
-use Rattle.plan.specs.Fields.{byteAt, optionalCount, numbersThen}
-use Rattle.plan.specs.Nodes.{zeroNode, asksOf, kindBy, durationAt, predsLoop, predsAt, nodeWith, nodeAt}
-use Rattle.plan.specs.Sections.{belongsAt, peripheralsAt, outcomesAt, eventsAt, nodesThen, activitiesLoop, activitiesAt}
-use Rattle.plan.specs.Moves.{inputAt, outputAt, moveWith, moveFrom, moveAt, finalsAt, moveCountAt, movesLoop, movesAt, automatonAt}
-use Rattle.plan.specs.Reading.{sectionsAt, endedAt, withAutomaton, withActivities, withEvents, withPeripherals, planAt, readPlan}
+use Rattle.plan.specs.Nodes.{zeroNode}
 
 -- "Plan T, 93 bytes"
 abbrev pub bytesOfT : List ℕ
@@ -29,21 +17,6 @@ bytesOfT =
     1 ∷ 0 ∷ 136 ∷ 19 ∷ 0 ∷ 0 ∷ 2 ∷ 0 ∷ 2 ∷ 56 ∷ 0 ∷ 232 ∷ 3 ∷ 0 ∷ 0 ∷ 1 ∷ 3 ∷ 36 ∷ 0 ∷ 1 ∷ 3 ∷ 36 ∷ 1 ∷ 1 ∷
     2 ∷ 3 ∷ 2 ∷ 0 ∷ 49 ∷ 2 ∷ 1 ∷ 208 ∷ 7 ∷ 0 ∷ 0 ∷ 1 ∷ 0 ∷ 36 ∷ 0 ∷ 1 ∷ 1 ∷ 3 ∷ 0 ∷ 4 ∷ 0 ∷ 0 ∷ 0 ∷ 0 ∷
     0 ∷ 0 ∷ 0 ∷ 3 ∷ 0 ∷ 2 ∷ 0 ∷ 1 ∷ 0 ∷ 3 ∷ 1 ∷ 1 ∷ 0 ∷ 0 ∷ 0 ∷ 3 ∷ 1 ∷ 2 ∷ 0 ∷ 1 ∷ 1 ∷ []
-
-abbrev pub verdict : List ℕ → Verdict
-verdict b = readPlan b .verdict
-
-pub K1 : verdict [] ≡ Verdict.Refused Fault.Ends 0
-unfolding number optional byteAt optionalCount numbersThen asksOf kindBy durationAt predsLoop predsAt nodeWith nodeAt belongsAt peripheralsAt outcomesAt eventsAt nodesThen activitiesLoop activitiesAt inputAt outputAt moveWith moveFrom moveAt finalsAt moveCountAt movesLoop movesAt automatonAt sectionsAt endedAt withAutomaton withActivities withEvents withPeripherals planAt readPlan
-K1 = refl
-
-pub K2 : verdict (0 ∷ []) ≡ Verdict.Refused Fault.NoAutomaton 0
-unfolding number optional byteAt optionalCount numbersThen asksOf kindBy durationAt predsLoop predsAt nodeWith nodeAt belongsAt peripheralsAt outcomesAt eventsAt nodesThen activitiesLoop activitiesAt inputAt outputAt moveWith moveFrom moveAt finalsAt moveCountAt movesLoop movesAt automatonAt sectionsAt endedAt withAutomaton withActivities withEvents withPeripherals planAt readPlan
-K2 = refl
-
-pub K3 : verdict (16 ∷ 1 ∷ 0 ∷ 1 ∷ 0 ∷ 0 ∷ 0 ∷ 0 ∷ 0 ∷ 0 ∷ 0 ∷ 0 ∷ 0 ∷ []) ≡ Verdict.Accepted
-unfolding number optional byteAt optionalCount numbersThen asksOf kindBy durationAt predsLoop predsAt nodeWith nodeAt belongsAt peripheralsAt outcomesAt eventsAt nodesThen activitiesLoop activitiesAt inputAt outputAt moveWith moveFrom moveAt finalsAt moveCountAt movesLoop movesAt automatonAt sectionsAt endedAt withAutomaton withActivities withEvents withPeripherals planAt readPlan
-K3 = refl
 
 abbrev claims : ℕ → Node
 claims r = record { kind = Kind.Claim r; duration = 0; count = 0; preds = replicate 8 0 }
@@ -79,19 +52,3 @@ planT =
                 ∷ replicate 253 pastMove;
           };
     }
-
-pub T-read : readPlan bytesOfT ≡ record { verdict = Verdict.Accepted; plan = planT }
-unfolding number optional byteAt optionalCount numbersThen asksOf kindBy durationAt predsLoop predsAt nodeWith nodeAt belongsAt peripheralsAt outcomesAt eventsAt nodesThen activitiesLoop activitiesAt inputAt outputAt moveWith moveFrom moveAt finalsAt moveCountAt movesLoop movesAt automatonAt sectionsAt endedAt withAutomaton withActivities withEvents withPeripherals planAt readPlan
-T-read = refl
-
-pub T-written : encode planT ≡ bytesOfT
-unfolding optionalBytes nodeMap kindBytes predBytes encodeNode encodeNodes encodeActivities inputBytes outputBytes moveMap encodeMove encodeMoves encodeAutomaton peripheralBytes eventBytes activityBytes sectionMap encode
-T-written = refl
-
-pub T-zeroed : zeroed planT ≡ planT
-unfolding placed zeroed
-T-zeroed = refl
-
-pub K5 : verdict (bytesOfT ++ (0 ∷ [])) ≡ Verdict.Refused Fault.LeftOver 93
-unfolding number optional byteAt optionalCount numbersThen asksOf kindBy durationAt predsLoop predsAt nodeWith nodeAt belongsAt peripheralsAt outcomesAt eventsAt nodesThen activitiesLoop activitiesAt inputAt outputAt moveWith moveFrom moveAt finalsAt moveCountAt movesLoop movesAt automatonAt sectionsAt endedAt withAutomaton withActivities withEvents withPeripherals planAt readPlan
-K5 = refl

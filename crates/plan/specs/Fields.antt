@@ -1,3 +1,4 @@
+-- Inner: crate planfile shows that reading is what its description says.
 -- Fields of one byte in the plan file: "every number is its own field"; the first faulty one from the front is refused.
 use mathlib.Core.Bool.{Bool}
 use mathlib.Core.List.{List}

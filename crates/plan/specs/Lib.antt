@@ -8,5 +8,4 @@ pub mod Sections
 pub mod Moves
 pub mod Reading
 pub mod Encoding
-pub mod Spare
 pub mod Example

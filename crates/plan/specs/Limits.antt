@@ -86,3 +86,13 @@ pub record NodeWritten (n : Node) : Type 0 where
 pub record FileRules (p : Plan) : Type 0 where
   pub limits : InLimits p
   pub nodes : (a n : ℕ) → a < p .activities → n < sizeOf p a → NodeWritten (nodeAt p a n)
+
+-- An action number is one byte, as the type of a stored plan says: the one thing that FileRules leaves out.
+abbrev pub ByteAction : Kind → Type 0
+ByteAction (Kind.Action a x) = a < 256
+ByteAction (Kind.Claim r) = Unit {0}
+ByteAction (Kind.Release r) = Unit {0}
+ByteAction (Kind.Event e) = Unit {0}
+
+abbrev pub ByteActions : Plan → Type 0
+ByteActions p = (a n : ℕ) → a < p .activities → n < sizeOf p a → ByteAction (nodeAt p a n .kind)

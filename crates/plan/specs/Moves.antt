@@ -1,3 +1,4 @@
+-- Inner: crate planfile shows that reading is what its description says.
 -- "automaton; always present": reading the states and the transitions.
 use mathlib.Core.Bool.{Bool, cond}
 use mathlib.Core.List.{List}

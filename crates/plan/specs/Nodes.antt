@@ -1,3 +1,4 @@
+-- Inner: crate planfile shows that reading is what its description says.
 -- "A node is a map byte, then only the fields whose bits stand": reading a node.
 use mathlib.Core.Bool.{Bool, true, false, cond}
 use mathlib.Core.List.{List}

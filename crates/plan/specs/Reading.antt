@@ -1,3 +1,4 @@
+-- Inner: crate planfile shows that reading is what its description says.
 -- Reading the plan file: the plan, or the first faulty field from the front with its fault and byte offset.
 use mathlib.Core.Bool.{cond}
 use mathlib.Core.List.{List}

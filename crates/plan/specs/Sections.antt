@@ -1,3 +1,4 @@
+-- Inner: crate planfile shows that reading is what its description says.
 -- The sections of the plan file before the automaton, in bit order.
 use mathlib.Core.Bool.{Bool}
 use mathlib.Core.List.{List}

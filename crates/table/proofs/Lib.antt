@@ -1,3 +1,5 @@
+pub mod Placing
+pub mod Copying
 pub mod Rows
 pub mod Taking
 pub mod Begins

@@ -5,3 +5,5 @@ pub mod Short
 pub mod Hearing
 -- and about text put into a lent buffer
 pub mod Lent
+-- and about the text of a whole input
+pub mod Whole

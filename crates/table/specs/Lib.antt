@@ -5,4 +5,6 @@ pub mod Turn
 -- the text in a lent buffer
 pub mod Lent
 pub mod Answers
+-- of a whole input
+pub mod Whole
 pub mod Laws

@@ -1,10 +1,10 @@
 // Text put into a lent buffer, whole or not at all.
 use crate::Put;
 ghost use mathlib.Core.Path.{_≡_};
-ghost use Prim.Native.Nat.{_+_, _≤_};
+ghost use Prim.Native.Nat.{_+_, _≤_, _<_};
 ghost use lib.Dec.{leb};
 ghost use lib.ListN.{length, take};
-ghost use lib.Seq.{paste};
+ghost use Rattle.puts.specs.Puts.{Puts};
 ghost use Rattle.table.specs.Lent.{Lends, pastOf};
 
 // Whether n bytes fit from `at` on.
@@ -17,16 +17,19 @@ fn fits(room: usize, at: usize, n: usize) -> bool
     false
 }
 
-// The first n bytes of a text, from `at` on.
-fn copy(out: &mut [u8], at: usize, text: &[u8], n: usize)
-    requires { ⌜ (at + n ≤ length (now out)) × (n ≤ length (now text)) ⌝ }
-    ensures { λ _. ⌜ now (out .exit) ≡ paste (now (out .entry)) at (now (text .entry)) n ⌝ }
+// What fits of the first n bytes of a text, from `at` on: the offset past them.
+pub fn copy(out: &mut [u8], at: usize, text: &[u8], n: usize) -> usize
+    requires { ⌜ (at + n < 18_446_744_073_709_551_616) × (n ≤ length (now text)) ⌝ }
+    ensures { λ r. ⌜ Puts (now (out .entry)) at (take n (now (text .entry))) (now (out .exit)) r ⌝ }
 {
+    let mut off = at;
     let mut i: usize = 0;
     while i < n {
-        out[at + i] = text[i];
+        wire::put(out, off, text[i]);
+        off += 1;
         i += 1;
     }
+    off
 }
 
 // The first n bytes of a text, from `at` on, where they fit.
@@ -35,8 +38,8 @@ pub fn lend(out: &mut [u8], at: usize, text: &[u8], n: usize) -> Put
     ensures { λ r. ⌜ Lends (now (out .entry)) at (take n (now (text .entry))) (now (out .exit)) r ⌝ }
 {
     if fits(out.len(), at, n) {
-        copy(out, at, text, n);
-        return Put::Past(at + n);
+        let next = copy(out, at, text, n);
+        return Put::Past(next);
     }
     Put::TooShort
 }

@@ -18,6 +18,9 @@ ghost use Rattle.table.specs.Answers.{Begins};
 
 pub mod lent; // text put into a lent buffer
 pub mod turns; // one turn
+mod whole; // the timetable of a whole input
+
+pub use whole::timetable;
 
 // The next outcome byte, if there is one.
 pub enum Heard {
@@ -59,6 +62,17 @@ pub struct Drafted {
     pub next: usize,
     pub closed: bool,
     pub heard: bool,
+    pub progress: Progress,
+}
+
+// Between two turns of the whole table.
+pub struct Place {
+    // the offset past the text
+    pub at: usize,
+    // outcome bytes that were taken
+    pub read: u32,
+    // turns that are left, 0 once the table is closed
+    pub left: u32,
     pub progress: Progress,
 }
 

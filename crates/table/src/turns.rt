@@ -22,7 +22,8 @@ use timing::engine::advance;
 use window::Entry;
 use window::Phase;
 ghost use mathlib.Core.Path.{_≡_};
-ghost use Prim.Native.Nat.{_≤_, _<_};
+ghost use mathlib.Core.Bool.{cond};
+ghost use Prim.Native.Nat.{_+_, _-_, _≤_, _<_};
 ghost use Rattle.puts.specs.Puts.{Puts};
 ghost use Rattle.plan.specs.Plan.{nodesOf};
 ghost use Rattle.automaton.specs.Next.{chosenOf};
@@ -197,7 +198,7 @@ fn hear(
 }
 
 // The turn by what the state does next.
-fn turn_by(
+pub fn turn_by(
     out: &mut [u8],
     at: usize,
     plan: Plan,
@@ -227,6 +228,28 @@ fn turn_by(
             return hear(out, at, plan, progress, e, read, heard);
         }
     }
+}
+
+// How many outcome bytes were taken after a turn.
+pub fn counted(taken: u32, heard: bool) -> u32
+    requires { ⌜ taken ≤ 1_000_000_002 ⌝ }
+    ensures { λ r. ⌜ r ≡ cond heard (taken + 1) taken ⌝ }
+{
+    if heard {
+        return taken + 1;
+    }
+    taken
+}
+
+// How many turns are left after one; none where it was the last.
+pub fn left_after(left: u32, last: bool) -> u32
+    requires { ⌜ 0 < left ⌝ }
+    ensures { λ r. ⌜ r ≡ cond last 0 (left - 1) ⌝ }
+{
+    if last {
+        return 0;
+    }
+    left - 1
 }
 
 // One turn, with its text from `at` on: the outcome byte is taken only where one is asked for.

@@ -4,6 +4,8 @@ use libc::STDOUT_FILENO;
 use plan::Plan;
 use table::Heard;
 use table::lent::past;
+use table::turns::counted;
+use table::turns::left_after;
 use table::turns::turn;
 use timing::Progress;
 ghost use mathlib.Core.Path.{_≡_};
@@ -76,27 +78,6 @@ fn listen() -> Heard {
         return Heard::Nothing;
     }
     Heard::Outcome(byte[0])
-}
-
-fn counted(taken: u32, heard: bool) -> u32
-    requires { ⌜ taken ≤ 1_000_000_002 ⌝ }
-    ensures { λ r. ⌜ r ≡ cond heard (taken + 1) taken ⌝ }
-{
-    if heard {
-        return taken + 1;
-    }
-    taken
-}
-
-// Output that failed leaves no turn.
-fn left_after(left: u32, lost: bool) -> u32
-    requires { ⌜ 0 < left ⌝ }
-    ensures { λ r. ⌜ r ≡ cond lost 0 (left - 1) ⌝ }
-{
-    if lost {
-        return 0;
-    }
-    left - 1
 }
 
 // One turn, with its text after what is gathered.

@@ -1,21 +1,17 @@
 -- Writing what was read gives back the bytes, and reading what was written gives back the plan.
-use mathlib.Core.Path.{_≡_, refl, sym, _∙_, ap}
-use mathlib.Core.Bool.{Bool, true, false}
+use mathlib.Core.Path.{_≡_, refl, _∙_, ap}
+use mathlib.Core.Bool.{Bool, true}
 use mathlib.Core.List.{List, _++_}
-use Prim.Native.Nat.{ℕ, _≤_, _<_}
-use native.Mathlib.Omega.{arith}
-use lib.ListN.{length, take, drop}
-use lib.Seq.{take-append-seam}
+use Prim.Native.Nat.{ℕ, _≤_}
+use lib.ListN.{length, drop}
 use borrow.Author.Tests.{le-leb}
 use Rattle.plan.specs.declared.Plan.{Plan}
-use Rattle.plan.specs.Limits.{FileRules}
 use Rattle.plan.specs.Reading.{readPlan}
 use Rattle.plan.specs.Encoding.{encode}
-use Rattle.plan.specs.Spare.{zeroed}
-use Rattle.activity.specs.Tells.{Tells, holds, fails, told-true}
+use Rattle.activity.specs.Tells.{Tells, holds, fails}
 use Rattle.limits.specs.Limits.{fileRules}
 use Rattle.limits.specs.Files.{tells-file-rules}
-use Rattle.roundtrip.specs.RoundTrip.{Bytes, accepted, read-written, written-read}
+use Rattle.roundtrip.specs.RoundTrip.{Bytes, accepted, written-read}
 use Rattle.writing.specs.Writing.{writtenOf, bufferOf}
 use Rattle.writing.specs.declared.Written.{Written}
 
@@ -42,10 +38,3 @@ written-back b out p bytes e room =
       written p out rules room′ ∙ ap (λ (x : List ℕ). Written.Bytes (length x)) (h .encoded),
       buffer p out rules room′ ∙ ap (λ (x : List ℕ). x ++ drop (length x) out) (h .encoded),
     )
-
--- the bytes that were written are read as the plan, with zeros in its spare room
-pub read-back : (p : Plan) (out : List ℕ) → Bytes (encode p) → fileRules p ≡ true → length (encode p) ≤ length out
-    → readPlan (take (length (encode p)) (bufferOf p out)) ≡ accepted (zeroed p)
-read-back p out bytes rules room =
-    rw (buffer p out rules room, take-append-seam (encode p) (drop (length (encode p)) out))
-    (read-written (encode p) bytes p (told-true (tells-file-rules p) rules) refl)

@@ -6,7 +6,9 @@
     feature = "rattle_write_back",
     feature = "rattle_activities",
     feature = "rattle_judge",
-    feature = "rattle_drive"
+    feature = "rattle_drive",
+    feature = "rattle_made_up",
+    feature = "rattle_timetable"
 ))]
 mod linked {
     extern "C" {
@@ -20,6 +22,10 @@ mod linked {
         pub fn jidlekuvo_judge(bytes: *const u8, length: usize) -> u64;
         #[cfg(feature = "rattle_drive")]
         pub fn jidlekuvo_drive(input: *const u8, length: usize, out: *mut u8, room: usize) -> usize;
+        #[cfg(feature = "rattle_made_up")]
+        pub fn jidlekuvo_made_up(bytes: *const u8, length: usize, out: *mut u8, room: usize) -> usize;
+        #[cfg(feature = "rattle_timetable")]
+        pub fn jidlekuvo_timetable(input: *const u8, length: usize, out: *mut u8, room: usize) -> usize;
     }
 }
 
@@ -56,6 +62,20 @@ pub fn judge(bytes: &[u8]) -> u64 {
 pub fn drive(input: &[u8], out: &mut [u8]) -> usize {
     // SAFETY: the function reads one slice and writes inside the other.
     unsafe { linked::jidlekuvo_drive(input.as_ptr(), input.len(), out.as_mut_ptr(), out.len()) }
+}
+
+/// Two calls of a made-up run: how many bytes of records were written, or number * 2^32.
+#[cfg(feature = "rattle_made_up")]
+pub fn made_up(bytes: &[u8], out: &mut [u8]) -> usize {
+    // SAFETY: the function reads one slice and writes inside the other.
+    unsafe { linked::jidlekuvo_made_up(bytes.as_ptr(), bytes.len(), out.as_mut_ptr(), out.len()) }
+}
+
+/// The timetable of an input: the text's length, or 36 * 2^32.
+#[cfg(feature = "rattle_timetable")]
+pub fn timetable_into(input: &[u8], out: &mut [u8]) -> usize {
+    // SAFETY: the function reads one slice and writes inside the other.
+    unsafe { linked::jidlekuvo_timetable(input.as_ptr(), input.len(), out.as_mut_ptr(), out.len()) }
 }
 
 /// Where the Rattle side is built: the repository's target folder, or JIDLEKUVO_TARGET.

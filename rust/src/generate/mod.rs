@@ -6,6 +6,7 @@ pub mod damage;
 pub mod hosts;
 pub mod inputs;
 pub mod layout;
+pub mod made_up;
 pub mod openings;
 pub mod plans;
 pub mod random;

@@ -7,7 +7,7 @@ mod write;
 
 pub use field_kind::{FieldKind, FIELD_KINDS};
 pub use read::{faulty_field, read};
-pub use rules::meets_file_rules;
+pub use rules::{is_in_limits, meets_file_rules};
 pub use write::{encode, write};
 
 pub const MOST_RESOURCES: u64 = 16;

@@ -9,9 +9,20 @@ fn within(value: usize, least: u64, most: u64) -> bool {
 /// Whether a plan keeps every rule of the section "The plan file". (What an activity or the
 /// automaton must satisfy is another section.)
 pub fn meets_file_rules(plan: &Plan) -> bool {
+    is_in_limits(plan) && plan.activities.iter().flatten().all(is_writable)
+}
+
+/// Whether every count, number and duration of a plan lies within the limits of that section.
+pub fn is_in_limits(plan: &Plan) -> bool {
     sections_meet(plan)
         && plan.activities.iter().all(|activity| activity_meets(plan, activity))
         && automaton_meets(plan)
+}
+
+/// The two rules that are no limits: claims and releases have no duration, and predecessors are
+/// "strictly rising".
+fn is_writable(node: &Node) -> bool {
+    (node.is_executed() || node.duration == 0) && node.predecessors.windows(2).all(|pair| pair[0] < pair[1])
 }
 
 fn sections_meet(plan: &Plan) -> bool {
@@ -34,13 +45,10 @@ fn node_meets(plan: &Plan, node: &Node, nodes: usize) -> bool {
         Kind::Claim(resource) | Kind::Release(resource) => resource < plan.resources,
         Kind::Event(event) => (event as usize) < plan.events.len(),
     };
-    let longest = if node.is_executed() { LONGEST_DURATION } else { 0 };
-    let predecessors = &node.predecessors;
     named
-        && node.duration as u64 <= longest
-        && within(predecessors.len(), 0, MOST_PREDECESSORS)
-        && predecessors.iter().all(|&p| (p as usize) < nodes)
-        && predecessors.windows(2).all(|pair| pair[0] < pair[1])
+        && node.duration as u64 <= LONGEST_DURATION
+        && within(node.predecessors.len(), 0, MOST_PREDECESSORS)
+        && node.predecessors.iter().all(|&p| (p as usize) < nodes)
 }
 
 fn automaton_meets(plan: &Plan) -> bool {

@@ -139,29 +139,43 @@ impl Run {
             (Kind::Event(event), Some(outcome)) if outcome >= self.plan.events[event as usize] => {
                 self.refused(55, reading)
             }
-            _ => self.accept_report(reading, place, outcome),
+            (Kind::Event(event), Some(outcome)) => self.accept_report(reading, place, Some((event, outcome))),
+            _ => self.accept_report(reading, place, None),
         }
     }
 
     /// "An accepted report is taken; if loading after it fails the answer is stopped, the report
-    /// and any path loaded before still count".
-    fn accept_report(mut self, reading: u64, place: usize, outcome: Option<u8>) -> (Reply, Run) {
+    /// and any path loaded before still count". A completion loads nothing: a path is loaded "in the
+    /// call that reports the awaited outcome".
+    fn accept_report(mut self, reading: u64, place: usize, told: Option<(u8, u8)>) -> (Reply, Run) {
         let before = broken(Broken::FailedReportForgotten).then(|| self.clone());
         self.last_reading = reading;
         let entry = self.window[place];
         if !broken(Broken::ReportedStillCounts) {
-            self.window.swap_remove(place);
+            // The others keep their order: of two that are alike the first is taken.
+            self.window.remove(place);
         }
-        if let Some(outcome) = outcome {
-            self.outcomes.insert((entry.time.position, entry.time.node), outcome);
-        }
-        let loading = self.load_decided_paths();
+        let loading = match told {
+            Some((event, outcome)) => {
+                self.keep_outcome(event, (entry.time.position, entry.time.node), outcome);
+                self.load_decided_paths()
+            }
+            None => Ok(()),
+        };
         if broken(Broken::ReportedStillCounts) {
             self.window.retain(|e| e.time != entry.time);
         }
         match loading {
             Ok(()) => (Reply::Taken, self),
             Err(number) => before.unwrap_or(self).stopped(Stop { number, node: None }, reading),
+        }
+    }
+
+    /// An outcome is kept for the event's instance; a made-up entry may have none.
+    fn keep_outcome(&mut self, event: u8, node: (u64, u8), outcome: u8) {
+        let mut pending = self.moment.pending[event as usize].iter();
+        if pending.any(|instance| (instance.position, instance.node) == node) {
+            self.outcomes.insert(node, outcome);
         }
     }
 }

@@ -2,7 +2,7 @@
 //! limits". Limits, not consistency: other made-up runs get a reply.
 
 use super::{Entry, Run, Stop};
-use crate::plan_file::{meets_file_rules, MOST_NODES};
+use crate::plan_file::{is_in_limits, MOST_NODES};
 use crate::specified_times::incremental::MOST_PENDING;
 use crate::toggles::{broken, Broken};
 use crate::{HORIZON, LAST_POSITION};
@@ -12,7 +12,7 @@ impl Run {
         // The slack is looked at first because a run of zeros has no plan to speak of.
         (Run::LEAST_SLACK..=Run::MOST_SLACK).contains(&self.slack)
             && self.psi <= HORIZON
-            && meets_file_rules(&self.plan)
+            && is_in_limits(&self.plan)
             && self.state < self.plan.automaton.states
             // One past the last position is a good run, whose next loading is 44.
             && self.next_position <= LAST_POSITION + 1
@@ -32,8 +32,11 @@ impl Run {
             && moment.last_completions.iter().all(|&time| time <= HORIZON)
             && moment.pending.len() == events
             && moment.pending.iter().all(|pending| pending.len() <= MOST_PENDING)
+            // An instance is told apart by position and node alone, so these have the paper's limits.
             && moment.pending.iter().flatten().all(|instance| {
-                instance.completion <= HORIZON && self.names_a_node(instance.activity, instance.node)
+                instance.position <= LAST_POSITION
+                    && (instance.node as u64) < MOST_NODES
+                    && instance.completion <= HORIZON
             })
     }
 

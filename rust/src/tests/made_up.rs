@@ -41,6 +41,8 @@ const OUT_OF_LIMITS: &[Push] = &[
         let one = run.moment.pending[0][0];
         run.moment.pending[0].extend([one; 8]);
     }),
+    ("instance position", |run| run.moment.pending[0][0].position = LAST_POSITION + 1),
+    ("instance node", |run| run.moment.pending[0][0].node = 64),
     ("stop", |run| run.stop = Some(Stop { number: 45, node: None })),
     ("node of a stop", |run| run.stop = Some(Stop { number: 41, node: Some((0, 64)) })),
 ];
@@ -63,6 +65,37 @@ fn last_position() -> Result<(), String> {
 
 fn past_the_end() -> Reply {
     Reply::Stopped(Stop { number: 44, node: None })
+}
+
+/// A claim that takes time and a predecessor named twice break rules of the file, which are no
+/// limits; nor is the node of an instance held to its activity.
+fn rules_that_are_no_limits() -> Result<(), String> {
+    let pushes: [Push; 3] = [
+        ("duration of a claim", |run| Arc::make_mut(&mut run.plan).activities[0][0].duration = 5),
+        ("a predecessor twice", |run| {
+            Arc::make_mut(&mut run.plan).activities[0][3].predecessors.push(2);
+        }),
+        ("node of an instance", |run| run.moment.pending[0][0].node = 63),
+    ];
+    for (what, push) in pushes {
+        let mut run = opened();
+        push(&mut run);
+        wants(what, run, Some(Reply::Start { position: 0, activity: 0, node: 2 }))?;
+    }
+    Ok(())
+}
+
+/// Event 0's outcome is already reported: the completion of an action loads nothing all the same.
+fn completion_loads_nothing() -> Result<(), String> {
+    let mut run = opened();
+    run.window.retain(|entry| entry.time.node == 2);
+    run.window[0].started = true;
+    run.outcomes.insert((0, 4), 1);
+    let (reply, after) = run.clone().completion(10, 0, 2);
+    match reply == Reply::Taken && after.window.is_empty() && after.state == run.state {
+        true => Ok(()),
+        false => Err(format!("completion with a reported outcome: {reply:?}")),
+    }
 }
 
 /// An entry that names a claim or a release is within the limits: ask starts it when it is due, and
@@ -160,6 +193,8 @@ pub fn made_up_runs() -> Result<(), String> {
     odd.window.clear();
     wants("an empty window at a waiting state waits", odd, Some(Reply::Wait))?;
     last_position()?;
+    rules_that_are_no_limits()?;
+    completion_loads_nothing()?;
     entries_of_claims_and_releases()?;
     endless_paths()?;
     longest_path()

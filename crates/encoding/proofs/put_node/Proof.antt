@@ -5,7 +5,7 @@ use Prim.Native.Nat.{ℕ, _+_, _*_, _-_, _≤_, _<_}
 use Rattle.puts.specs.Puts.{Puts, puts-none, puts-join, puts-length}
 use Rattle.wire.specs.Number.{present, bytesOf, optionalBytes}
 use Rattle.wire.specs.Fields.{length-bytes, length-optional}
-use Rattle.roundtrip.specs.Longest.{kind-length, input-length, output-length, node-length, move-length, activities-length}
+use Rattle.encoding.specs.Longest.{kind-length, input-length, output-length, node-length, move-length, activities-length}
 use Rattle.plan.specs.Encoding.{nodeMap, predBytes, encodeNode}
 use borrow.Author.Needs.{needs}
 use Rattle.encoding.proofs.put_node.Statement.{statement}

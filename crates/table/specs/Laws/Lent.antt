@@ -7,7 +7,7 @@ use native.Mathlib.Nat.{zero-add}
 use native.Mathlib.Omega.{arith}
 use borrow.Author.Tests.{le-leb, lt-leb}
 use lib.ListN.{length, take, drop}
-use lib.Seq.{sets, sets-eq, paste, length-take-le, take-append-seam}
+use lib.Seq.{sets, sets-eq, length-take-le, take-append-seam}
 use Rattle.puts.specs.Puts.{Puts, puts-length}
 use Rattle.table.specs.declared.Put.{Put}
 use Rattle.table.specs.Lent.{putOf, bufferOf, pastOf, Lends}
@@ -44,15 +44,8 @@ module _ (out : List ℕ) (at : ℕ) (text : List ℕ) where
 
 -- the first n bytes of a text, copied
 module _ (out : List ℕ) (at : ℕ) (text : List ℕ) (n : ℕ) (h : n ≤ length text) where
-  pub lends-copied : at + n ≤ length out → (after : List ℕ) → after ≡ paste out at text n → Lends out at (take n text) after (Put.Past (at + n))
-  lends-copied k after e =
-      let z = length-take-le n text h in
-      let m : at + length (take n text) ≤ length out = omega arith in
-      lends-past out at (take n text) m after (at + n)
-      (record {
-        past = omega arith;
-        left = e ∙ sym (sets-eq (take n text) out at m ∙ ap (λ (j : ℕ). take at out ++ take n text ++ drop (at + j) out) z);
-      })
+  pub lends-copied : at + n ≤ length out → (after : List ℕ) (next : ℕ) → Puts out at (take n text) after next → Lends out at (take n text) after (Put.Past next)
+  lends-copied k after next p = let z = length-take-le n text h in lends-past out at (take n text) (omega arith) after next p
 
   pub lends-nothing : length out < at + n → Lends out at (take n text) out Put.TooShort
   lends-nothing k = let z = length-take-le n text h in lends-short out at (take n text) (omega arith)

@@ -3,8 +3,8 @@ use mathlib.Core.Path.{sym, ap}
 use mathlib.Core.Bool.{Bool, cond}
 use Prim.Native.Nat.{_+_}
 use borrow.Author.Needs.{needs}
-use Rattle.timetable.proofs.counted.Statement.{statement}
-use Rattle.timetable.proofs.counted.Tie as tie
+use Rattle.table.proofs.turns.counted.Statement.{statement}
+use Rattle.table.proofs.turns.counted.Tie as tie
 
 add-result : tie.Need-add-result
 add-result c = search needs

@@ -1,7 +1,7 @@
 -- `left_after` meets its contract. Assumes nothing.
 use borrow.Author.Needs.{needs}
-use Rattle.timetable.proofs.left_after.Statement.{statement}
-use Rattle.timetable.proofs.left_after.Tie as tie
+use Rattle.table.proofs.turns.left_after.Statement.{statement}
+use Rattle.table.proofs.turns.left_after.Tie as tie
 
 returns : tie.Need-returns
 returns c = search needs

@@ -2,6 +2,8 @@
 //! it. Every value has a fixed place, numbers are lowest byte first, and what lies past a count is
 //! zeros. The order is that of the parts below; bytes past the end count as 0.
 
+pub mod limits;
+
 use crate::drive::{reply_record, RECORD};
 use crate::plan_file::{Automaton, Kind, Node, Plan, Transition};
 use crate::run::{Call, Entry, Reply, Request, Run, Stop};

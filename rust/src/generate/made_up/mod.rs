@@ -1,0 +1,186 @@
+//! Runs that no opening made: runs that openings and calls produced, with stored values pushed to a
+//! limit or one past it, and two calls of each.
+
+mod of_plans;
+mod of_runs;
+
+pub use of_plans::OF_PLANS;
+pub use of_runs::OF_RUNS;
+
+use super::hosts::{self, HOSTS};
+use super::openings::opening;
+use super::Random;
+use crate::activity_rules::before;
+use crate::made_up::limits::Limits;
+use crate::plan_file::{Automaton, Kind};
+use crate::run::{Call, Entry, Request, Run};
+use crate::specified_times::incremental::shapes;
+use std::collections::{BTreeMap, BTreeSet};
+use std::sync::Arc;
+
+/// A limit's name, as in `made_up/limits.rs`, and what sets a stored value to it (`past` is 0) or one
+/// past it (1). Where the run has no such value, nothing is pushed.
+pub type Push = (&'static str, fn(&mut Random, &mut Run, u8) -> Option<()>);
+
+/// The last number that names one of so many, or the one past it.
+fn last(count: usize, past: u8) -> Option<u8> {
+    (count as u8).checked_sub(1)?.checked_add(past)
+}
+
+fn any<'a, T>(random: &mut Random, of: &'a mut [T]) -> Option<&'a mut T> {
+    let place = random.below(of.len());
+    of.get_mut(place)
+}
+
+/// A run after some calls of some host.
+fn run_of_a_host(random: &mut Random) -> Run {
+    let opening = opening(random);
+    let host = random.pick(&HOSTS);
+    let calls = hosts::calls(random, &opening, host, 16);
+    let some = random.below(calls.len() + 1);
+    let (_, run) = Run::open(&opening);
+    calls[..some].iter().fold(run, |run, &call| run.call(call).1)
+}
+
+/// "A waiting state is any state whose transitions carry an event": what a state does whose
+/// transitions carry different events, or only some of them one, is left open.
+fn is_clear(automaton: &Automaton) -> bool {
+    (0..automaton.states).all(|state| {
+        let ways = automaton.ways_out(state);
+        let event = |n: usize| ways.get(n).and_then(|way| way.input).map(|(event, _)| event);
+        (1..ways.len()).all(|n| event(n) == event(0))
+    })
+}
+
+fn are_different<T: Ord>(items: impl Iterator<Item = T>) -> bool {
+    let mut seen = BTreeSet::new();
+    items.into_iter().all(|item| seen.insert(item))
+}
+
+/// Whether entries of one identity have the same times. "The one at the lowest place is taken" then.
+fn are_alike(window: &[Entry]) -> bool {
+    let mut times = BTreeMap::new();
+    window.iter().map(|entry| entry.time).all(|time| {
+        let here = (time.start, time.completion);
+        *times.entry((time.position, time.node)).or_insert(here) == here
+    })
+}
+
+/// Whether two entries have one identity.
+pub fn has_twins(run: &Run) -> bool {
+    !are_different(run.window.iter().map(|entry| (entry.time.position, entry.time.node)))
+}
+
+/// Whether the papers and the decisions say what such a run answers: no node with two times, no
+/// instance twice, no activity with a cycle, no state with two minds.
+fn is_told(run: &Run) -> bool {
+    let pending = run.moment.pending.iter().flatten();
+    are_alike(&run.window)
+        && are_different(pending.map(|instance| (instance.position, instance.node)))
+        && run.plan.activities.iter().all(|activity| {
+            let before = before(activity);
+            (0..activity.len()).all(|node| !before[node][node])
+        })
+        && is_clear(&run.plan.automaton)
+}
+
+/// Pushes a value of some limit. One within the limits whose answers would be untold is taken back.
+fn pushed(random: &mut Random, run: Run, past: u8) -> Run {
+    let table = if random.one_in(2) { OF_PLANS } else { OF_RUNS };
+    let (_, push) = random.pick(table);
+    let mut tried = run.clone();
+    if push(random, &mut tried, past).is_none() {
+        return run;
+    }
+    if !Limits::of(&tried).are_kept() {
+        return tried;
+    }
+    if !is_told(&tried) {
+        return run;
+    }
+    tried.shapes = Arc::new(shapes(&tried.plan));
+    tried
+}
+
+/// One more entry of a node that the window holds, of any activity that has such a node.
+fn with_a_twin(random: &mut Random, mut run: Run) -> Run {
+    if run.window.is_empty() || run.window.len() == Run::WINDOW {
+        return run;
+    }
+    let mut twin = random.pick(&run.window);
+    let activity = random.below(run.plan.activities.len());
+    if run.plan.activities.get(activity).is_some_and(|nodes| nodes.len() > twin.time.node as usize) {
+        twin.time.activity = activity as u8;
+    }
+    twin.started = random.one_in(2);
+    run.window.insert(random.below(run.window.len() + 1), twin);
+    run
+}
+
+/// A made-up run: up to two values stand at a limit, and at most one is one past it.
+pub fn run(random: &mut Random) -> Run {
+    let mut run = run_of_a_host(random);
+    for _ in 0..random.below(3) {
+        run = pushed(random, run, 0);
+    }
+    if random.one_in(3) {
+        run.stop = None;
+    }
+    if random.one_in(8) {
+        run = with_a_twin(random, run);
+    }
+    if random.one_in(40) {
+        run.last_reading = random.pick(&[0, u64::MAX, run.psi]);
+    }
+    match random.one_in(2) {
+        true => pushed(random, run, 1),
+        false => run,
+    }
+}
+
+/// A reading around the moments that matter.
+fn reading(random: &mut Random, run: &Run) -> u64 {
+    let last = run.last_reading;
+    let clock = |time: u64| run.psi.saturating_add(time);
+    let near = random.pick(&[0, 0, 1, 1, 2, run.slack, run.slack.saturating_add(1)]);
+    let at = match (random.below(8), run.window.is_empty()) {
+        (0..=3, false) => clock(random.pick(&run.window).time.start).saturating_add(near),
+        (4, false) => clock(random.pick(&run.window).time.completion).saturating_add(near).saturating_sub(1),
+        (5, _) => return last.saturating_sub(near),
+        (6, _) if random.one_in(20) => u64::MAX,
+        _ => last,
+    };
+    if random.one_in(20) {
+        at
+    } else {
+        at.max(last)
+    }
+}
+
+/// A call: an ask, a fitting report, or any report of an entry.
+fn call(random: &mut Random, run: &Run) -> Call {
+    let reading = reading(random, run);
+    let started: Vec<_> = run.window.iter().filter(|entry| entry.started).collect();
+    let entry = match (random.one_in(3), started.is_empty()) {
+        (_, true) | (true, _) => run.window.get(random.below(run.window.len())),
+        _ => Some(started[random.below(started.len())]),
+    };
+    let (position, node) = entry.map_or((0, 0), |entry| (entry.time.position as u32, entry.time.node));
+    let node = if random.one_in(30) { node ^ 1 } else { node };
+    let outcome = random.pick(&[0, 0, 0, 1, 1, 2, 7, 8]);
+    let nodes = entry.and_then(|entry| run.plan.activities.get(entry.time.activity as usize));
+    let is_event = nodes.and_then(|n| n.get(node as usize)).is_some_and(|n| matches!(n.kind, Kind::Event(_)));
+    let request = match (random.below(10), is_event) {
+        (0..=3, _) => Request::Ask,
+        (4, false) | (5..=9, true) => Request::Outcome { position, node, outcome },
+        _ => Request::Completion { position, node },
+    };
+    Call { reading, request }
+}
+
+/// Two calls, the second made for the run after the first.
+pub fn calls(random: &mut Random, run: &Run) -> [Call; 2] {
+    let first = call(random, run);
+    let (_, after) = run.clone().call(first);
+    [first, call(random, &after)]
+}

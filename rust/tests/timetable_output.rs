@@ -1,0 +1,133 @@
+//! The text of the program *timetable* on its way out: texts longer than its buffer, a full device,
+//! a reader that closes. After a failed write it ends without reading on.
+
+#![cfg(feature = "rattle_timetable")]
+
+use jidlekuvo_reference::compare::rattle;
+use jidlekuvo_reference::generate::plan_t;
+use jidlekuvo_reference::timetable::timetable;
+use std::fs::OpenOptions;
+use std::io::Write;
+use std::path::Path;
+use std::process::{Child, Command, ExitStatus, Stdio};
+use std::time::{Duration, Instant};
+
+/// Past so many bytes the program hands on what it has gathered.
+const GATHERED: usize = 61_440;
+
+/// A plan of one activity (a claim, actions in a chain, a release), emitted on the way from each
+/// state to the next.
+fn chain(actions: u8, states: u8) -> Vec<u8> {
+    let mut plan = vec![0x1B, 1, 1, 0, 1, actions + 2, 2, 0];
+    for n in 0..actions {
+        plan.extend([0x31, 0, 0]);
+        plan.extend(60_000_000u32.to_le_bytes());
+        plan.extend([1, n]);
+    }
+    plan.extend([0x24, 0, 1, actions]);
+    plan.extend([states, 0]);
+    plan.extend((1u64 << (states - 1)).to_le_bytes());
+    plan.extend((states as u16 - 1).to_le_bytes());
+    for state in 0..states - 1 {
+        plan.extend([2, state, state + 1, 0]);
+    }
+    plan
+}
+
+fn input_of(plan: &[u8]) -> Vec<u8> {
+    [&(plan.len() as u16).to_le_bytes()[..], plan].concat()
+}
+
+fn printed(input: &[u8]) -> String {
+    let text = rattle::timetable(input).expect("the program timetable runs");
+    String::from_utf8(text).expect("the text is ASCII")
+}
+
+/// Whether the buffer's mark falls inside the text of one position.
+fn crosses_inside_a_turn(text: &str) -> bool {
+    let line = text[..GATHERED].rfind('\n').map_or(0, |at| at + 1);
+    let position = |at: usize| text[at..].split(' ').next().unwrap_or("").to_owned();
+    let before = text[..line - 1].rfind('\n').map_or(0, |at| at + 1);
+    text.len() > GATHERED && position(line) == position(before)
+}
+
+#[test]
+fn a_text_of_twice_the_buffer_comes_out_whole() {
+    let plan = chain(62, 64);
+    assert_eq!(plan.len(), 834);
+    let text = printed(&input_of(&plan));
+    assert_eq!(text.lines().count(), 3_909);
+    assert_eq!(text.len(), 127_966);
+    assert!(text == timetable(&input_of(&plan)));
+}
+
+#[test]
+fn texts_that_cross_the_mark_agree() {
+    let mut inside = 0;
+    for actions in 28..=62 {
+        let input = input_of(&chain(actions, 64));
+        let wanted = timetable(&input);
+        inside += usize::from(wanted.len() > GATHERED && crosses_inside_a_turn(&wanted));
+        assert!(printed(&input) == wanted, "{actions} actions");
+    }
+    assert!(inside > 20, "only {inside} texts cross the mark inside a turn");
+}
+
+/// The program with its input written and left open, so that one that reads on waits for ever.
+fn started(input: &[u8], out: Stdio) -> (Child, impl Write) {
+    let program = rattle::target_folder().join("bin/timetable");
+    let mut child =
+        Command::new(program).stdin(Stdio::piped()).stdout(out).spawn().expect("the program starts");
+    let mut stdin = child.stdin.take().expect("stdin is piped");
+    stdin.write_all(input).expect("a pipe holds the input");
+    (child, stdin)
+}
+
+fn ends(mut child: Child) -> ExitStatus {
+    let start = Instant::now();
+    while start.elapsed() < Duration::from_secs(20) {
+        if let Some(status) = child.try_wait().expect("the program can be waited for") {
+            return status;
+        }
+        std::thread::sleep(Duration::from_millis(10));
+    }
+    let _ = child.kill();
+    panic!("the program went on after a failed write");
+}
+
+fn full() -> Stdio {
+    OpenOptions::new().write(true).open("/dev/full").expect("there is a full device").into()
+}
+
+#[test]
+fn a_full_device_ends_the_program_before_it_reads_on() {
+    let (child, stdin) = started(&input_of(&plan_t()), full());
+    ends(child);
+    drop(stdin);
+}
+
+#[test]
+fn a_reader_that_closes_ends_the_program_before_it_reads_on() {
+    let (mut child, stdin) = started(&input_of(&plan_t())[..10], Stdio::piped());
+    drop(child.stdout.take());
+    let mut stdin = stdin;
+    stdin.write_all(&input_of(&plan_t())[10..]).expect("a pipe holds the input");
+    ends(child);
+    drop(stdin);
+}
+
+fn command(out: Stdio) -> Child {
+    let root = Path::new(env!("CARGO_MANIFEST_DIR")).join("..");
+    let mut command = Command::new(root.join("timetable"));
+    command.arg(root.join("examples/T.hex")).args(["0", "1"]).stdin(Stdio::null()).stderr(Stdio::null());
+    command.stdout(out).spawn().expect("the command starts")
+}
+
+#[test]
+fn the_command_ends_with_2_where_its_output_fails() {
+    assert_eq!(ends(command(Stdio::null())).code(), Some(0));
+    assert_eq!(ends(command(full())).code(), Some(2));
+    let mut closed = command(Stdio::piped());
+    drop(closed.stdout.take());
+    assert_eq!(ends(closed).code(), Some(2));
+}
