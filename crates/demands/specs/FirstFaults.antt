@@ -38,7 +38,7 @@ StatementLocal =
     (b c : List ℕ) (f : Fault) (k : ℕ) → Bytes b → Bytes c → (r : FirstFault 1 faultOrder b planFile 0 (numberOf f) k)
     → k + r .width ≤ length b → Agree (k + r .width) b c → Unread c f k
 
--- the field itself holds nothing where the bytes end inside it: so do those of c, which agree up to its place
+-- of a field that is cut off it is that alone: c agrees with b up to the field's place, and ends inside the field
 abbrev pub StatementCut : Type 0
 StatementCut =
     (b c : List ℕ) (f : Fault) (k : ℕ) → Bytes b → Bytes c → (r : FirstFault 1 faultOrder b planFile 0 (numberOf f) k)
