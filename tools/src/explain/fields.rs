@@ -190,11 +190,12 @@ impl Field {
     pub fn said(&self, names: &Names, length: usize) -> String {
         let start = format!("byte {}: {}, {}", self.place, self.owner.said(names), self.what);
         let Some(value) = self.value else {
-            let bytes = if self.width == 1 { "1 byte".into() } else { format!("{} bytes", self.width) };
-            return format!("{start}: {bytes} long, and the file ends after {length}");
+            return format!("{start}: {}, and the file ends after {}", bytes(self.width), bytes(length));
         };
         match self.rule {
-            Rule::NoMore => format!("byte {}: {} left over {}", self.place, length - self.place, self.what),
+            Rule::NoMore => {
+                format!("byte {}: {} left over {}", self.place, bytes(length - self.place), self.what)
+            }
             Rule::SectionMap | Rule::NodeMap | Rule::TransitionMap | Rule::FinalBits { .. } => {
                 format!(
                     "{start}: {value:0width$X} (hexadecimal), {}",
@@ -226,6 +227,11 @@ impl Field {
             Rule::AnyNumber | Rule::NoMore => "any value is good".into(),
         }
     }
+}
+
+/// "1 byte", "4 bytes".
+fn bytes(count: usize) -> String {
+    format!("{count} byte{}", if count == 1 { "" } else { "s" })
 }
 
 fn numbered(how_many: u64, what: &str) -> String {

@@ -259,9 +259,9 @@ fn sentences_of_fields() {
     assert_eq!(with(5, 2), "byte 5: peripheral p2, resource: 2, the last resource is 1");
     assert_eq!(with(32, 0), "byte 32: activity a0, node n3, predecessor: 0, not above the one before it, 0");
     let cut = explain(&t[..28], &Names::default(), Fault::new(1, 26)).unwrap();
-    assert_eq!(cut, "byte 26: activity a0, node n3, duration: 4 bytes long, and the file ends after 28");
+    assert_eq!(cut, "byte 26: activity a0, node n3, duration: 4 bytes, and the file ends after 28 bytes");
     let longer = [&t[..], &[0]].concat();
     let left = explain(&longer, &Names::default(), Fault::new(6, 93)).unwrap();
-    assert_eq!(left, "byte 93: 1 left over after the last transition");
+    assert_eq!(left, "byte 93: 1 byte left over after the last transition");
     assert!(read(&t).is_ok());
 }
