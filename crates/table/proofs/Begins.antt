@@ -1,6 +1,6 @@
 -- The table before its first turn, by the verdict on the plan.
 use mathlib.Core.Path.{_≡_, refl, sym, ap, _∙_, subst}
-use mathlib.Core.Bool.{Bool, true, false}
+use mathlib.Core.Bool.{Bool, false}
 use mathlib.Core.List.{List}
 use Prim.Native.Nat.{ℕ, _<_}
 use lib.ListN.{getD}
@@ -8,11 +8,9 @@ use Rattle.plan.specs.Fault.{numberOf}
 use Rattle.plan.specs.declared.Fault.{Fault}
 use Rattle.plan.specs.declared.PlanRead.{PlanRead}
 use Rattle.plan.specs.declared.Verdict.{Verdict}
-use Rattle.plan.specs.declared.Plan.{Plan}
 use Rattle.judge.specs.Judge.{judgeOf}
 use Rattle.timing.specs.declared.Progress.{Progress}
 use Rattle.lines.specs.Lines.{refused}
-use Rattle.table.specs.declared.Begun.{Begun}
 use Rattle.table.specs.declared.Put.{Put}
 use Rattle.table.specs.Turn.{isRefused, firstText, firstProgress, Open}
 use Rattle.table.specs.Lent.{Lends}

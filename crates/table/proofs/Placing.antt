@@ -2,7 +2,7 @@
 use mathlib.Core.Path.{_≡_, refl, sym, ap, _∙_, subst}
 use mathlib.Core.Bool.{Bool, true, false, cond}
 use mathlib.Core.List.{List, [], _++_}
-use Prim.Native.Nat.{ℕ, zero, suc, _+_, _-_, _*_, _≤_, _<_}
+use Prim.Native.Nat.{ℕ, _+_, _-_, _≤_, _<_}
 use native.Mathlib.Nat.{add-zero}
 use native.Mathlib.Omega.{arith}
 use lib.ListN.{length, take, drop}
@@ -17,10 +17,10 @@ use Rattle.table.specs.declared.Heard.{Heard}
 use Rattle.table.specs.declared.Place.{Place}
 use Rattle.table.specs.Turn.{OneTurn, turnOf, headOf, turnsFrom, mostTurns, isRefused, firstText, firstProgress, Open}
 use Rattle.table.specs.Timetable.{textOfPlan}
-use Rattle.table.specs.Lent.{Lends, pastOf}
+use Rattle.table.specs.Lent.{pastOf}
 use Rattle.table.specs.Answers.{Begins, Drafts}
 use Rattle.table.specs.Whole.{leftText, Standing}
-use Rattle.table.specs.Laws.ByTurns.{never, plan-by-turns}
+use Rattle.table.specs.Laws.ByTurns.{plan-by-turns}
 use Rattle.table.specs.Laws.InLimits.{turn-open}
 use Rattle.table.specs.Laws.Lent.{lent-puts, put-front}
 use Rattle.table.specs.Laws.Short.{turn-short, first-short}

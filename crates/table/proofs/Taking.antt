@@ -4,7 +4,6 @@ use mathlib.Core.Bool.{Bool, true, false, cond}
 use mathlib.Core.List.{List}
 use Prim.Native.Nat.{ℕ, _<_, _≤_}
 use borrow.Author.Tests.{lt-ltb, le-ltb}
-use lib.Dec.{ltb}
 use Rattle.puts.specs.Puts.{Puts}
 use Rattle.plan.specs.Plan.{outcomesOf, move, nodesOf, emittedBy}
 use Rattle.plan.specs.declared.Node.{Node}
@@ -14,7 +13,6 @@ use Rattle.automaton.specs.Next.{nextOf, chosenOf}
 use Rattle.automaton.specs.declared.Next.{Next}
 use Rattle.automaton.specs.declared.Chosen.{Chosen}
 use Rattle.timing.specs.declared.Progress.{Progress}
-use Rattle.timing.specs.declared.Schedule.{Schedule}
 use Rattle.timing.specs.declared.Advanced.{Advanced}
 use Rattle.path.specs.Path.{activityNumber, entriesFrom, takenBy, entriesBy}
 use Rattle.lines.specs.Lines.{rows, ended, waiting, refused}

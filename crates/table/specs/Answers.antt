@@ -1,10 +1,9 @@
 -- What the functions of the table answer: the text is put into the lent buffer, and the rest is as it is defined.
 use mathlib.Core.Path.{_≡_}
-use mathlib.Core.Bool.{Bool, false}
+use mathlib.Core.Bool.{false}
 use mathlib.Core.List.{List}
-use Prim.Native.Nat.{ℕ, _+_, _≤_, _<_}
+use Prim.Native.Nat.{ℕ, _≤_, _<_}
 use Rattle.puts.specs.Puts.{Puts}
-use Rattle.plan.specs.Limits.{InLimits}
 use Rattle.plan.specs.declared.Plan.{Plan}
 use Rattle.judge.specs.Judge.{judgeOf}
 use Rattle.timing.specs.declared.Progress.{Progress}
@@ -12,7 +11,7 @@ use Rattle.table.specs.declared.Begun.{Begun}
 use Rattle.table.specs.declared.Drafted.{Drafted}
 use Rattle.table.specs.declared.Turned.{Turned}
 use Rattle.table.specs.Lent.{Lends}
-use Rattle.table.specs.Turn.{OneTurn, turnOf, isRefused, firstText, firstProgress, Open}
+use Rattle.table.specs.Turn.{OneTurn, isRefused, firstText, firstProgress, Open}
 
 -- the table of the plan `bytes` is begun at the front of a buffer
 pub record Begins (bytes before after : List ℕ) (r : Begun) : Type 0 where

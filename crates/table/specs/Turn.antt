@@ -10,7 +10,6 @@ use Rattle.plan.specs.Fault.{numberOf}
 use Rattle.plan.specs.Limits.{InLimits}
 use Rattle.plan.specs.declared.Plan.{Plan}
 use Rattle.plan.specs.declared.Verdict.{Verdict}
-use Rattle.judge.specs.Judge.{judgeOf}
 use Rattle.automaton.specs.Next.{nextOf, chosenOf}
 use Rattle.automaton.specs.declared.Next.{Next}
 use Rattle.automaton.specs.declared.Chosen.{Chosen}

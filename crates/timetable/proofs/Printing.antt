@@ -1,10 +1,10 @@
 -- Several turns: their texts in a row, and the turns that are left.
 use mathlib.Core.Path.{_≡_, refl, sym, ap, _∙_, subst}
 use mathlib.Core.Bool.{Bool, true, false, cond}
-use mathlib.Core.List.{List, [], _∷_, _++_, append-nil, append-assoc}
-use Prim.Native.Nat.{ℕ, zero, suc, _+_, _-_, _≤_, _<_}
+use mathlib.Core.List.{List, [], _++_, append-nil, append-assoc}
+use Prim.Native.Nat.{ℕ, suc, _-_, _≤_, _<_}
 use native.Mathlib.Omega.{arith}
-use lib.ListN.{length, take, drop}
+use lib.ListN.{length, take}
 use Rattle.plan.specs.declared.Plan.{Plan}
 use Rattle.judge.specs.Judge.{judgeOf}
 use Rattle.timing.specs.declared.Progress.{Progress}
@@ -18,7 +18,7 @@ use Rattle.table.specs.declared.Heard.{Heard}
 use Rattle.table.specs.declared.Put.{Put}
 use Rattle.timetable.specs.declared.Output.{Output}
 use Rattle.timetable.specs.declared.Between.{Between}
-use Rattle.timetable.specs.Between.{Gathers, HandsOn, Stands, Goes, Prints, Ends, Printed}
+use Rattle.timetable.specs.Between.{Gathers, HandsOn, Goes, Prints, Ends, Printed}
 use Rattle.timetable.proofs.Turning.{output, between}
 
 -- text that is handed on is no new text

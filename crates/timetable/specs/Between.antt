@@ -1,11 +1,11 @@
 -- What holds between two turns of the program: what was handed on and what is gathered are together the text so far.
 use mathlib.Core.Path.{_≡_}
-use mathlib.Core.Bool.{Bool, true, false, cond}
+use mathlib.Core.Bool.{false, cond}
 use mathlib.Core.List.{List, _++_}
 use Prim.Native.Nat.{ℕ, _+_, _-_, _*_, _≤_, _<_}
 use lib.ListN.{length, take, drop}
 use Rattle.plan.specs.declared.Plan.{Plan}
-use Rattle.table.specs.Turn.{OneTurn, turnOf, turnsFrom, waitsOf, readAfter, mostTurns, Open}
+use Rattle.table.specs.Turn.{turnOf, turnsFrom, readAfter, mostTurns, Open}
 use Rattle.table.specs.Timetable.{textOfPlan}
 use Rattle.table.specs.declared.Heard.{Heard}
 use Rattle.timetable.specs.declared.Output.{Output}

@@ -5,7 +5,7 @@ use mathlib.Core.List.{List, [], _∷_, _++_, append-nil}
 use Prim.Native.Nat.{ℕ, zero, suc, _+_, _*_, _≤_, _<_}
 use native.Mathlib.Omega.{arith}
 use borrow.Author.Tests.{lt-ltb, le-leb, lt-leb}
-use lib.Dec.{ltb, leb}
+use lib.Dec.{ltb}
 use lib.ListN.{length, take, drop}
 use Rattle.plan.specs.Plan.{outcomesOf, emittedBy, move}
 use Rattle.plan.specs.Fault.{numberOf}
@@ -28,7 +28,7 @@ use Rattle.outcomes.specs.Way.{onChosen}
 use Rattle.lines.specs.Lines.{header, rows, ended, waiting, refused}
 use Rattle.table.specs.declared.Heard.{Heard}
 use Rattle.table.specs.Timetable.{Move, onMove, moveBy, hear, tableFrom, positions, textOfPlan, judgedText, timetableOf}
-use Rattle.table.specs.Turn.{OneTurn, closes, takes, chooses, hears, turnBy, turnOf, isWaiting, waitsOf, headOf, readAfter, restOf, leftAfter, turnsFrom, mostTurns, isRefused, firstText, firstProgress}
+use Rattle.table.specs.Turn.{OneTurn, closes, takes, chooses, hears, turnBy, turnOf, isWaiting, waitsOf, headOf, readAfter, leftAfter, turnsFrom, mostTurns, isRefused, firstText, firstProgress}
 
 -- ---- the position
 

@@ -1,5 +1,5 @@
 -- An open table stays open: what a turn leaves is within the plan's limits. Assumes nothing.
-use mathlib.Core.Path.{_≡_, refl, sym, ap, _∙_, subst}
+use mathlib.Core.Path.{_≡_, refl, sym, _∙_, subst}
 use mathlib.Core.Bool.{Bool, true, false, cond}
 use mathlib.Core.List.{List, []}
 use Prim.Native.Nat.{ℕ, _<_}
@@ -19,7 +19,7 @@ use Rattle.automaton.specs.declared.Next.{Next}
 use Rattle.automaton.specs.declared.Chosen.{Chosen}
 use Rattle.timing.specs.declared.Progress.{Progress}
 use Rattle.path.specs.Path.{takenBy, entriesBy}
-use Rattle.path.specs.Pathed.{ProgressIn, Leads}
+use Rattle.path.specs.Pathed.{Leads}
 use Rattle.path.specs.Laws.Stepping.{next-leads, taken-kept}
 use Rattle.opening.specs.Given.{anyAbove}
 use Rattle.opening.specs.Laws.{first-in}

@@ -1,8 +1,8 @@
 -- How long the first line and the text of a turn are, at most: 50 bytes, and 64 rows. Assumes nothing.
 use mathlib.Core.Path.{_≡_, refl, ap}
 use mathlib.Core.Bool.{Bool, true, false, cond}
-use mathlib.Core.List.{List, [], _∷_, _++_}
-use Prim.Native.Nat.{ℕ, zero, suc, _+_, _*_, _≤_, _<_}
+use mathlib.Core.List.{List, [], _∷_}
+use Prim.Native.Nat.{ℕ, suc, _+_, _*_, _≤_, _<_}
 use native.Mathlib.Omega.{arith}
 use lib.Dec.{ltb}
 use lib.ListN.{length, length-append}
@@ -24,7 +24,7 @@ use Rattle.path.specs.Pathed.{Leads}
 use Rattle.path.specs.Inner.{emittedOf}
 use Rattle.path.specs.Laws.Emitting.{emitted-nodes, emitted-fits}
 use Rattle.path.specs.Laws.Stepping.{next-leads}
-use Rattle.lines.specs.Lines.{row, rows, ended, waiting, refused}
+use Rattle.lines.specs.Lines.{row, rows, refused}
 use Rattle.lines.specs.Laws.{header-length, row-within, ended-length, waiting-length, refused-length}
 use Rattle.table.specs.declared.Heard.{Heard}
 use Rattle.table.specs.Turn.{closes, takes, chooses, hears, turnBy, turnOf, firstText, Open}

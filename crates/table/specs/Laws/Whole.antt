@@ -4,7 +4,6 @@ use mathlib.Core.Bool.{Bool, true, false, cond}
 use mathlib.Core.List.{List, [], _∷_, _++_}
 use Prim.Native.Nat.{ℕ, zero, suc, _+_, _-_, _*_, _≤_, _<_}
 use native.Mathlib.Omega.{arith}
-use native.Mathlib.Numerals.{add-one}
 use borrow.Author.Tests.{le-leb, lt-leb}
 use lib.ListN.{length, take, drop, getD}
 use lib.Seq.{drop-cons, drop-drop}
@@ -16,7 +15,7 @@ use Rattle.lines.specs.Lines.{refused}
 use Rattle.table.specs.declared.Heard.{Heard}
 use Rattle.table.specs.declared.Place.{Place}
 use Rattle.table.specs.Turn.{OneTurn, turnOf, headOf, readAfter, restOf, leftAfter, turnsFrom}
-use Rattle.table.specs.Timetable.{afterLength, textOfPlan, timetableOf}
+use Rattle.table.specs.Timetable.{textOfPlan, timetableOf}
 use Rattle.table.specs.Whole.{leftText}
 
 -- ---- the next byte

@@ -2,7 +2,7 @@
 use mathlib.Core.Path.{_≡_, _∙_}
 use native.Mathlib.Omega.{arith}
 use lib.ListN.{length}
-use Rattle.timetable.specs.Between.{HandsOn, Stands, Prints}
+use Rattle.timetable.specs.Between.{Stands, Prints}
 use Rattle.timetable.proofs.Printing.{prints-same, prints-join, ends-lost, ends-whole}
 use borrow.Author.Needs.{needs}
 use Rattle.timetable.proofs.all_turns.Statement.{statement}

@@ -1,5 +1,5 @@
 -- `print_table` meets its contract: an accepted plan's table is open. Assumes nothing.
-use mathlib.Core.Path.{_≡_, refl, sym, _∙_}
+use mathlib.Core.Path.{refl, sym, _∙_}
 use native.Mathlib.Omega.{arith}
 use mathlib.Core.Bool.{false}
 use denote.Ref.{now}

@@ -4,7 +4,6 @@ use native.Mathlib.Decide.{decLe}
 use native.Mathlib.Omega.{arith}
 use borrow.Author.Tests.{le-leb, lt-leb}
 use mathlib.Core.Path.{sym, _∙_}
-use borrow.Author.Needs.{needs}
 use Rattle.table.proofs.lent.fits.Statement.{statement}
 use Rattle.table.proofs.lent.fits.Tie as tie
 

@@ -1,7 +1,4 @@
 -- `counted` meets its contract. Assumes nothing.
-use mathlib.Core.Path.{sym, ap}
-use mathlib.Core.Bool.{Bool, cond}
-use Prim.Native.Nat.{_+_}
 use borrow.Author.Needs.{needs}
 use Rattle.table.proofs.turns.counted.Statement.{statement}
 use Rattle.table.proofs.turns.counted.Tie as tie

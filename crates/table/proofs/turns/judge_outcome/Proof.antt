@@ -1,7 +1,6 @@
 -- `judge_outcome` meets its contract: 55, or the transition of the outcome. Assumes nothing.
-use mathlib.Core.Path.{_≡_, sym, ap, subst}
+use mathlib.Core.Path.{subst}
 use Prim.Native.Nat.{ℕ, _≤_, _<_}
-use native.Mathlib.Omega.{arith}
 use lib.ListN.{getD}
 use Rattle.table.proofs.Taking.{turns-closed, turns-had, turns-lacked}
 use borrow.Author.Needs.{needs}

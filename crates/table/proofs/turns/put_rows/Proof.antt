@@ -1,10 +1,10 @@
 -- `put_rows` meets its contract. The loop's invariant: what puts the rows that are left, puts all of them. Assumes nothing.
-use mathlib.Core.Path.{_≡_, refl, sym, ap, _∙_}
-use Prim.Native.Nat.{_+_, _-_, _≤_}
+use mathlib.Core.Path.{_≡_, sym, _∙_}
+use Prim.Native.Nat.{_-_, _≤_}
 use native.Mathlib.Omega.{arith}
 use borrow.Author.Needs.{needs}
 use lib.ListN.{length}
-use Rattle.table.proofs.Rows.{Putting, putting-starts, putting-row, putting-none, putting-ends}
+use Rattle.table.proofs.Rows.{Putting, putting-row, putting-none, putting-ends}
 use Rattle.table.proofs.turns.put_rows.Statement.{statement}
 use Rattle.table.proofs.turns.put_rows.Tie as tie
 

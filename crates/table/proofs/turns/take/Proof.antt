@@ -1,7 +1,6 @@
 -- `take` meets its contract: the rows of the transition, or 44. Assumes nothing.
-use mathlib.Core.Path.{_≡_, refl, sym, ap, _∙_, subst}
+use mathlib.Core.Path.{sym, ap, _∙_, subst}
 use Prim.Native.Nat.{ℕ, _≤_}
-use native.Mathlib.Omega.{arith}
 use Rattle.plan.specs.Plan.{move, nodesOf}
 use Rattle.plan.specs.declared.Activity.{Activity}
 use Rattle.plan.specs.Limits.{OutputNames}

@@ -1,5 +1,5 @@
 -- `turn` meets its contract: the text of a turn is short, and an open table stays open. Assumes nothing.
-use mathlib.Core.Path.{_≡_, sym, subst, _∙_}
+use mathlib.Core.Path.{sym, subst, _∙_}
 use native.Mathlib.Omega.{arith}
 use Rattle.table.specs.Turn.{Open}
 use Rattle.table.specs.Laws.InLimits.{turn-open}
