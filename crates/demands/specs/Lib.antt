@@ -37,6 +37,7 @@ pub mod FirstPlaces
 pub mod ConditionsMet
 pub mod ConditionsGive
 pub mod ConditionsHold
+pub mod Numbers
 pub mod LoadingFails
 -- and over the log
 pub mod ByLog
