@@ -34,6 +34,7 @@ pub mod Repeated
 -- Each reply of a call, in its condition and in no other
 pub mod Conditions
 pub mod ConditionsHold
+pub mod Numbers
 -- and over the log
 pub mod ByLog
 pub mod AnswersByLog
