@@ -21,7 +21,7 @@ const KINDS: [(&str, Input); 6] = [
     ("binary", binary),
     ("hexadecimal", hexadecimal),
     ("text", written),
-    ("opening", opened),
+    ("opening (1 in 4)", opened),
     ("command line", command_line),
     ("picture (1 in 50)", drawn),
 ];
@@ -101,7 +101,11 @@ fn written(random: &mut Random) -> bool {
     }
 }
 
+/// Few openings are drawn too: what they add to their plans is small.
 fn opened(random: &mut Random) -> bool {
+    if !random.one_in(4) {
+        return false;
+    }
     let asked = openings::opening(random);
     let fault = proved::open(&asked).expect("an opening is answered");
     if let Some(fault) = fault {
