@@ -1,10 +1,10 @@
 // A whole list of calls, as bytes, driven through a run: for tests from another language. The form of the input is in
 // specs/Input.antt, that of the records in specs/Records.antt.
 ghost use mathlib.Core.Path.{_≡_};
-ghost use Prim.Native.Nat.{_+_, _*_, _-_, _≤_, _<_};
+ghost use Prim.Native.Nat.{_+_, _*_, _≤_, _<_};
 ghost use lib.ListN.{length};
 ghost use Rattle.puts.specs.Puts.{Puts};
-ghost use Rattle.drive.specs.Input.{headOf, openedBy};
+ghost use Rattle.drive.specs.Input.{headOf};
 ghost use Rattle.drive.specs.Drive.{callsFrom, callsOf, recordsFrom, textOf, joined, recordedOf, bufferOf};
 
 mod input;

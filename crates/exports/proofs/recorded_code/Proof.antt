@@ -1,5 +1,4 @@
-use mathlib.Core.Path.{_≡_, refl, _∙_}
-use Prim.Native.Nat.{ℕ}
+use mathlib.Core.Path.{_≡_, refl}
 use Rattle.drive.specs.declared.NotRecorded.{NotRecorded}
 use Rattle.drive.specs.declared.Recorded.{Recorded}
 use Rattle.exports.specs.Codes.{recordedCode}
