@@ -19,6 +19,7 @@ pub mod OpeningsHold
 -- The whole verdict on a file
 pub mod Verdicts
 pub mod VerdictsHold
+pub mod AuthorNumbers
 -- and of reading it, field by field
 pub mod FirstFaults
 pub mod FirstFaultsHold
