@@ -43,7 +43,7 @@ fn refused_file(random: &mut Random, case: usize) -> Vec<u8> {
         }
         4 => {
             let layout = Layout::of(&plans::any_plan(random));
-            damage::damaged_field(random, &layout).0
+            damage::damaged_field(random, &layout).bytes
         }
         7 => rarely_damaged(random),
         _ => any_file(random),
@@ -66,7 +66,7 @@ fn rarely_damaged(random: &mut Random) -> Vec<u8> {
         layout.bytes[field.place] = previous;
         return layout.bytes;
     }
-    damage::damaged_field(random, &layout).0
+    damage::damaged_field(random, &layout).bytes
 }
 
 /// Each number from 1 to 26 is met at least 100 times where all cases are run.
