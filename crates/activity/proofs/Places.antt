@@ -6,8 +6,8 @@ use Prim.Native.Nat.{ℕ, _<_}
 use native.Mathlib.Nat.{zero-add}
 use native.Mathlib.Omega.{arith}
 use lib.ListN.{length, getD}
-use Rattle.lists.specs.Lists.{Among}
-use Rattle.lists.specs.Parts.{part, among-part, part-among, length-part, getD-part}
+use Rattle.basis.specs.Lists.{Among}
+use Rattle.basis.specs.Parts.{part, among-part, part-among, length-part, getD-part}
 use Rattle.plan.specs.Plan.{pastNode, predecessors, nodesOf}
 use Rattle.plan.specs.declared.Node.{Node}
 use Rattle.plan.specs.declared.Activity.{Activity}

@@ -10,7 +10,7 @@ use native.Mathlib.Omega.{arith}
 use lib.Bits.{bitOr, bitAnd, or-shr, or-mod, and-shr, and-mod}
 use lib.ListN.{getD, replicate}
 use lib.Pow.{pow-lt, pow-add, shl-shr}
-use Rattle.lists.specs.Lists.{Among}
+use Rattle.basis.specs.Lists.{Among}
 use Rattle.activity.specs.Tests.{bit, wordOf}
 use Rattle.activity.specs.Tells.{Tells, tells-eqb}
 

@@ -9,7 +9,7 @@ use native.Mathlib.Omega.{arith}
 use borrow.Author.Count.{below-more}
 use lib.Bits.{bitOr}
 use lib.ListN.{length, getD, length-map, List·getD-eq-default}
-use Rattle.lists.specs.Lists.{one, more}
+use Rattle.basis.specs.Lists.{one, more}
 use Rattle.plan.specs.Plan.{pastNode, predecessors}
 use Rattle.plan.specs.declared.Node.{Node}
 use Rattle.activity.specs.Rules.{node, Arrow, Before}

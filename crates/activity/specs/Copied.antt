@@ -5,7 +5,7 @@ use Prim.Native.Nat.{ℕ, _+_, _-_, _*_, _<_}
 use native.Mathlib.Omega.{arith}
 use lib.ListN.{length, getD, replicate, List·getD-append}
 use lib.Seq.{ext-getD}
-use Rattle.lists.specs.Parts.{part, length-part, getD-part}
+use Rattle.basis.specs.Parts.{part, length-part, getD-part}
 use Rattle.plan.specs.Plan.{pastNode, sizeOf, nodesOf, activityOf}
 use Rattle.plan.specs.Limits.{InLimits, nodeAt}
 use Rattle.plan.specs.declared.Kind.{Kind}

@@ -5,7 +5,7 @@ use mathlib.Core.List.{List}
 use mathlib.Core.Logic.{_⊎_}
 use Prim.Native.Nat.{ℕ, _<_}
 use lib.ListN.{length, getD}
-use Rattle.lists.specs.Lists.{Among, Chain}
+use Rattle.basis.specs.Lists.{Among, Chain}
 use Rattle.plan.specs.Plan.{pastNode, predecessors}
 use Rattle.plan.specs.declared.Kind.{Kind}
 use Rattle.plan.specs.declared.Node.{Node}

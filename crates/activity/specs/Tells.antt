@@ -8,7 +8,7 @@ use native.Mathlib.Nat.{eq-or-lt-of-le, le-of-suc-le-suc}
 use native.Mathlib.Omega.{arith}
 use borrow.Author.Tests.{eqb-true, eqb-false, not-true, not-false}
 use lib.Dec.{eqb}
-use Rattle.lists.specs.Lists.{Among}
+use Rattle.basis.specs.Lists.{Among}
 use Rattle.plan.specs.declared.Kind.{Kind}
 use Rattle.activity.specs.Tests.{every, some, implies, none, isAction, isClaim, isRelease, isEvent, ofAction, ofClaim, ofRelease, ofEvent}
 

@@ -1,7 +1,7 @@
 // "Before" of an activity as words, one of ancestors for each node, by Warshall's algorithm.
 ghost use mathlib.Core.Logic.{_↔_};
 ghost use Prim.Native.Nat.{ℕ, _<_, _≤_};
-ghost use Rattle.lists.specs.Lists.{Among};
+ghost use Rattle.basis.specs.Lists.{Among};
 ghost use Rattle.plan.specs.Plan.{predecessors, nodesOf};
 ghost use Rattle.activity.specs.Rules.{Arrow};
 ghost use Rattle.activity.specs.Bits.{Bit};

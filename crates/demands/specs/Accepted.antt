@@ -7,13 +7,13 @@ use lib.ListN.{length, drop}
 use Rattle.plan.specs.Plan.{activityOf, resourceOf}
 use Rattle.plan.specs.declared.Plan.{Plan}
 use Rattle.format.specs.Format.{Holds, print, result}
-use Rattle.planfile.specs.PlanFile.{faultOrder, planFile}
-pub use Rattle.roundtrip.specs.RoundTrip.{Bytes}
+use Rattle.plan_file.specs.PlanFile.{faultOrder, planFile}
+pub use Rattle.plan_roundtrip.specs.RoundTrip.{Bytes}
 use Rattle.activity.specs.Rules.{Meets}
 use Rattle.automaton.specs.Rules.{MeetsAutomaton}
 use Rattle.judge.specs.Judge.{accepted, judgeOf}
-use Rattle.writing.specs.Writing.{writtenOf, bufferOf}
-use Rattle.writing.specs.declared.Written.{Written}
+use Rattle.plan_write.specs.Writing.{writtenOf, bufferOf}
+use Rattle.plan_write.specs.declared.Written.{Written}
 
 -- what a plan and its bytes must meet
 pub record Accepts (bytes : List ℕ) (p : Plan) : Type 0 where

@@ -4,11 +4,11 @@
 use mathlib.Core.List.{List}
 use Prim.Native.Nat.{ℕ}
 use Rattle.plan.specs.declared.Plan.{Plan}
-use Rattle.planfile.specs.Accepted as F
-use Rattle.planfile.specs.HoldPlan.{plan-rules}
+use Rattle.plan_file.specs.Accepted as F
+use Rattle.plan_file.specs.HoldPlan.{plan-rules}
 use Rattle.activity.specs.Activities as A
 use Rattle.automaton.specs.Decides as D
-use Rattle.writing.specs.Back as B
+use Rattle.plan_write.specs.Back as B
 use Rattle.judge.specs.Laws.{Passes, passed, passing}
 use Rattle.demands.specs.Accepted.{Bytes, Accepts, StatementAcceptedIff, StatementLongest, StatementWrittenBack}
 

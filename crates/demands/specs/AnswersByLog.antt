@@ -6,15 +6,15 @@ use mathlib.Core.Logic.{_↔_}
 use Prim.Native.Nat.{ℕ}
 use lib.ListN.{getD}
 use Rattle.time.specs.declared.Clock.{Clock}
-use Rattle.behaviour.specs.Combined.{Ident}
-use Rattle.behaviour.specs.Times.{Timing}
+use Rattle.times_combined.specs.Combined.{Ident}
+use Rattle.times_combined.specs.Times.{Timing}
 use Rattle.judge.specs.Judge.{judgeOf}
 use Rattle.run.specs.Opening.{openOf}
 use Rattle.run.specs.Calls.{callOf}
 use Rattle.run.specs.declared.Call.{Call}
 use Rattle.run.specs.declared.Reply.{Reply}
 use Rattle.run.specs.declared.Opening.{Opening}
-use Rattle.demand.specs.TheWord.{wholeOf, TheWord}
+use Rattle.demands_theory.specs.TheWord.{wholeOf, TheWord}
 use Rattle.demands.specs.Accepted.{Bytes}
 use Rattle.demands.specs.Demand3.{drivenBy}
 use Rattle.demands.specs.ByLog.{Answered}

@@ -12,15 +12,15 @@ use Rattle.time.specs.declared.Clock.{Clock}
 use Rattle.plan.specs.Plan.{outcomesOf}
 use Rattle.plan.specs.declared.Kind.{Kind}
 use Rattle.plan.specs.declared.Plan.{Plan}
-use Rattle.behaviour.specs.Combined.{Ident}
-use Rattle.behaviour.specs.Paths.{Lawful}
-use Rattle.behaviour.specs.Times.{Timing}
-use Rattle.window.specs.Window.{isHeld, isStarted}
-use Rattle.window.specs.Places.{Holds}
-use Rattle.window.specs.Tests.{started-true}
-use Rattle.window.specs.declared.Entry.{Entry}
-use Rattle.window.specs.declared.Phase.{Phase}
-use Rattle.outcomes.specs.Told.{toldOf}
+use Rattle.times_combined.specs.Combined.{Ident}
+use Rattle.times_combined.specs.Paths.{Lawful}
+use Rattle.times_combined.specs.Times.{Timing}
+use Rattle.run_window.specs.Window.{isHeld, isStarted}
+use Rattle.run_window.specs.Places.{Holds}
+use Rattle.run_window.specs.Tests.{started-true}
+use Rattle.run_window.specs.declared.Entry.{Entry}
+use Rattle.run_window.specs.declared.Phase.{Phase}
+use Rattle.run_outcomes.specs.Told.{toldOf}
 use Rattle.judge.specs.Judge.{judgeOf}
 use Rattle.run.specs.Loading.{further, mostPending}
 use Rattle.run.specs.Opening.{openOf}
@@ -33,17 +33,17 @@ use Rattle.run.specs.declared.Reply.{Reply}
 use Rattle.run.specs.declared.Answer.{Answer}
 use Rattle.run.specs.declared.Failure.{Failure}
 use Rattle.run.specs.declared.Opening.{Opening}
-use Rattle.log.specs.Log.{Id, Log, said, Reported, Told, StoppedIn, StoppedBy, FailedIn}
-use Rattle.log.specs.Kept.{Keeps, plan-kept}
-use Rattle.demand.specs.Way.{Clear}
-use Rattle.demand.specs.Demand.{Demand3}
-use Rattle.demand.specs.Loading.{Loads}
-use Rattle.demand.specs.TheWord.{stateAfter, wholeOf, Takes, TheWord}
-use Rattle.demand.specs.Laws.Replies.{failed-by}
-use Rattle.demand.specs.Laws.TheWord.{told-once, takes-follows}
-use Rattle.works.specs.Laws.Later.{takes-more}
-use Rattle.works.specs.Laws.OneLoading.{one-loading}
-use Rattle.works.specs.Theorem as Works
+use Rattle.demands_log.specs.Log.{Id, Log, said, Reported, Told, StoppedIn, StoppedBy, FailedIn}
+use Rattle.demands_log.specs.Kept.{Keeps, plan-kept}
+use Rattle.demands_theory.specs.Way.{Clear}
+use Rattle.demands_theory.specs.Demand.{Demand3}
+use Rattle.demands_theory.specs.Loading.{Loads}
+use Rattle.demands_theory.specs.TheWord.{stateAfter, wholeOf, Takes, TheWord}
+use Rattle.demands_theory.specs.Laws.Replies.{failed-by}
+use Rattle.demands_theory.specs.Laws.TheWord.{told-once, takes-follows}
+use Rattle.demands_run.specs.Laws.Later.{takes-more}
+use Rattle.demands_run.specs.Laws.OneLoading.{one-loading}
+use Rattle.demands_run.specs.Theorem as Works
 use Rattle.demands.specs.Accepted.{Bytes}
 use Rattle.demands.specs.Demand3.{drivenBy}
 use Rattle.demands.specs.InLimitsIff.{in-limits}

@@ -7,18 +7,18 @@ use Prim.Native.Nat.{ℕ, _+_, _≤_, _<_}
 use Rattle.plan.specs.Plan.{isFinal, outcomesOf}
 use Rattle.plan.specs.declared.Kind.{Kind}
 use Rattle.plan.specs.declared.Plan.{Plan}
-use Rattle.behaviour.specs.Combined.{Ident, Is}
+use Rattle.times_combined.specs.Combined.{Ident, Is}
 use Rattle.time.specs.declared.Clock.{Clock}
 use Rattle.run.specs.declared.Stop.{Stop}
 use Rattle.run.specs.declared.Call.{Call}
 use Rattle.run.specs.declared.Reply.{Reply}
 use Rattle.run.specs.declared.Refusal.{Refusal}
 use Rattle.run.specs.declared.Failure.{Failure}
-use Rattle.log.specs.Log.{Id, id, Log, said, reading, Started, StoppedIn, StoppedBy}
-use Rattle.log.specs.Host.{isRefused}
-use Rattle.demand.specs.Nodes.{whose, EmitsAt}
-use Rattle.demand.specs.TheWord.{stateAfter, wholeOf}
-use Rattle.demand.specs.Loading.{Unreported, Loads}
+use Rattle.demands_log.specs.Log.{Id, id, Log, said, reading, Started, StoppedIn, StoppedBy}
+use Rattle.demands_log.specs.Host.{isRefused}
+use Rattle.demands_theory.specs.Nodes.{whose, EmitsAt}
+use Rattle.demands_theory.specs.TheWord.{stateAfter, wholeOf}
+use Rattle.demands_theory.specs.Loading.{Unreported, Loads}
 use Rattle.demands.specs.Conditions.{IsAction, RightKind}
 
 -- what is known after some calls: the plan, Ψ, the slack and the availabilities of the opening, the word of their log and its

@@ -13,8 +13,8 @@ use Rattle.run.specs.declared.Opening.{Opening}
 use Rattle.run.specs.Numbers.{refusalNumber, stopNumber, openNumber, openPlace}
 use Rattle.run.specs.Opening.{openOf}
 use Rattle.run.specs.Calls.{callOf}
-use Rattle.table.specs.Timetable.{timetableOf}
-use Rattle.log.specs.Drive.{drive}
+use Rattle.timetable_turns.specs.Timetable.{timetableOf}
+use Rattle.demands_log.specs.Drive.{drive}
 use Rattle.demands.specs.Inputs.{planT, planK3, inputT, printedT}
 
 -- what is given

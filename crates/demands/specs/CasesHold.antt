@@ -6,33 +6,33 @@ use Rattle.plan.specs.Nodes.{asksOf, kindBy, durationAt, predsLoop, predsAt, no
 use Rattle.plan.specs.Sections.{belongsAt, peripheralsAt, outcomesAt, eventsAt, nodesThen, activitiesLoop, activitiesAt}
 use Rattle.plan.specs.Moves.{inputAt, outputAt, moveWith, moveFrom, moveAt, finalsAt, moveCountAt, movesLoop, movesAt, automatonAt}
 use Rattle.plan.specs.Reading.{sectionsAt, endedAt, withAutomaton, withActivities, withEvents, withPeripherals, planAt, readPlan}
-use Rattle.limits.specs.Limits.{within, nodeInLimits, slotInLimits, nodesInLimits, moveInLimits, movesInLimits, automatonInLimits, partsInLimits, inLimits, isRising, slotWritten, nodesWritten, fileRules, timesInLimits, instanceInLimits, placeInLimits, pendingInLimits, progressFits, progressInLimits}
-use Rattle.limits.specs.Window.{entryInLimits, windowInLimits}
+use Rattle.plan_limits.specs.Limits.{within, nodeInLimits, slotInLimits, nodesInLimits, moveInLimits, movesInLimits, automatonInLimits, partsInLimits, inLimits, isRising, slotWritten, nodesWritten, fileRules, timesInLimits, instanceInLimits, placeInLimits, pendingInLimits, progressFits, progressInLimits}
+use Rattle.plan_limits.specs.Window.{entryInLimits, windowInLimits}
 use Rattle.activity.specs.Tests.{every, some, wordOf, passes, beforeWords}
 use Rattle.activity.specs.Number.{noCycle, ruleI, ruleII, ruleIII, ruleIV, ruleV, ruleVI, ruleVII, ruleVIII, ruleIX, ruleX, ruleXI, faultBy, faultOf, verdictFrom, activitiesVerdict}
 use Rattle.activity.specs.Copied.{copied}
 use Rattle.automaton.specs.Tests.{both, all}
 use Rattle.automaton.specs.Next.{nextFrom, chosenFrom}
 use Rattle.automaton.specs.Number.{lowest, noWayOut, apartFrom, branchesIn, serves, again, falses, finalsOf, passBack, advanced, passOn, judgeCounts, pathVerdict, wayVerdict, stateVerdict, automatonVerdict}
-use Rattle.timing.specs.Times.{readyOf, largestOf, startOf, placedOf, visitOf, roundOf, roundsOf}
-use Rattle.timing.specs.Queues.{shiftedOf, processedOf, floorOf, queuedOf}
-use Rattle.timing.specs.Engine.{raisedOf, heldOf, leftBy, leftOf, aboveOf, beyondOf, closedOf, emitsOf, timedOf}
-use Rattle.timing.specs.Inner.{falses as timingFalses}
-use Rattle.window.specs.Window.{isOverdue, isLate, isDue, isNode, before, first, isEmpty, placed, vacancies}
-use Rattle.window.specs.Placed.{freePlace}
-use Rattle.path.specs.Path.{entriesFrom, pathFrom}
+use Rattle.times.specs.Times.{readyOf, largestOf, startOf, placedOf, visitOf, roundOf, roundsOf}
+use Rattle.times.specs.Queues.{shiftedOf, processedOf, floorOf, queuedOf}
+use Rattle.times.specs.Engine.{raisedOf, heldOf, leftBy, leftOf, aboveOf, beyondOf, closedOf, emitsOf, timedOf}
+use Rattle.times.specs.Inner.{falses as timingFalses}
+use Rattle.run_window.specs.Window.{isOverdue, isLate, isDue, isNode, before, first, isEmpty, placed, vacancies}
+use Rattle.run_window.specs.Placed.{freePlace}
+use Rattle.run_path.specs.Path.{entriesFrom, pathFrom}
 use Rattle.judge.specs.Judge.{judgeOf}
 use Rattle.run.specs.Limits.{runInLimits}
-use Rattle.outcomes.specs.Way.{wayOn}
+use Rattle.run_outcomes.specs.Way.{wayOn}
 use Rattle.run.specs.Loading.{load, further}
-use Rattle.opening.specs.Given.{anyAbove}
-use Rattle.opening.specs.Short.{anyShort, shortFrom}
+use Rattle.run_opening.specs.Given.{anyAbove}
+use Rattle.run_opening.specs.Short.{anyShort, shortFrom}
 use Rattle.run.specs.Opening.{openPlan, openOf}
-use Rattle.outcomes.specs.Told.{isInstance, toldFrom}
+use Rattle.run_outcomes.specs.Told.{isInstance, toldFrom}
 use Rattle.run.specs.Calls.{asked, completed, learns, timely, askOf, completionOf, outcomeOf, callOf}
-use Rattle.text.specs.Text.{digits, line}
-use Rattle.lines.specs.Lines.{rows, free}
-use Rattle.table.specs.Timetable.{tableFrom, timetableOf}
+use Rattle.timetable_text.specs.Text.{digits, line}
+use Rattle.timetable_lines.specs.Lines.{rows, free}
+use Rattle.timetable_turns.specs.Timetable.{tableFrom, timetableOf}
 use Rattle.demands.specs.Cases.{theCases, AllHold}
 
 pub cases : AllHold theCases

@@ -9,9 +9,9 @@ use Rattle.time.specs.Time.{toClock}
 use Rattle.time.specs.declared.Clock.{Clock}
 use Rattle.plan.specs.Plan.{isFinal, outcomesOf}
 use Rattle.plan.specs.declared.Kind.{Kind}
-use Rattle.window.specs.declared.Entry.{Entry}
-use Rattle.window.specs.declared.Phase.{Phase}
-use Rattle.window.specs.Window.{vacant, isHeld, startsBefore, endsBefore}
+use Rattle.run_window.specs.declared.Entry.{Entry}
+use Rattle.run_window.specs.declared.Phase.{Phase}
+use Rattle.run_window.specs.Window.{vacant, isHeld, startsBefore, endsBefore}
 use Rattle.run.specs.declared.Run.{Run}
 use Rattle.run.specs.declared.Halt.{Halt}
 use Rattle.run.specs.declared.Stop.{Stop}
@@ -20,7 +20,7 @@ use Rattle.run.specs.declared.Reply.{Reply}
 use Rattle.run.specs.declared.Refusal.{Refusal}
 use Rattle.run.specs.declared.Failure.{Failure}
 use Rattle.run.specs.Loading.{further, mostPending}
-use Rattle.outcomes.specs.Told.{toldOf}
+use Rattle.run_outcomes.specs.Told.{toldOf}
 use Rattle.run.specs.Calls.{callOf, readingOf, kindOf, cleared}
 use Rattle.demands.specs.InLimits.{RunInLimits}
 

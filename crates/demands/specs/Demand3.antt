@@ -5,16 +5,16 @@ use Prim.Native.Nat.{ℕ}
 use lib.ListN.{getD}
 use Rattle.time.specs.declared.Clock.{Clock}
 use Rattle.plan.specs.declared.Plan.{Plan}
-use Rattle.behaviour.specs.Combined.{Ident}
-use Rattle.behaviour.specs.Times.{Timing}
+use Rattle.times_combined.specs.Combined.{Ident}
+use Rattle.times_combined.specs.Times.{Timing}
 use Rattle.run.specs.declared.Call.{Call}
 use Rattle.run.specs.declared.Opening.{Opening}
 use Rattle.run.specs.Opening.{openOf}
 use Rattle.judge.specs.Judge.{judgeOf}
-use Rattle.log.specs.Drive.{Driven, drive}
-use Rattle.log.specs.Kept.{Keeps}
-use Rattle.demand.specs.TheWord.{wholeOf, TheWord}
-pub use Rattle.demand.specs.Demand.{Demand3}
+use Rattle.demands_log.specs.Drive.{Driven, drive}
+use Rattle.demands_log.specs.Kept.{Keeps}
+use Rattle.demands_theory.specs.TheWord.{wholeOf, TheWord}
+pub use Rattle.demands_theory.specs.Demand.{Demand3}
 use Rattle.demands.specs.Accepted.{Bytes}
 
 -- the list's log and its last run

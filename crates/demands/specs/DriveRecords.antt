@@ -5,7 +5,7 @@ use mathlib.Core.Bool.{true}
 use mathlib.Core.List.{List, [], _∷_}
 use Prim.Native.Nat.{ℕ, _+_}
 use Rattle.wire.specs.Number.{little}
-use Rattle.log.specs.Log.{Log}
+use Rattle.demands_log.specs.Log.{Log}
 use Rattle.drive.specs.Input.{planLength, planOf, clockAt, countOf, availabilitiesFrom, isWhole, opened}
 use Rattle.drive.specs.Records.{openingRecord}
 use Rattle.drive.specs.Drive.{callsOf, answersOf, recordsOf}

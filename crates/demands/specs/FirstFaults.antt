@@ -11,7 +11,7 @@ use Rattle.plan.specs.declared.Fault.{Fault}
 use Rattle.plan.specs.declared.Verdict.{Verdict}
 use Rattle.format.specs.Format.{FirstFault, Refuses}
 use Rattle.format.specs.Writing.{Agree}
-use Rattle.planfile.specs.PlanFile.{faultOrder, planFile}
+use Rattle.plan_file.specs.PlanFile.{faultOrder, planFile}
 use Rattle.judge.specs.Judge.{judgeOf}
 use Rattle.demands.specs.Accepted.{Bytes}
 

@@ -12,8 +12,8 @@ use Rattle.plan.specs.declared.Verdict.{Verdict}
 use Rattle.format.specs.Format.{Format, done, field, parse, Refuses, faulty, more, Reached, short}
 use Rattle.format.specs.Reading.{fault-given, on-reached}
 use Rattle.format.specs.Writing.{Agree, reached-agree, no-earlier, no-earlier-end}
-use Rattle.planfile.specs.PlanFile.{faultOrder, planFile}
-use Rattle.planfile.specs.Refused as P
+use Rattle.plan_file.specs.PlanFile.{faultOrder, planFile}
+use Rattle.plan_file.specs.Refused as P
 use Rattle.demands.specs.Verdicts.{Judged}
 use Rattle.demands.specs.VerdictsHold.{verdict, of-field, reading-numbers, activity-numbers, automaton-numbers}
 use Rattle.demands.specs.FirstFaults.{StatementRefusedExactly, StatementUnread, StatementPlaceIn, StatementLocal, StatementCut, StatementLeftOver, StatementInFront}

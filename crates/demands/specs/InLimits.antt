@@ -7,10 +7,10 @@ use Rattle.time.specs.Time.{horizon}
 use Rattle.plan.specs.Plan.{sizeOf}
 use Rattle.plan.specs.Limits.{InLimits}
 use Rattle.plan.specs.declared.Plan.{Plan}
-use Rattle.timing.specs.Engine.{lastPosition}
-use Rattle.path.specs.Pathed.{ProgressIn}
-use Rattle.window.specs.Places.{Holds}
-use Rattle.window.specs.declared.Entry.{Entry}
+use Rattle.times.specs.Engine.{lastPosition}
+use Rattle.run_path.specs.Pathed.{ProgressIn}
+use Rattle.run_window.specs.Places.{Holds}
+use Rattle.run_window.specs.declared.Entry.{Entry}
 use Rattle.run.specs.declared.Run.{Run}
 use Rattle.run.specs.declared.Halt.{Halt}
 use Rattle.run.specs.declared.Stop.{Stop}

@@ -8,21 +8,21 @@ use lib.ListN.{length, getD}
 use Rattle.time.specs.Time.{horizon}
 use Rattle.plan.specs.declared.Plan.{Plan}
 use Rattle.activity.specs.Tells.{Tells, holds, told-true, tells-iff, tells-and}
-use Rattle.timing.specs.Engine.{lastPosition}
-use Rattle.limits.specs.Window.{entryInLimits}
-use Rattle.limits.specs.Tells.{tells-ltb, tells-leb, tells-then}
-use Rattle.limits.specs.Plans.{tells-in-limits}
-use Rattle.limits.specs.Stored.{tells-progress}
-use Rattle.limits.specs.Places.{tells-window}
-use Rattle.window.specs.Window.{vacant, isFree, isHeld}
-use Rattle.window.specs.Tests.{free-or-held, unfree-held}
-use Rattle.window.specs.Places.{Holds, holds-within}
-use Rattle.window.specs.declared.Entry.{Entry}
+use Rattle.times.specs.Engine.{lastPosition}
+use Rattle.plan_limits.specs.Window.{entryInLimits}
+use Rattle.plan_limits.specs.Tells.{tells-ltb, tells-leb, tells-then}
+use Rattle.plan_limits.specs.Plans.{tells-in-limits}
+use Rattle.plan_limits.specs.Stored.{tells-progress}
+use Rattle.plan_limits.specs.Places.{tells-window}
+use Rattle.run_window.specs.Window.{vacant, isFree, isHeld}
+use Rattle.run_window.specs.Tests.{free-or-held, unfree-held}
+use Rattle.run_window.specs.Places.{Holds, holds-within}
+use Rattle.run_window.specs.declared.Entry.{Entry}
 use Rattle.run.specs.declared.Run.{Run}
 use Rattle.run.specs.declared.Halt.{Halt}
 use Rattle.run.specs.declared.Stop.{Stop}
 use Rattle.run.specs.Limits.{runInLimits, stopInLimits, haltInLimits}
-use Rattle.works.specs.Laws.Bounds.{entry-passes, entry-within}
+use Rattle.demands_run.specs.Laws.Bounds.{entry-passes, entry-within}
 use Rattle.demands.specs.Laws.OpeningTests.{is-true}
 use Rattle.demands.specs.InLimits.{EntryInLimits, StopInLimits, HaltInLimits, RunInLimits, StatementInLimits}
 

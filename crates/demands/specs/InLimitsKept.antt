@@ -8,8 +8,8 @@ use native.Mathlib.Omega.{arith}
 use borrow.Author.Tests.{ltb-true}
 use lib.Dec.{ltb}
 use lib.ListN.{length, getD, set}
-use Rattle.lists.specs.Lists.{Among}
-use Rattle.lists.specs.Parts.{length-part}
+use Rattle.basis.specs.Lists.{Among}
+use Rattle.basis.specs.Parts.{length-part}
 use Rattle.time.specs.declared.Clock.{Clock}
 use Rattle.plan.specs.Plan.{pastNode, sizeOf, outcomesOf, emittedBy, move}
 use Rattle.plan.specs.Limits.{InLimits, KindNames, OutputNames}
@@ -20,25 +20,25 @@ use Rattle.plan.specs.declared.Automaton.{Automaton}
 use Rattle.automaton.specs.Next.{nextOf, chosenOf}
 use Rattle.automaton.specs.declared.Next.{Next}
 use Rattle.automaton.specs.declared.Chosen.{Chosen}
-use Rattle.behaviour.specs.Laws.Lists.{among-either}
-use Rattle.timing.specs.Engine.{lastPosition}
-use Rattle.timing.specs.Queues.{noInstance, pendingOf, instanceOf}
-use Rattle.timing.specs.Limits.{InstanceInLimits}
-use Rattle.timing.specs.declared.Told.{Told}
-use Rattle.timing.specs.declared.Progress.{Progress}
-use Rattle.window.specs.Window.{vacant, startedOf, isHeld, isStarted, isOverdue, isLate, isDue, isNode, startsBefore, endsBefore, placed, vacancies}
-use Rattle.window.specs.Tests.{by-test, overdue-tells, late-tells, due-tells, node-tells}
-use Rattle.window.specs.Order.{starts-order, ends-order}
-use Rattle.window.specs.Firsts.{First, by-first}
-use Rattle.window.specs.Places.{Holds, stored-only, cleared-only}
-use Rattle.window.specs.Placed.{placed-only}
-use Rattle.window.specs.declared.Entry.{Entry}
-use Rattle.path.specs.Path.{Path, activityNumber, takenBy, entriesBy, pathFrom, longestPath}
-use Rattle.path.specs.Pathed.{ProgressIn, Leads, pathed}
-use Rattle.path.specs.Laws.Stepping.{next-leads, taken-kept}
-use Rattle.path.specs.Laws.InTime.{loads}
-use Rattle.outcomes.specs.Told.{tell, toldFrom, toldOf, oldestTold}
-use Rattle.outcomes.specs.Way.{onTold, onChosen, wayOn}
+use Rattle.times_combined.specs.Laws.Lists.{among-either}
+use Rattle.times.specs.Engine.{lastPosition}
+use Rattle.times.specs.Queues.{noInstance, pendingOf, instanceOf}
+use Rattle.times.specs.Limits.{InstanceInLimits}
+use Rattle.times.specs.declared.Told.{Told}
+use Rattle.times.specs.declared.Progress.{Progress}
+use Rattle.run_window.specs.Window.{vacant, startedOf, isHeld, isStarted, isOverdue, isLate, isDue, isNode, startsBefore, endsBefore, placed, vacancies}
+use Rattle.run_window.specs.Tests.{by-test, overdue-tells, late-tells, due-tells, node-tells}
+use Rattle.run_window.specs.Order.{starts-order, ends-order}
+use Rattle.run_window.specs.Firsts.{First, by-first}
+use Rattle.run_window.specs.Places.{Holds, stored-only, cleared-only}
+use Rattle.run_window.specs.Placed.{placed-only}
+use Rattle.run_window.specs.declared.Entry.{Entry}
+use Rattle.run_path.specs.Path.{Path, activityNumber, takenBy, entriesBy, pathFrom, longestPath}
+use Rattle.run_path.specs.Pathed.{ProgressIn, Leads, pathed}
+use Rattle.run_path.specs.Laws.Stepping.{next-leads, taken-kept}
+use Rattle.run_path.specs.Laws.InTime.{loads}
+use Rattle.run_outcomes.specs.Told.{tell, toldFrom, toldOf, oldestTold}
+use Rattle.run_outcomes.specs.Way.{onTold, onChosen, wayOn}
 use Rattle.run.specs.declared.Run.{Run}
 use Rattle.run.specs.declared.Halt.{Halt}
 use Rattle.run.specs.declared.Call.{Call}
@@ -49,11 +49,11 @@ use Rattle.run.specs.declared.Refusal.{Refusal}
 use Rattle.run.specs.Loading.{load, onWay, onLoading, further, mostPending}
 use Rattle.run.specs.Limits.{runInLimits}
 use Rattle.run.specs.Calls.{refuse, heard, asked, reported, completedBy, completed, afterLoading, cleared, learnsBy, learns, timely, called, askOf, completionOf, outcomeOf, callOf, kindOf}
-use Rattle.demand.specs.Laws.Next.{chosen-found}
-use Rattle.works.specs.Laws.Entries.{among-at, brought}
-use Rattle.works.specs.Laws.Telling.{told-cases}
-use Rattle.works.specs.Laws.Loaded.{not-beyond}
-use Rattle.log.specs.ByCases.{by-halt}
+use Rattle.demands_theory.specs.Laws.Next.{chosen-found}
+use Rattle.demands_run.specs.Laws.Entries.{among-at, brought}
+use Rattle.demands_run.specs.Laws.Telling.{told-cases}
+use Rattle.demands_run.specs.Laws.Loaded.{not-beyond}
+use Rattle.demands_log.specs.ByCases.{by-halt}
 use Rattle.demands.specs.InLimits.{EntryInLimits, HaltInLimits, RunInLimits, StatementLimitsKept}
 
 -- ---- the entries of a path

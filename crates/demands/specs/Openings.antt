@@ -17,8 +17,8 @@ use Rattle.run.specs.declared.Unopened.{Unopened}
 use Rattle.run.specs.declared.Opening.{Opening}
 use Rattle.run.specs.Numbers.{openNumber, openPlace}
 use Rattle.run.specs.Opening.{openOf}
-use Rattle.demand.specs.Nodes.{Working}
-use Rattle.demand.specs.Loading.{FirstBeyond, FirstMany}
+use Rattle.demands_theory.specs.Nodes.{Working}
+use Rattle.demands_theory.specs.Loading.{FirstBeyond, FirstMany}
 use Rattle.demands.specs.Accepted.{Bytes}
 use Rattle.demands.specs.Verdicts.{Judged}
 

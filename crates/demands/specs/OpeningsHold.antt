@@ -15,13 +15,13 @@ use Rattle.plan.specs.declared.Fault.{Fault}
 use Rattle.plan.specs.declared.Verdict.{Verdict}
 use Rattle.judge.specs.Judge.{judgeOf}
 use Rattle.activity.specs.Tells.{told-true, told-false, tells-eqb}
-use Rattle.window.specs.Tests.{by-test}
+use Rattle.run_window.specs.Tests.{by-test}
 use Rattle.run.specs.Limits.{slackInLimits}
 use Rattle.run.specs.Loading.{load}
 use Rattle.run.specs.Numbers.{openNumber, openPlace}
-use Rattle.opening.specs.declared.Short.{Short}
-use Rattle.opening.specs.Given.{anyAbove}
-use Rattle.opening.specs.Short.{shortFrom}
+use Rattle.run_opening.specs.declared.Short.{Short}
+use Rattle.run_opening.specs.Given.{anyAbove}
+use Rattle.run_opening.specs.Short.{shortFrom}
 use Rattle.run.specs.Opening.{firstLoaded, begin, fresh, openPlan, openJudged, openOf}
 use Rattle.run.specs.declared.Loading.{Loading}
 use Rattle.run.specs.declared.Unopened.{Unopened}

@@ -15,8 +15,8 @@ use Rattle.run.specs.declared.Opening.{Opening}
 use Rattle.run.specs.Limits.{runInLimits}
 use Rattle.run.specs.Calls.{callOf, answer, refuse}
 use Rattle.run.specs.Opening.{openOf, zeroRun}
-use Rattle.log.specs.Log.{Log, said}
-use Rattle.log.specs.Drive.{drive}
+use Rattle.demands_log.specs.Log.{Log, said}
+use Rattle.demands_log.specs.Drive.{drive}
 
 -- "A refused call hands back the run exactly as it came in."
 abbrev pub StatementRefusedUnchanged : Type 0

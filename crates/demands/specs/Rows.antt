@@ -4,13 +4,13 @@ use mathlib.Core.Path.{_≡_}
 use mathlib.Core.List.{List, [], _∷_, _++_}
 use mathlib.Core.Logic.{_⊎_}
 use Prim.Native.Nat.{ℕ, _<_}
-use Rattle.lists.specs.Lists.{Among}
+use Rattle.basis.specs.Lists.{Among}
 use Rattle.plan.specs.declared.Plan.{Plan}
-use Rattle.behaviour.specs.Combined.{Ident, identity}
-use Rattle.text.specs.Text.{decimal, line}
-use Rattle.log.specs.Log.{Id}
-use Rattle.demand.specs.Nodes.{Work, EmitsAt}
-use Rattle.demand.specs.TheWord.{wholeOf}
+use Rattle.times_combined.specs.Combined.{Ident, identity}
+use Rattle.timetable_text.specs.Text.{decimal, line}
+use Rattle.demands_log.specs.Log.{Id}
+use Rattle.demands_theory.specs.Nodes.{Work, EmitsAt}
+use Rattle.demands_theory.specs.TheWord.{wholeOf}
 use Rattle.demands.specs.Timetables.{rowsOf}
 
 -- a row: the node, and its activity

@@ -6,22 +6,22 @@ use mathlib.Core.Logic.{_⊎_, inl, inr}
 use Prim.Native.Nat.{ℕ, zero, suc, _+_, _<_}
 use native.Mathlib.Omega.{arith}
 use lib.ListN.{length, getD}
-use Rattle.lists.specs.Lists.{Among}
+use Rattle.basis.specs.Lists.{Among}
 use Rattle.plan.specs.Plan.{pastNode, move, emittedBy}
 use Rattle.plan.specs.declared.Kind.{Kind}
 use Rattle.plan.specs.declared.Node.{Node}
 use Rattle.plan.specs.declared.Output.{Output}
 use Rattle.plan.specs.declared.Plan.{Plan}
 use Rattle.activity.specs.Rules.{node}
-use Rattle.behaviour.specs.Word.{size}
-use Rattle.behaviour.specs.Combined.{Ident, identity, NotClaim, NotRelease, Nodes, Joined}
-use Rattle.behaviour.specs.Paths.{wordOf}
-use Rattle.behaviour.specs.Laws.Shape.{node-place, sort}
-use Rattle.path.specs.Path.{isWork, activityNumber}
-use Rattle.log.specs.Log.{Id}
-use Rattle.demand.specs.Nodes.{Working, Work, EmitsAt, here, earlier}
-use Rattle.demand.specs.TheWord.{wholeOf}
-use Rattle.works.specs.Laws.Taken.{size-is}
+use Rattle.times_combined.specs.Word.{size}
+use Rattle.times_combined.specs.Combined.{Ident, identity, NotClaim, NotRelease, Nodes, Joined}
+use Rattle.times_combined.specs.Paths.{wordOf}
+use Rattle.times_combined.specs.Laws.Shape.{node-place, sort}
+use Rattle.run_path.specs.Path.{isWork, activityNumber}
+use Rattle.demands_log.specs.Log.{Id}
+use Rattle.demands_theory.specs.Nodes.{Working, Work, EmitsAt, here, earlier}
+use Rattle.demands_theory.specs.TheWord.{wholeOf}
+use Rattle.demands_run.specs.Laws.Taken.{size-is}
 use Rattle.demands.specs.Timetables.{nodeRows, rowsOf}
 use Rattle.demands.specs.Rows.{Row, lineOf, linesOf, Above, Sorted, StatementRows}
 

@@ -6,17 +6,17 @@ use lib.ListN.{length, getD}
 use Rattle.plan.specs.declared.Kind.{Kind}
 use Rattle.plan.specs.declared.Plan.{Plan}
 use Rattle.judge.specs.Judge.{accepted, judgeOf}
-use Rattle.timing.specs.Times.{at}
-use Rattle.timing.specs.declared.Progress.{Progress}
-use Rattle.behaviour.specs.Combined.{Ident}
-use Rattle.behaviour.specs.Combined as C
-use Rattle.behaviour.specs.Times.{Timing}
-use Rattle.behaviour.specs.Paths.{Follows}
-use Rattle.specified.specs.Plans.{progressAfter, scheduleAt}
-use Rattle.opening.specs.Given.{atFirst, availabilities}
-use Rattle.log.specs.Log.{Id}
-use Rattle.demand.specs.TheWord.{stateAfter, wholeOf}
-use Rattle.demand.specs.Nodes.{whose, Work}
+use Rattle.times.specs.Times.{at}
+use Rattle.times.specs.declared.Progress.{Progress}
+use Rattle.times_combined.specs.Combined.{Ident}
+use Rattle.times_combined.specs.Combined as C
+use Rattle.times_combined.specs.Times.{Timing}
+use Rattle.times_combined.specs.Paths.{Follows}
+use Rattle.times_equal.specs.Plans.{progressAfter, scheduleAt}
+use Rattle.run_opening.specs.Given.{atFirst, availabilities}
+use Rattle.demands_log.specs.Log.{Id}
+use Rattle.demands_theory.specs.TheWord.{stateAfter, wholeOf}
+use Rattle.demands_theory.specs.Nodes.{whose, Work}
 use Rattle.demands.specs.Accepted.{Bytes}
 
 -- ---- the engine's way, one transition at a time; transitions stand latest first

@@ -7,14 +7,14 @@ use Prim.Native.Nat.{ℕ, zero, suc, _+_, _-_, _≤_}
 use native.Mathlib.Omega.{arith}
 use lib.ListN.{length, getD, replicate}
 use Rattle.plan.specs.declared.Plan.{Plan}
-use Rattle.timing.specs.Times.{specified, at}
-use Rattle.behaviour.specs.Engine.{startAt, endAt}
-use Rattle.behaviour.specs.Paths.{wordOf, Follows, Lawful}
-use Rattle.specified.specs.Words.{Opening, traceBy}
-use Rattle.specified.specs.Plans.{AtMostEight, progressAt, scheduleAt, plan-equal, plan-times, plan-free}
-use Rattle.demand.specs.TheWord.{stateAfter}
-use Rattle.demand.specs.Laws.Next.{lawful, few-pending}
-use Rattle.planfile.specs.HoldPlan.{plan-rules}
+use Rattle.times.specs.Times.{specified, at}
+use Rattle.times_combined.specs.Engine.{startAt, endAt}
+use Rattle.times_combined.specs.Paths.{wordOf, Follows, Lawful}
+use Rattle.times_equal.specs.Words.{Opening, traceBy}
+use Rattle.times_equal.specs.Plans.{AtMostEight, progressAt, scheduleAt, plan-equal, plan-times, plan-free}
+use Rattle.demands_theory.specs.TheWord.{stateAfter}
+use Rattle.demands_theory.specs.Laws.Next.{lawful, few-pending}
+use Rattle.plan_file.specs.HoldPlan.{plan-rules}
 use Rattle.demands.specs.AcceptedIff.{accepted-iff}
 use Rattle.demands.specs.Times.{opened, TimesEqual, StatementTimesEqual}
 

@@ -15,19 +15,19 @@ use Rattle.plan.specs.declared.Node.{Node}
 use Rattle.plan.specs.declared.Plan.{Plan}
 use Rattle.plan.specs.declared.Verdict.{Verdict}
 use Rattle.automaton.specs.Rules.{Leaves, Processes}
-use Rattle.behaviour.specs.Word.{size}
-use Rattle.behaviour.specs.Combined.{Ident, identity}
-use Rattle.behaviour.specs.Combined as C
-use Rattle.behaviour.specs.Times.{Timing}
-use Rattle.behaviour.specs.Paths.{wordOf}
-use Rattle.demand.specs.TheWord.{stateAfter, wholeOf}
-use Rattle.path.specs.Path.{isWork, activityNumber}
-use Rattle.text.specs.Text.{decimal, line, wordFree, wordEnd, wordWaits}
-use Rattle.lines.specs.Lines.{header, refused}
+use Rattle.times_combined.specs.Word.{size}
+use Rattle.times_combined.specs.Combined.{Ident, identity}
+use Rattle.times_combined.specs.Combined as C
+use Rattle.times_combined.specs.Times.{Timing}
+use Rattle.times_combined.specs.Paths.{wordOf}
+use Rattle.demands_theory.specs.TheWord.{stateAfter, wholeOf}
+use Rattle.run_path.specs.Path.{isWork, activityNumber}
+use Rattle.timetable_text.specs.Text.{decimal, line, wordFree, wordEnd, wordWaits}
+use Rattle.timetable_lines.specs.Lines.{header, refused}
 use Rattle.judge.specs.Judge.{accepted, judgeOf}
-use Rattle.table.specs.Timetable.{tableOf, timetableOf}
+use Rattle.timetable_turns.specs.Timetable.{tableOf, timetableOf}
 use Rattle.demands.specs.Accepted.{Bytes}
-use Rattle.demand.specs.Loading.{Beyond, Within}
+use Rattle.demands_theory.specs.Loading.{Beyond, Within}
 
 -- ---- the word of the outcomes
 

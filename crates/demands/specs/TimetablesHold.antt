@@ -17,15 +17,15 @@ use Rattle.plan.specs.declared.Plan.{Plan}
 use Rattle.plan.specs.declared.Verdict.{Verdict}
 use Rattle.automaton.specs.Rules.{MeetsAutomaton}
 use Rattle.judge.specs.Judge.{judgeOf}
-use Rattle.behaviour.specs.Word.{size}
-use Rattle.behaviour.specs.Paths.{wordOf, Lawful}
-use Rattle.specified.specs.Plans.{AtMostEight}
-use Rattle.demand.specs.Laws.Next.{lawful, few-pending}
-use Rattle.lines.specs.Lines.{header, refused}
-use Rattle.table.specs.Timetable.{positions, tableOf, judgedText, textOfPlan, timetableOf}
-use Rattle.demand.specs.Laws.Longest.{within-none}
+use Rattle.times_combined.specs.Word.{size}
+use Rattle.times_combined.specs.Paths.{wordOf, Lawful}
+use Rattle.times_equal.specs.Plans.{AtMostEight}
+use Rattle.demands_theory.specs.Laws.Next.{lawful, few-pending}
+use Rattle.timetable_lines.specs.Lines.{header, refused}
+use Rattle.timetable_turns.specs.Timetable.{positions, tableOf, judgedText, textOfPlan, timetableOf}
+use Rattle.demands_theory.specs.Laws.Longest.{within-none}
 use Rattle.demands.specs.Accepted.{Bytes}
-use Rattle.planfile.specs.HoldPlan.{plan-rules}
+use Rattle.plan_file.specs.HoldPlan.{plan-rules}
 use Rattle.demands.specs.AcceptedIff.{accepted-iff}
 use Rattle.demands.specs.Laws.Along as Along
 use Rattle.demands.specs.Laws.Printed as P

@@ -12,8 +12,8 @@ use Rattle.plan.specs.Plan.{outcomesOf}
 use Rattle.plan.specs.declared.Kind.{Kind}
 use Rattle.plan.specs.declared.Plan.{Plan}
 use Rattle.plan.specs.declared.Verdict.{Verdict}
-use Rattle.window.specs.declared.Entry.{Entry}
-use Rattle.window.specs.Window.{first, isStarted, startsBefore, endsBefore, isDue, isLate, isOverdue, isNode}
+use Rattle.run_window.specs.declared.Entry.{Entry}
+use Rattle.run_window.specs.Window.{first, isStarted, startsBefore, endsBefore, isDue, isLate, isOverdue, isNode}
 use Rattle.run.specs.declared.Run.{Run}
 use Rattle.run.specs.declared.Halt.{Halt}
 use Rattle.run.specs.declared.Stop.{Stop}
@@ -29,15 +29,15 @@ use Rattle.judge.specs.Judge.{judgeOf}
 use Rattle.run.specs.Limits.{runInLimits, slackInLimits}
 use Rattle.automaton.specs.Next.{nextOf}
 use Rattle.activity.specs.Tests.{every}
-use Rattle.limits.specs.Limits.{inLimits, partsInLimits, within, nodesInLimits, automatonInLimits}
+use Rattle.plan_limits.specs.Limits.{inLimits, partsInLimits, within, nodesInLimits, automatonInLimits}
 use Rattle.run.specs.Loading.{load, further, mostPending}
-use Rattle.outcomes.specs.Told.{toldOf}
+use Rattle.run_outcomes.specs.Told.{toldOf}
 use Rattle.run.specs.Calls.{answer, refuse, asked, reported, completedBy, completed, afterLoading, learnt, cleared, learnsBy, learns, timely, called, askOf, completionOf, outcomeOf, callOf, isDone, kindOf}
-use Rattle.opening.specs.declared.Short.{Short}
-use Rattle.opening.specs.Short.{onShort, shortFrom}
-use Rattle.opening.specs.Given.{anyAbove, atFirst, availabilities}
+use Rattle.run_opening.specs.declared.Short.{Short}
+use Rattle.run_opening.specs.Short.{onShort, shortFrom}
+use Rattle.run_opening.specs.Given.{anyAbove, atFirst, availabilities}
 use Rattle.run.specs.Opening.{openOf, openJudged, openPlan, afterFirst, zeroRun, fresh}
-use Rattle.log.specs.ByCases.{by-cond, by-found, by-halt}
+use Rattle.demands_log.specs.ByCases.{by-cond, by-found, by-halt}
 use Rattle.demands.specs.Promises.{StatementRefusedUnchanged, StatementStopKept, StatementStopsStay, StatementRefusedOpening, StatementZerosGet50}
 
 -- ---- by cases

@@ -10,7 +10,7 @@ use Rattle.plan.specs.declared.Fault.{Fault}
 use Rattle.plan.specs.declared.Plan.{Plan}
 use Rattle.plan.specs.declared.Verdict.{Verdict}
 use Rattle.format.specs.Format.{Refuses, Holds, print}
-use Rattle.planfile.specs.PlanFile.{faultOrder, planFile}
+use Rattle.plan_file.specs.PlanFile.{faultOrder, planFile}
 use Rattle.activity.specs.Activities.{MeetsAt, FirstAt}
 use Rattle.automaton.specs.Rules.{MeetsAutomaton, Judges}
 use Rattle.judge.specs.Judge.{judgeOf}

@@ -14,13 +14,13 @@ use Rattle.plan.specs.declared.Node.{Node}
 use Rattle.plan.specs.declared.Plan.{Plan}
 use Rattle.plan.specs.declared.Verdict.{Verdict}
 use Rattle.plan.specs.declared.PlanRead.{PlanRead}
-use Rattle.lists.specs.Lists.{Among}
+use Rattle.basis.specs.Lists.{Among}
 use Rattle.format.specs.Format as F
 use Rattle.format.specs.Format.{faulty, more, Faulty, short, wrong, result}
-use Rattle.planfile.specs.PlanFile.{faultOrder, planFile}
-use Rattle.planfile.specs.Accepted as W
-use Rattle.planfile.specs.HoldPlan.{plan-rules}
-use Rattle.planfile.specs.Refused.{refused-exactly}
+use Rattle.plan_file.specs.PlanFile.{faultOrder, planFile}
+use Rattle.plan_file.specs.Accepted as W
+use Rattle.plan_file.specs.HoldPlan.{plan-rules}
+use Rattle.plan_file.specs.Refused.{refused-exactly}
 use Rattle.activity.specs.Number.{activitiesVerdict}
 use Rattle.activity.specs.Activities as A
 use Rattle.activity.specs.Activities.{FirstAt}

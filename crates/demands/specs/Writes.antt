@@ -11,10 +11,10 @@ use Rattle.plan.specs.Reading.{readPlan}
 use Rattle.plan.specs.declared.Plan.{Plan}
 use Rattle.plan.specs.declared.Verdict.{Verdict}
 use Rattle.format.specs.Format.{Holds, print}
-use Rattle.planfile.specs.PlanFile.{faultOrder, planFile}
-use Rattle.writing.specs.Writing.{numberOf, placeOf, writtenOf, bufferOf}
-use Rattle.writing.specs.declared.NotWritten.{NotWritten}
-use Rattle.writing.specs.declared.Written.{Written}
+use Rattle.plan_file.specs.PlanFile.{faultOrder, planFile}
+use Rattle.plan_write.specs.Writing.{numberOf, placeOf, writtenOf, bufferOf}
+use Rattle.plan_write.specs.declared.NotWritten.{NotWritten}
+use Rattle.plan_write.specs.declared.Written.{Written}
 use Rattle.demands.specs.Alike.{SamePlan}
 
 pub data Writes (p : Plan) (out : List ℕ) : Written → Type 0 where

@@ -14,17 +14,17 @@ use Rattle.plan.specs.Encoding.{encode}
 use Rattle.plan.specs.declared.Plan.{Plan}
 use Rattle.plan.specs.declared.PlanRead.{PlanRead}
 use Rattle.activity.specs.Tells.{Tells, holds, fails}
-use Rattle.limits.specs.Limits.{fileRules}
-use Rattle.limits.specs.Files.{tells-file-rules}
+use Rattle.plan_limits.specs.Limits.{fileRules}
+use Rattle.plan_limits.specs.Files.{tells-file-rules}
 use Rattle.format.specs.Format.{print}
 use Rattle.format.specs.Writing.{printed-bytes}
-use Rattle.planfile.specs.PlanFile.{planFile}
-use Rattle.planfile.specs.Accepted.{read-printed}
-use Rattle.planfile.specs.HoldPlan.{plan-rules, plan-print}
-use Rattle.planfile.specs.RulesPlan.{plan-holds}
-use Rattle.writing.specs.Writing.{numberOf, writtenOf, bufferOf}
-use Rattle.writing.specs.declared.NotWritten.{NotWritten}
-use Rattle.writing.specs.declared.Written.{Written}
+use Rattle.plan_file.specs.PlanFile.{planFile}
+use Rattle.plan_file.specs.Accepted.{read-printed}
+use Rattle.plan_file.specs.HoldPlan.{plan-rules, plan-print}
+use Rattle.plan_file.specs.RulesPlan.{plan-holds}
+use Rattle.plan_write.specs.Writing.{numberOf, writtenOf, bufferOf}
+use Rattle.plan_write.specs.declared.NotWritten.{NotWritten}
+use Rattle.plan_write.specs.declared.Written.{Written}
 use Rattle.demands.specs.Accepted.{Bytes}
 use Rattle.demands.specs.Alike.{SamePlan}
 use Rattle.demands.specs.Laws.ReadAlike.{read-alike}

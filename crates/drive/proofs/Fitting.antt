@@ -8,7 +8,7 @@ use native.Mathlib.Omega.{arith}
 use lib.ListN.{length, length-append}
 use lib.Seq.{sets-eq}
 use borrow.Author.Tests.{le-leb, lt-leb}
-use Rattle.puts.specs.Puts.{Puts}
+use Rattle.wire.specs.Puts.{Puts}
 use Rattle.drive.specs.declared.Head.{Head}
 use Rattle.drive.specs.declared.HeadRead.{HeadRead}
 use Rattle.drive.specs.declared.Record.{Record}

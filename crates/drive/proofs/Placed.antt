@@ -6,7 +6,7 @@ use native.Mathlib.Nat.{zero-add}
 use native.Mathlib.Omega.{arith}
 use lib.ListN.{length, take, drop, length-take, length-drop}
 use lib.Seq.{sets, sets-eq, drop-drop, drop-length}
-use Rattle.puts.specs.Puts.{Puts}
+use Rattle.wire.specs.Puts.{Puts}
 use Rattle.drive.specs.declared.Record.{Record}
 use Rattle.drive.specs.Records.{recordBytes}
 

@@ -8,14 +8,14 @@ use native.Mathlib.Omega.{arith}
 use lib.ListN.{length}
 use lib.Dec.{leb, eqb}
 use borrow.Author.Tests.{le-leb, lt-leb, leb-true}
-use Rattle.puts.specs.Puts.{Puts, puts-none, puts-join}
+use Rattle.wire.specs.Puts.{Puts, puts-none, puts-join}
 use Rattle.run.specs.declared.Run.{Run}
 use Rattle.run.specs.declared.Call.{Call}
 use Rattle.run.specs.declared.Answer.{Answer}
 use Rattle.run.specs.declared.Opened.{Opened}
 use Rattle.run.specs.Calls.{callOf}
-use Rattle.log.specs.Log.{Log, said}
-use Rattle.log.specs.Drive.{drive}
+use Rattle.demands_log.specs.Log.{Log, said}
+use Rattle.demands_log.specs.Drive.{drive}
 use Rattle.drive.specs.declared.Head.{Head}
 use Rattle.drive.specs.declared.HeadRead.{HeadRead}
 use Rattle.drive.specs.declared.CallRead.{CallRead}

@@ -7,8 +7,8 @@ use lib.ListN.{length, drop}
 use lib.Dec.{leb}
 use Rattle.run.specs.declared.Run.{Run}
 use Rattle.run.specs.declared.Call.{Call}
-use Rattle.log.specs.Log.{Log}
-use Rattle.log.specs.Drive.{drive}
+use Rattle.demands_log.specs.Log.{Log}
+use Rattle.demands_log.specs.Drive.{drive}
 use Rattle.drive.specs.declared.CallRead.{CallRead}
 use Rattle.drive.specs.declared.Record.{Record}
 use Rattle.drive.specs.declared.NotRecorded.{NotRecorded}

@@ -3,7 +3,7 @@
 ghost use mathlib.Core.Path.{_≡_};
 ghost use Prim.Native.Nat.{_+_, _*_, _≤_, _<_};
 ghost use lib.ListN.{length};
-ghost use Rattle.puts.specs.Puts.{Puts};
+ghost use Rattle.wire.specs.Puts.{Puts};
 ghost use Rattle.drive.specs.Input.{headOf};
 ghost use Rattle.drive.specs.Drive.{callsFrom, callsOf, recordsFrom, textOf, joined, recordedOf, bufferOf};
 

@@ -9,7 +9,7 @@ ghost use mathlib.Core.Path.{_≡_};
 ghost use Prim.Native.Nat.{_+_, _≤_, _<_};
 ghost use lib.ListN.{length};
 ghost use Rattle.run.specs.Numbers.{refusalNumber, openNumber, openPlace};
-ghost use Rattle.puts.specs.Puts.{Puts};
+ghost use Rattle.wire.specs.Puts.{Puts};
 ghost use Rattle.drive.specs.Records.{bare, stopRecord, openingRecord, replyRecord, recordBytes};
 
 // An answer that names no node.
@@ -31,7 +31,7 @@ fn unopened_record(u: Unopened) -> Record
     ensures { λ r. ⌜ r ≡ bare 5 (openNumber u) (openPlace u) ⌝ }
 {
     match u {
-        Unopened::Plan(f, place) => bare(5, faults::number_of(f), place as u64),
+        Unopened::Plan(f, place) => bare(5, plan::numbers::number_of(f), place as u64),
         Unopened::Availabilities => bare(5, 30, 0),
         Unopened::Time => bare(5, 31, 0),
         Unopened::Slack => bare(5, 32, 0),
@@ -113,12 +113,12 @@ pub fn reply_record(reply: Reply) -> Record
 fn put_first(out: &mut [u8], r: Record) -> usize
     ensures { λ n. ⌜ Puts (now (out .entry)) 0 (recordBytes r) (now (out .exit)) n ⌝ }
 {
-    let a = puts::put_byte(out, 0, r.answer);
-    let b = puts::put_byte(out, a, r.number);
-    let c = puts::put_byte(out, b, r.node);
-    let d = puts::put_byte(out, c, 0);
-    let e = puts::put_number(out, d, r.position as u64, 4);
-    puts::put_number(out, e, r.place, 8)
+    let a = wire::puts::put_byte(out, 0, r.answer);
+    let b = wire::puts::put_byte(out, a, r.number);
+    let c = wire::puts::put_byte(out, b, r.node);
+    let d = wire::puts::put_byte(out, c, 0);
+    let e = wire::puts::put_number(out, d, r.position as u64, 4);
+    wire::puts::put_number(out, e, r.place, 8)
 }
 
 // A record at `at`: the offset past it.

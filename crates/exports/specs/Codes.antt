@@ -6,8 +6,8 @@ use Rattle.plan.specs.declared.Verdict.{Verdict}
 use Rattle.plan.specs.declared.PlanRead.{PlanRead}
 use Rattle.activity.specs.Number.{activitiesVerdict}
 use Rattle.judge.specs.Judge.{onVerdict}
-use Rattle.writing.specs.Writing.{writtenOf, bufferOf, numberOf as numberOfWriter}
-use Rattle.writing.specs.declared.Written.{Written}
+use Rattle.plan_write.specs.Writing.{writtenOf, bufferOf, numberOf as numberOfWriter}
+use Rattle.plan_write.specs.declared.Written.{Written}
 use Rattle.drive.specs.Drive.{numberOf as numberOfDrive}
 use Rattle.drive.specs.declared.Recorded.{Recorded}
 

@@ -4,8 +4,8 @@ use drive::Recorded;
 use plan::Fault;
 use plan::Plan;
 use plan::Verdict;
-use writing::NotWritten;
-use writing::Written;
+use plan_write::NotWritten;
+use plan_write::Written;
 ghost use mathlib.Core.Path.{_≡_};
 ghost use Prim.Native.Nat.{_≤_, _<_, min};
 ghost use Rattle.plan.specs.Fault.{numberOf};
@@ -23,7 +23,7 @@ pub mod timetables; // the timetable
 fn number(f: Fault) -> u64
     ensures { λ r. ⌜ (r ≡ numberOf f) × (r < 256) ⌝ }
 {
-    faults::number_of(f) as u64
+    plan::numbers::number_of(f) as u64
 }
 
 // The place, or 2^32 - 1 where it is larger.
@@ -51,7 +51,7 @@ fn code(v: Verdict) -> u64
 pub extern "C" fn jidlekuvo_read(bytes: &[u8]) -> u64
     ensures { λ r. ⌜ r ≡ codeOf (readPlan (now (bytes .entry)) .verdict) ⌝ }
 {
-    let read = reading::read(bytes);
+    let read = plan_read::read(bytes);
     let v = read.verdict;
     code(v)
 }
@@ -69,7 +69,7 @@ fn activities_of(plan: Plan) -> u64
 pub extern "C" fn jidlekuvo_activities(bytes: &[u8]) -> u64
     ensures { λ r. ⌜ r ≡ activitiesCode (readPlan (now (bytes .entry))) ⌝ }
 {
-    let read = reading::read(bytes);
+    let read = plan_read::read(bytes);
     let v = read.verdict;
     match v {
         Verdict::Refused(f, place) => code(Verdict::Refused(f, place)),
@@ -108,13 +108,13 @@ fn written_code(w: Written) -> u64
 pub extern "C" fn jidlekuvo_write_back(bytes: &[u8], out: &mut [u8]) -> u64
     ensures { λ r. ⌜ (r ≡ backCode (readPlan (now (bytes .entry))) (now (out .entry))) × (now (out .exit) ≡ backBuffer (readPlan (now (bytes .entry))) (now (out .entry))) ⌝ }
 {
-    let read = reading::read(bytes);
+    let read = plan_read::read(bytes);
     let v = read.verdict;
     match v {
         Verdict::Refused(f, place) => code(Verdict::Refused(f, place)),
         Verdict::Accepted => {
             let plan = read.plan;
-            written_code(writing::write(plan, out))
+            written_code(plan_write::write(plan, out))
         }
     }
 }

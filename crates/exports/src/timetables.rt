@@ -1,8 +1,8 @@
 // The timetable, for callers in another language.
-use table::Put;
+use timetable_turns::Put;
 ghost use mathlib.Core.Path.{_≡_};
-ghost use Rattle.table.specs.Timetable.{timetableOf};
-ghost use Rattle.table.specs.Lent.{putOf, bufferOf};
+ghost use Rattle.timetable_turns.specs.Timetable.{timetableOf};
+ghost use Rattle.timetable_turns.specs.Lent.{putOf, bufferOf};
 ghost use Rattle.exports.specs.Lengths.{lengthCode};
 
 // The length of the text, or 36 · 2^32.
@@ -21,5 +21,5 @@ fn length_code(put: Put) -> usize
 pub extern "C" fn jidlekuvo_timetable(input: &[u8], out: &mut [u8]) -> usize
     ensures { λ r. ⌜ (r ≡ lengthCode (putOf (now (out .entry)) 0 (timetableOf (now (input .entry))))) × (now (out .exit) ≡ bufferOf (now (out .entry)) 0 (timetableOf (now (input .entry)))) ⌝ }
 {
-    length_code(table::timetable(input, out))
+    length_code(timetable_turns::timetable(input, out))
 }

@@ -5,7 +5,7 @@ use mathlib.Core.Logic.{_↔_}
 use Prim.Native.Nat.{ℕ, _<_}
 use lib.ListN.{getD}
 use Rattle.plan.specs.Limits.{InLimits}
-use Rattle.roundtrip.specs.RoundTrip as R
+use Rattle.plan_roundtrip.specs.RoundTrip as R
 use Rattle.plan.specs.declared.Fault.{Fault}
 use Rattle.plan.specs.declared.Plan.{Plan}
 use Rattle.plan.specs.declared.Verdict.{Verdict}

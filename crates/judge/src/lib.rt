@@ -11,9 +11,9 @@ fn judge_automaton(plan: Plan) -> PlanRead
     requires { ⌜ InLimits plan ⌝ }
     ensures { λ r. ⌜ r ≡ judgeAutomaton plan ⌝ }
 {
-    let v = states::automaton(plan);
+    let v = automaton_verdict::automaton(plan);
     match v {
-        Verdict::Refused(f, place) => reading::no_plan(f, place),
+        Verdict::Refused(f, place) => plan_read::no_plan(f, place),
         Verdict::Accepted => PlanRead {
             verdict: Verdict::Accepted,
             plan,
@@ -28,7 +28,7 @@ fn judge_plan(plan: Plan) -> PlanRead
 {
     let v = activity::activities(plan);
     match v {
-        Verdict::Refused(f, place) => reading::no_plan(f, place),
+        Verdict::Refused(f, place) => plan_read::no_plan(f, place),
         Verdict::Accepted => judge_automaton(plan),
     }
 }
@@ -37,10 +37,10 @@ fn judge_plan(plan: Plan) -> PlanRead
 pub fn judge(bytes: &[u8]) -> PlanRead
     ensures { λ r. ⌜ r ≡ judgeOf (now (bytes .entry)) ⌝ }
 {
-    let read = reading::read(bytes);
+    let read = plan_read::read(bytes);
     let v = read.verdict;
     match v {
-        Verdict::Refused(f, place) => reading::no_plan(f, place),
+        Verdict::Refused(f, place) => plan_read::no_plan(f, place),
         Verdict::Accepted => {
             let plan = read.plan;
             judge_plan(plan)

@@ -4,8 +4,8 @@ use Prim.Native.Nat.{ℕ}
 use Rattle.wire.specs.Number.{little}
 use Rattle.plan.specs.declared.Automaton.{Automaton}
 use Rattle.plan.specs.declared.Plan.{Plan}
-use Rattle.timing.specs.declared.Progress.{Progress}
-use Rattle.window.specs.declared.Entry.{Entry}
+use Rattle.times.specs.declared.Progress.{Progress}
+use Rattle.run_window.specs.declared.Entry.{Entry}
 use Rattle.made.specs.Layout.{nodeSize, moveSize, instanceSize, entrySize, timeSize, resourcesFrom, peripheralsFrom, belongsFrom, eventsFrom, outcomesFrom, activitiesFrom, sizesFrom, nodesFrom, statesFrom, initialFrom, finalsFrom, countFrom, movesFrom, availableFrom, latestFrom, lengthsFrom, pendingFrom, positionFrom, stateFrom, windowFrom}
 use Rattle.made.specs.Values.{byteAt, timeAt, arrayAt, nodeAt, moveAt, instanceAt, entryAt}
 

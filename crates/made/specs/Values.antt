@@ -12,10 +12,10 @@ use Rattle.plan.specs.declared.Node.{Node}
 use Rattle.plan.specs.declared.Input.{Input}
 use Rattle.plan.specs.declared.Output.{Output}
 use Rattle.plan.specs.declared.Transition.{Transition}
-use Rattle.timing.specs.declared.Told.{Told}
-use Rattle.timing.specs.declared.Instance.{Instance}
-use Rattle.window.specs.declared.Phase.{Phase}
-use Rattle.window.specs.declared.Entry.{Entry}
+use Rattle.times.specs.declared.Told.{Told}
+use Rattle.times.specs.declared.Instance.{Instance}
+use Rattle.run_window.specs.declared.Phase.{Phase}
+use Rattle.run_window.specs.declared.Entry.{Entry}
 
 abbrev pub byteAt : List ℕ → ℕ → ℕ
 byteAt b at = getD b at 0

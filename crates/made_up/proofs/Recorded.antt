@@ -7,7 +7,7 @@ use native.Mathlib.Omega.{arith}
 use borrow.Author.Tests.{le-leb, lt-leb}
 use lib.ListN.{length, drop, length-append}
 use lib.Seq.{sets-eq}
-use Rattle.puts.specs.Puts.{Puts, puts-join}
+use Rattle.wire.specs.Puts.{Puts, puts-join}
 use Rattle.run.specs.declared.Run.{Run}
 use Rattle.run.specs.declared.Call.{Call}
 use Rattle.run.specs.declared.Answer.{Answer}

@@ -4,7 +4,7 @@ use mathlib.Core.Bool.{Bool, true, false}
 use mathlib.Core.List.{List, [], _∷_, _++_}
 use Prim.Native.Nat.{ℕ, zero, suc, _+_, _*_}
 use lib.ListN.{getD}
-use Rattle.lists.specs.Parts.{part}
+use Rattle.basis.specs.Parts.{part}
 use Rattle.wire.specs.Number.{bytesOf, present, optionalBytes}
 use Rattle.wire.specs.Map.{mapOf}
 use Rattle.plan.specs.declared.Kind.{Kind}

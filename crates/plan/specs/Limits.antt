@@ -4,7 +4,7 @@ use mathlib.Core.Bool.{true}
 use mathlib.Core.List.{List, [], _∷_}
 use Prim.Native.Nat.{ℕ, _*_, _+_, _≤_, _<_}
 use lib.ListN.{getD}
-use Rattle.lists.specs.Lists.{Among}
+use Rattle.basis.specs.Lists.{Among}
 use Rattle.plan.specs.declared.Kind.{Kind}
 use Rattle.plan.specs.declared.Node.{Node}
 use Rattle.plan.specs.declared.Input.{Input}

@@ -1,6 +1,7 @@
 // The plan of a behaviour, as document 01's section "The plan file" describes it: types alone.
 // Slots past a count are spare room: zeros where the engine makes them, and never read.
 pub mod fields;
+pub mod numbers; // the number of each fault
 
 // Which of the four kinds a node is, with the numbers that it names.
 pub enum Kind {
@@ -16,9 +17,9 @@ pub enum Kind {
 
 // A node of an activity.
 pub struct Node {
-    pub kind: Kind,
     // whole microseconds; 0 without a duration field
     pub duration: u32,
+    pub kind: Kind,
     // how many predecessors it has, 0 to 8
     pub count: u8,
     pub preds: [u8; 8],

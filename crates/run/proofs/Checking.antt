@@ -12,21 +12,21 @@ use Rattle.time.specs.Time.{horizon}
 use Rattle.time.specs.declared.Clock.{Clock}
 use Rattle.plan.specs.Limits.{InLimits, KindNames}
 use Rattle.plan.specs.Plan.{sizeOf}
-use Rattle.timing.specs.Engine.{lastPosition}
-use Rattle.timing.specs.Limits.{ProgressInLimits}
+use Rattle.times.specs.Engine.{lastPosition}
+use Rattle.times.specs.Limits.{ProgressInLimits}
 use Rattle.activity.specs.Tells.{Tells, holds, fails, told-true, tells-and, tells-or}
-use Rattle.limits.specs.Window.{entryInLimits, windowInLimits}
-use Rattle.limits.specs.Tells.{tells-ltb, tells-leb}
-use Rattle.limits.specs.Plans.{tells-in-limits}
-use Rattle.limits.specs.Stored.{tells-stored}
-use Rattle.limits.specs.Places.{tells-window}
-use Rattle.window.specs.declared.Entry.{Entry}
-use Rattle.window.specs.declared.Found.{Found}
-use Rattle.window.specs.Window.{vacant, isFree, isHeld, isStarted, isNode, isOverdue, isLate, isDue, startsBefore, endsBefore, onFound, first}
-use Rattle.window.specs.Times.{AllInTime}
-use Rattle.window.specs.Tests.{by-test, started-true, held-unfree}
-use Rattle.window.specs.Order.{starts-order}
-use Rattle.window.specs.Firsts.{First, first-found, by-first}
+use Rattle.plan_limits.specs.Window.{entryInLimits, windowInLimits}
+use Rattle.plan_limits.specs.Tells.{tells-ltb, tells-leb}
+use Rattle.plan_limits.specs.Plans.{tells-in-limits}
+use Rattle.plan_limits.specs.Stored.{tells-stored}
+use Rattle.plan_limits.specs.Places.{tells-window}
+use Rattle.run_window.specs.declared.Entry.{Entry}
+use Rattle.run_window.specs.declared.Found.{Found}
+use Rattle.run_window.specs.Window.{vacant, isFree, isHeld, isStarted, isNode, isOverdue, isLate, isDue, startsBefore, endsBefore, onFound, first}
+use Rattle.run_window.specs.Times.{AllInTime}
+use Rattle.run_window.specs.Tests.{by-test, started-true, held-unfree}
+use Rattle.run_window.specs.Order.{starts-order}
+use Rattle.run_window.specs.Firsts.{First, first-found, by-first}
 use Rattle.run.specs.declared.Stop.{Stop}
 use Rattle.run.specs.declared.Halt.{Halt}
 use Rattle.run.specs.declared.Run.{Run}

@@ -7,13 +7,13 @@ use native.Mathlib.Omega.{arith}
 use borrow.Author.Tests.{lt-ltb, le-ltb}
 use lib.ListN.{length, take}
 use Rattle.automaton.specs.declared.Next.{Next}
-use Rattle.timing.specs.declared.Progress.{Progress}
-use Rattle.window.specs.declared.Entry.{Entry}
-use Rattle.window.specs.Window.{placed, vacancies}
-use Rattle.path.specs.Path.{Path, pathFrom, longestPath}
-use Rattle.path.specs.Pathed.{pathed, Loads}
-use Rattle.path.specs.declared.Pathed.{Pathed}
-use Rattle.path.specs.Laws.InTime.{loads, placed-all}
+use Rattle.times.specs.declared.Progress.{Progress}
+use Rattle.run_window.specs.declared.Entry.{Entry}
+use Rattle.run_window.specs.Window.{placed, vacancies}
+use Rattle.run_path.specs.Path.{Path, pathFrom, longestPath}
+use Rattle.run_path.specs.Pathed.{pathed, Loads}
+use Rattle.run_path.specs.declared.Pathed.{Pathed}
+use Rattle.run_path.specs.Laws.InTime.{loads, placed-all}
 use Rattle.run.specs.declared.Run.{Run}
 use Rattle.run.specs.declared.Failure.{Failure}
 use Rattle.run.specs.Calls.{heard}

@@ -9,18 +9,18 @@ use Rattle.automaton.specs.Next.{chosenOf}
 use Rattle.automaton.specs.States.{ChosenIs, chosen-is}
 use Rattle.automaton.specs.declared.Next.{Next}
 use Rattle.automaton.specs.declared.Chosen.{Chosen}
-use Rattle.timing.specs.declared.Told.{Told}
-use Rattle.timing.specs.declared.Progress.{Progress}
-use Rattle.window.specs.Window.{vacancies}
-use Rattle.window.specs.Tests.{by-test}
-use Rattle.path.specs.Path.{Path, pathFrom, longestPath}
-use Rattle.path.specs.Pathed.{Leads, pathed}
-use Rattle.path.specs.Laws.InTime.{loads}
+use Rattle.times.specs.declared.Told.{Told}
+use Rattle.times.specs.declared.Progress.{Progress}
+use Rattle.run_window.specs.Window.{vacancies}
+use Rattle.run_window.specs.Tests.{by-test}
+use Rattle.run_path.specs.Path.{Path, pathFrom, longestPath}
+use Rattle.run_path.specs.Pathed.{Leads, pathed}
+use Rattle.run_path.specs.Laws.InTime.{loads}
 use Rattle.run.specs.declared.Run.{Run}
 use Rattle.run.specs.declared.Failure.{Failure}
 use Rattle.run.specs.declared.Loading.{Loading}
-use Rattle.outcomes.specs.Told.{oldestTold}
-use Rattle.outcomes.specs.Way.{byChoice, byTold, wayOn}
+use Rattle.run_outcomes.specs.Told.{oldestTold}
+use Rattle.run_outcomes.specs.Way.{byChoice, byTold, wayOn}
 use Rattle.run.specs.Loading.{loading, load, onWay, onLoading, further}
 use Rattle.run.specs.Loads.{Loads, Loadable}
 use Rattle.run.specs.Inner.{wayOf, hasFailed}

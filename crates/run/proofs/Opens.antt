@@ -15,10 +15,10 @@ use Rattle.plan.specs.declared.PlanRead.{PlanRead}
 use Rattle.judge.specs.Judge.{accepted, judgeOf}
 use Rattle.judge.specs.Laws.{passed, read-limits}
 use Rattle.run.specs.declared.Unopened.{Unopened}
-use Rattle.opening.specs.declared.Short.{Short}
-use Rattle.opening.specs.Given.{atFirst, availabilities, anyAbove}
-use Rattle.opening.specs.Short.{onShort}
-use Rattle.opening.specs.Laws.{first-in}
+use Rattle.run_opening.specs.declared.Short.{Short}
+use Rattle.run_opening.specs.Given.{atFirst, availabilities, anyAbove}
+use Rattle.run_opening.specs.Short.{onShort}
+use Rattle.run_opening.specs.Laws.{first-in}
 use Rattle.run.specs.Limits.{slackInLimits}
 use Rattle.run.specs.Loads.{Loads}
 use Rattle.run.specs.Opening.{fresh, unopened, openPlan, openJudged, openOf}

@@ -6,13 +6,13 @@ use native.Mathlib.Omega.{arith}
 use lib.ListN.{getD, set}
 use Rattle.time.specs.declared.Clock.{Clock}
 use Rattle.plan.specs.Plan.{outcomesOf}
-use Rattle.timing.specs.declared.Instance.{Instance}
-use Rattle.timing.specs.Queues.{noInstance, pendingOf}
-use Rattle.timing.specs.Limits.{InstanceInLimits}
-use Rattle.window.specs.declared.Entry.{Entry}
-use Rattle.window.specs.Tests.{by-test}
+use Rattle.times.specs.declared.Instance.{Instance}
+use Rattle.times.specs.Queues.{noInstance, pendingOf}
+use Rattle.times.specs.Limits.{InstanceInLimits}
+use Rattle.run_window.specs.declared.Entry.{Entry}
+use Rattle.run_window.specs.Tests.{by-test}
 use Rattle.run.specs.declared.Run.{Run}
-use Rattle.outcomes.specs.Told.{tell, isInstance, toldFrom}
+use Rattle.run_outcomes.specs.Told.{tell, isInstance, toldFrom}
 use Rattle.run.specs.Loads.{Loads}
 use Rattle.run.specs.Inner.{toldRun}
 

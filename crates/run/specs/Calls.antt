@@ -4,13 +4,13 @@ use mathlib.Core.List.{List, [], _∷_}
 use Prim.Native.Nat.{ℕ, zero, suc, _+_, _*_}
 use lib.Dec.{ltb, eqb}
 use lib.ListN.{getD, set}
-use Rattle.lists.specs.Parts.{part}
+use Rattle.basis.specs.Parts.{part}
 use Rattle.time.specs.declared.Clock.{Clock}
 use Rattle.plan.specs.Plan.{isFinal, outcomesOf}
 use Rattle.plan.specs.Limits.{nodeAt}
 use Rattle.plan.specs.declared.Kind.{Kind}
-use Rattle.timing.specs.declared.Progress.{Progress}
-use Rattle.window.specs.declared.Entry.{Entry}
+use Rattle.times.specs.declared.Progress.{Progress}
+use Rattle.run_window.specs.declared.Entry.{Entry}
 use Rattle.run.specs.declared.Stop.{Stop}
 use Rattle.run.specs.declared.Halt.{Halt}
 use Rattle.run.specs.declared.Run.{Run}
@@ -20,8 +20,8 @@ use Rattle.run.specs.declared.Answer.{Answer}
 use Rattle.run.specs.declared.Call.{Call}
 use Rattle.run.specs.declared.Failure.{Failure}
 use Rattle.run.specs.declared.Loading.{Loading}
-use Rattle.window.specs.Window.{vacant, isStarted, startedOf, isOverdue, isLate, isDue, isNode, startsBefore, endsBefore, onFound, first, isEmpty}
-use Rattle.outcomes.specs.Told.{toldOf}
+use Rattle.run_window.specs.Window.{vacant, isStarted, startedOf, isOverdue, isLate, isDue, isNode, startsBefore, endsBefore, onFound, first, isEmpty}
+use Rattle.run_outcomes.specs.Told.{toldOf}
 use Rattle.run.specs.Loading.{further, mostPending}
 use Rattle.run.specs.Limits.{runInLimits}
 

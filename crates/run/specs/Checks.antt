@@ -6,12 +6,12 @@ use lib.Dec.{ltb, leb}
 use lib.ListN.{set}
 use Rattle.time.specs.Time.{horizon}
 use Rattle.time.specs.declared.Clock.{Clock}
-use Rattle.timing.specs.Engine.{lastPosition}
-use Rattle.limits.specs.Limits.{progressInLimits}
-use Rattle.limits.specs.Window.{windowInLimits}
-use Rattle.window.specs.declared.Entry.{Entry}
-use Rattle.window.specs.Window.{isStarted, startedOf, isOverdue, isLate, isNode, startsBefore, endsBefore, onFound, first}
-use Rattle.window.specs.Times.{AllInTime}
+use Rattle.times.specs.Engine.{lastPosition}
+use Rattle.plan_limits.specs.Limits.{progressInLimits}
+use Rattle.plan_limits.specs.Window.{windowInLimits}
+use Rattle.run_window.specs.declared.Entry.{Entry}
+use Rattle.run_window.specs.Window.{isStarted, startedOf, isOverdue, isLate, isNode, startsBefore, endsBefore, onFound, first}
+use Rattle.run_window.specs.Times.{AllInTime}
 use Rattle.run.specs.declared.Stop.{Stop}
 use Rattle.run.specs.declared.Halt.{Halt}
 use Rattle.run.specs.declared.Run.{Run}

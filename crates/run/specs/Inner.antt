@@ -7,17 +7,17 @@ use Rattle.plan.specs.declared.Kind.{Kind}
 use Rattle.plan.specs.declared.Plan.{Plan}
 use Rattle.automaton.specs.Next.{nextOf}
 use Rattle.automaton.specs.declared.Next.{Next}
-use Rattle.window.specs.declared.Entry.{Entry}
+use Rattle.run_window.specs.declared.Entry.{Entry}
 use Rattle.run.specs.declared.Run.{Run}
 use Rattle.run.specs.declared.Answer.{Answer}
 use Rattle.run.specs.declared.Unopened.{Unopened}
 use Rattle.run.specs.declared.Opened.{Opened}
 use Rattle.run.specs.declared.Failure.{Failure}
 use Rattle.run.specs.declared.Loading.{Loading}
-use Rattle.outcomes.specs.Way.{wayOn}
-use Rattle.outcomes.specs.Told.{toldOf}
-use Rattle.opening.specs.Given.{atFirst, availabilities}
-use Rattle.opening.specs.Short.{shortFrom, onShort}
+use Rattle.run_outcomes.specs.Way.{wayOn}
+use Rattle.run_outcomes.specs.Told.{toldOf}
+use Rattle.run_opening.specs.Given.{atFirst, availabilities}
+use Rattle.run_opening.specs.Short.{shortFrom, onShort}
 use Rattle.run.specs.Opening.{unopened, begin, fresh}
 use Rattle.run.specs.Calls.{cleared, afterLoading, learnsBy}
 

@@ -3,9 +3,9 @@ use mathlib.Core.Bool.{Bool, true, _&&_}
 use Prim.Native.Nat.{ℕ}
 use lib.Dec.{ltb, leb}
 use Rattle.time.specs.Time.{horizon}
-use Rattle.timing.specs.Engine.{lastPosition}
-use Rattle.limits.specs.Limits.{inLimits, progressInLimits}
-use Rattle.limits.specs.Window.{windowInLimits}
+use Rattle.times.specs.Engine.{lastPosition}
+use Rattle.plan_limits.specs.Limits.{inLimits, progressInLimits}
+use Rattle.plan_limits.specs.Window.{windowInLimits}
 use Rattle.run.specs.declared.Stop.{Stop}
 use Rattle.run.specs.declared.Halt.{Halt}
 use Rattle.run.specs.declared.Run.{Run}

@@ -9,9 +9,9 @@ use Rattle.automaton.specs.declared.Next.{Next}
 use Rattle.run.specs.declared.Run.{Run}
 use Rattle.run.specs.declared.Failure.{Failure}
 use Rattle.run.specs.declared.Loading.{Loading}
-use Rattle.window.specs.Window.{placed, vacancies}
-use Rattle.path.specs.Path.{Path, pathFrom, longestPath}
-use Rattle.outcomes.specs.Way.{wayOn}
+use Rattle.run_window.specs.Window.{placed, vacancies}
+use Rattle.run_path.specs.Path.{Path, pathFrom, longestPath}
+use Rattle.run_outcomes.specs.Way.{wayOn}
 
 -- ---- loading
 

@@ -1,7 +1,7 @@
 -- What loading asks of a run: the numbers that its plan and its progress store are within the limits (number 50).
 use Rattle.plan.specs.Limits.{InLimits}
 use Rattle.automaton.specs.declared.Next.{Next}
-use Rattle.path.specs.Pathed.{ProgressIn, Leads}
+use Rattle.run_path.specs.Pathed.{ProgressIn, Leads}
 use Rattle.run.specs.declared.Run.{Run}
 
 -- the plan, and where the behaviour stands, within the limits

@@ -14,7 +14,7 @@ use Rattle.plan.specs.declared.PlanRead.{PlanRead}
 use Rattle.plan.specs.Reading.{zeroPlan}
 use Rattle.judge.specs.Judge.{judgeOf}
 use Rattle.automaton.specs.Next.{nextOf}
-use Rattle.timing.specs.declared.Progress.{Progress}
+use Rattle.times.specs.declared.Progress.{Progress}
 use Rattle.run.specs.declared.Halt.{Halt}
 use Rattle.run.specs.declared.Run.{Run}
 use Rattle.run.specs.declared.Unopened.{Unopened}
@@ -22,11 +22,11 @@ use Rattle.run.specs.declared.Opening.{Opening}
 use Rattle.run.specs.declared.Opened.{Opened}
 use Rattle.run.specs.declared.Failure.{Failure}
 use Rattle.run.specs.declared.Loading.{Loading}
-use Rattle.window.specs.Window.{vacant}
-use Rattle.timing.specs.Times.{specified}
+use Rattle.run_window.specs.Window.{vacant}
+use Rattle.times.specs.Times.{specified}
 use Rattle.run.specs.Limits.{slackInLimits}
-use Rattle.opening.specs.Given.{atFirst, availabilities, anyAbove}
-use Rattle.opening.specs.Short.{shortFrom, onShort}
+use Rattle.run_opening.specs.Given.{atFirst, availabilities, anyAbove}
+use Rattle.run_opening.specs.Short.{shortFrom, onShort}
 use Rattle.run.specs.Loading.{load}
 
 -- ---- the run at its opening

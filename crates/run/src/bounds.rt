@@ -4,8 +4,8 @@ use crate::Run;
 use crate::Stop;
 ghost use mathlib.Core.Path.{_≡_};
 ghost use mathlib.Core.Bool.{_&&_};
-ghost use Rattle.limits.specs.Limits.{progressInLimits};
-ghost use Rattle.limits.specs.Window.{windowInLimits};
+ghost use Rattle.plan_limits.specs.Limits.{progressInLimits};
+ghost use Rattle.plan_limits.specs.Window.{windowInLimits};
 ghost use Rattle.run.specs.Limits.{stopInLimits, haltInLimits, slackInLimits, runInLimits};
 ghost use Rattle.run.specs.Checks.{nodeNamed, storedInLimits};
 
@@ -67,12 +67,12 @@ fn stored_in_limits(run: Run) -> bool
 {
     let plan = run.plan;
     let progress = run.progress;
-    if !stored::progress_in_limits(plan, progress) {
+    if !run_limits::progress_in_limits(plan, progress) {
         return false;
     }
     let sizes = plan.sizes;
     let window = run.window;
-    if !stored::places::window_in_limits(plan.activities, sizes, window) {
+    if !run_limits::places::window_in_limits(plan.activities, sizes, window) {
         return false;
     }
     let halt = run.halt;
@@ -84,7 +84,7 @@ pub fn run_in_limits(run: Run) -> bool
     ensures { λ r. ⌜ r ≡ runInLimits run ⌝ }
 {
     let plan = run.plan;
-    if !limits::in_limits(plan) {
+    if !plan_limits::in_limits(plan) {
         return false;
     }
     if run.psi.0 > Run::HORIZON {

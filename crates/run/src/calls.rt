@@ -9,9 +9,9 @@ use crate::Run;
 use crate::checks;
 use plan::Kind;
 use time::Clock;
-use timing::Progress;
-use window::Entry;
-use window::Found;
+use times::Progress;
+use run_window::Entry;
+use run_window::Found;
 ghost use mathlib.Core.Bool.{true};
 ghost use mathlib.Core.Path.{_≡_};
 ghost use Prim.Native.Nat.{_<_};
@@ -83,7 +83,7 @@ fn is_done(run: Run) -> bool
     let s = run.progress.state;
     if (finals >> s) % 2 == 1 {
         let window = run.window;
-        return window::is_empty(window);
+        return run_window::is_empty(window);
     }
     false
 }
@@ -115,7 +115,7 @@ fn starts(run: Run, t: Clock, i: usize, e: Entry) -> Answer
 {
     let progress = run.progress;
     let mut window = run.window;
-    let s = window::started(e);
+    let s = run_window::started(e);
     window[i] = s;
     let next = heard(run, t, Halt::Going, progress, window);
     Answer {
@@ -131,7 +131,7 @@ pub fn asked(run: Run, t: Clock) -> Answer
 {
     let window = run.window;
     let psi = run.psi;
-    let found = window::first_due(window, psi, t);
+    let found = run_window::first_due(window, psi, t);
     match found {
         Found::Nothing => {
             return idle(run, t);
@@ -165,7 +165,7 @@ fn completed_by(run: Run, t: Clock, i: usize, kind: Kind) -> Answer
         Kind::Action(_, _) => {
             let progress = run.progress;
             let mut window = run.window;
-            let free = window::vacant();
+            let free = run_window::vacant();
             window[i] = free;
             let next = heard(run, t, Halt::Going, progress, window);
             return Answer {

@@ -8,11 +8,11 @@ use crate::Run;
 use crate::Stop;
 use crate::bounds;
 use time::Clock;
-use window::Entry;
-use window::Found;
-use window::Phase;
+use run_window::Entry;
+use run_window::Found;
+use run_window::Phase;
 ghost use mathlib.Core.Path.{_≡_};
-ghost use Rattle.window.specs.Window.{isStarted};
+ghost use Rattle.run_window.specs.Window.{isStarted};
 ghost use Rattle.run.specs.Checks.{Timed, lateCheck, overdueCheck, orElse, readingCheck, checkOf, startedReport, reportOf};
 
 // 41: "the reading exceeds Ψ + start + slack of an unstarted node, naming the one with the earliest start"
@@ -22,7 +22,7 @@ fn check_late(run: Run, t: Clock) -> Check
 {
     let window = run.window;
     let psi = run.psi;
-    let found = window::first_late(window, psi, run.slack, t);
+    let found = run_window::first_late(window, psi, run.slack, t);
     match found {
         Found::Nothing => {
             return Check::Goes;
@@ -41,7 +41,7 @@ fn check_overdue(run: Run, t: Clock) -> Check
 {
     let window = run.window;
     let psi = run.psi;
-    let found = window::first_overdue(window, psi, t);
+    let found = run_window::first_overdue(window, psi, t);
     match found {
         Found::Nothing => {
             return Check::Goes;
@@ -123,7 +123,7 @@ pub fn report_of(run: Run, position: u32, node: u8) -> Report
     ensures { λ r. ⌜ r ≡ reportOf run position node ⌝ }
 {
     let window = run.window;
-    let found = window::first_node(window, position, node);
+    let found = run_window::first_node(window, position, node);
     match found {
         Found::Nothing => {
             return Report::Refuses(Refusal::NoSuchNode);

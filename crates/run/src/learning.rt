@@ -13,12 +13,12 @@ use crate::checks;
 use crate::paths;
 use plan::Kind;
 use time::Clock;
-use window::Entry;
+use run_window::Entry;
 ghost use mathlib.Core.Bool.{true};
 ghost use mathlib.Core.Path.{_≡_};
 ghost use Prim.Native.Nat.{_<_, _≤_};
 ghost use Rattle.plan.specs.Limits.{KindNames};
-ghost use Rattle.timing.specs.Queues.{pendingOf};
+ghost use Rattle.times.specs.Queues.{pendingOf};
 ghost use Rattle.run.specs.Limits.{runInLimits};
 ghost use Rattle.run.specs.Calls.{haltedBy, learnt, learnsBy, learns};
 ghost use Rattle.run.specs.Loads.{Loads};
@@ -79,9 +79,9 @@ fn told_run(run: Run, t: Clock, i: usize, x: Entry, e: u8, o: u8) -> Run
     ensures { λ r. ⌜ r ≡ toldRun run t i x e o ⌝ }
 {
     let g = run.progress;
-    let progress = outcomes::told_of(g, e, x, o);
+    let progress = run_outcomes::told_of(g, e, x, o);
     let mut window = run.window;
-    let free = window::vacant();
+    let free = run_window::vacant();
     window[i] = free;
     calls::heard(run, t, Halt::Going, progress, window)
 }

@@ -14,8 +14,8 @@ use plan::Fault;
 use plan::Plan;
 use plan::Verdict;
 use time::Clock;
-use timing::Progress;
-use window::Entry;
+use times::Progress;
+use run_window::Entry;
 
 // Why a run has stopped. Document 01's number for each case is `stopNumber` in specs/Numbers.antt.
 pub enum Stop {

@@ -8,17 +8,17 @@ use crate::Run;
 use crate::Unopened;
 use crate::bounds;
 use crate::paths;
-use opening::Short;
+use run_opening::Short;
 use plan::Plan;
 use time::Clock;
 use time::Specified;
-use timing::Progress;
+use times::Progress;
 ghost use mathlib.Core.Bool.{false};
 ghost use mathlib.Core.Path.{_≡_};
 ghost use Prim.Native.Nat.{_≤_};
 ghost use lib.ListN.{length};
 ghost use Rattle.plan.specs.Limits.{InLimits};
-ghost use Rattle.opening.specs.Given.{anyAbove};
+ghost use Rattle.run_opening.specs.Given.{anyAbove};
 ghost use Rattle.run.specs.Opening.{fresh, zeroRun, unopened, firstLoaded, begin, openPlan};
 ghost use Rattle.run.specs.Inner.{firstPath};
 ghost use Rattle.run.specs.Loads.{Loads};
@@ -29,7 +29,7 @@ ghost use Rattle.run.specs.Loads.{Loads};
 fn fresh(plan: Plan, psi: Clock, slack: u64, progress: Progress) -> Run
     ensures { λ r. ⌜ r ≡ fresh plan psi slack progress ⌝ }
 {
-    let free = window::vacant();
+    let free = run_window::vacant();
     Run {
         plan,
         psi,
@@ -45,8 +45,8 @@ fn fresh(plan: Plan, psi: Clock, slack: u64, progress: Progress) -> Run
 fn zero_run() -> Run
     ensures { λ r. ⌜ r ≡ zeroRun ⌝ }
 {
-    let plan = reading::zero_plan();
-    let progress = opening::at_first([Specified(0); 16], 0);
+    let plan = plan_read::zero_plan();
+    let progress = run_opening::at_first([Specified(0); 16], 0);
     fresh(plan, Clock(0), 0, progress)
 }
 
@@ -102,14 +102,14 @@ fn first_path(plan: Plan, psi: Clock, slack: u64, ts: &[u64]) -> Opened
     requires { ⌜ anyAbove (now ts) ≡ false ⌝ }
     ensures { λ r. ⌜ r ≡ firstPath plan psi slack (now (ts .entry)) ⌝ }
 {
-    let short = opening::short_from(plan, slack);
+    let short = run_opening::short_from(plan, slack);
     match short {
         Short::Activity(a) => {
             return unopened(Unopened::Short(a));
         }
         Short::Nothing => {
-            let available = opening::given(ts);
-            let progress = opening::at_first(available, plan.automaton.initial);
+            let available = run_opening::given(ts);
+            let progress = run_opening::at_first(available, plan.automaton.initial);
             let run = fresh(plan, psi, slack, progress);
             return begin(run);
         }
@@ -128,7 +128,7 @@ pub fn open_plan(plan: Plan, psi: Clock, slack: u64, ts: &[u64]) -> Opened
     if psi.0 > Run::HORIZON {
         return unopened(Unopened::Time);
     }
-    if opening::any_above(ts) {
+    if run_opening::any_above(ts) {
         return unopened(Unopened::Time);
     }
     if !bounds::slack_in_limits(slack) {

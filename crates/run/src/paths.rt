@@ -16,7 +16,7 @@ pub fn load(run: Run, next: Next) -> Loading
 {
     let plan = run.plan;
     let progress = run.progress;
-    let found = path::path(plan, next, progress);
+    let found = run_path::path(plan, next, progress);
     if found.beyond {
         return Loading {
             failure: Failure::Beyond,
@@ -24,14 +24,14 @@ pub fn load(run: Run, next: Next) -> Loading
         };
     }
     let window = run.window;
-    if window::vacancies(window) < found.count {
+    if run_window::vacancies(window) < found.count {
         return Loading {
             failure: Failure::Full,
             run,
         };
     }
     let entries = found.entries;
-    let placed = window::place(window, entries, found.count);
+    let placed = run_window::place(window, entries, found.count);
     let last = run.last;
     let halt = run.halt;
     let after = found.progress;
@@ -49,7 +49,7 @@ fn way_of(run: Run) -> Next
 {
     let plan = run.plan;
     let progress = run.progress;
-    outcomes::way_on(plan, progress)
+    run_outcomes::way_on(plan, progress)
 }
 
 fn has_failed(failure: Failure) -> bool

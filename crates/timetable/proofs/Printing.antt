@@ -7,15 +7,15 @@ use native.Mathlib.Omega.{arith}
 use lib.ListN.{length, take}
 use Rattle.plan.specs.declared.Plan.{Plan}
 use Rattle.judge.specs.Judge.{judgeOf}
-use Rattle.timing.specs.declared.Progress.{Progress}
-use Rattle.table.specs.Turn.{OneTurn, turnOf, turnsFrom, waitsOf, readAfter, mostTurns, isRefused, firstText, firstProgress}
-use Rattle.table.specs.Timetable.{textOfPlan}
-use Rattle.table.specs.Laws.ByTurns.{never, plan-by-turns}
-use Rattle.table.specs.Lent.{Lends, pastOf}
-use Rattle.table.specs.Laws.Lent.{lent-puts, put-front}
-use Rattle.table.specs.Laws.Hearing.{heard-turn}
-use Rattle.table.specs.declared.Heard.{Heard}
-use Rattle.table.specs.declared.Put.{Put}
+use Rattle.times.specs.declared.Progress.{Progress}
+use Rattle.timetable_turns.specs.Turn.{OneTurn, turnOf, turnsFrom, waitsOf, readAfter, mostTurns, isRefused, firstText, firstProgress}
+use Rattle.timetable_turns.specs.Timetable.{textOfPlan}
+use Rattle.timetable_turns.specs.Laws.ByTurns.{never, plan-by-turns}
+use Rattle.timetable_turns.specs.Lent.{Lends, pastOf}
+use Rattle.timetable_turns.specs.Laws.Lent.{lent-puts, put-front}
+use Rattle.timetable_turns.specs.Laws.Hearing.{heard-turn}
+use Rattle.timetable_turns.specs.declared.Heard.{Heard}
+use Rattle.timetable_turns.specs.declared.Put.{Put}
 use Rattle.timetable.specs.declared.Output.{Output}
 use Rattle.timetable.specs.declared.Between.{Between}
 use Rattle.timetable.specs.Between.{Gathers, HandsOn, Goes, Prints, Ends, Printed}

@@ -6,16 +6,16 @@ use Prim.Native.Nat.{ℕ, _+_, _-_, _≤_, _<_}
 use native.Mathlib.Omega.{arith}
 use lib.ListN.{length, length-append, take, drop}
 use lib.Seq.{sets-eq, take-at, drop-append-le, drop-length, length-take-le}
-use Rattle.puts.specs.Puts.{Puts}
+use Rattle.wire.specs.Puts.{Puts}
 use Rattle.plan.specs.declared.Plan.{Plan}
-use Rattle.timing.specs.declared.Progress.{Progress}
-use Rattle.table.specs.Turn.{OneTurn, turnOf, readAfter}
-use Rattle.table.specs.Lent.{pastOf}
-use Rattle.table.specs.Answers.{Turns}
-use Rattle.table.specs.Laws.Lent.{lent-puts}
-use Rattle.table.specs.Laws.Short.{turn-short}
-use Rattle.table.specs.declared.Heard.{Heard}
-use Rattle.table.specs.declared.Turned.{Turned}
+use Rattle.times.specs.declared.Progress.{Progress}
+use Rattle.timetable_turns.specs.Turn.{OneTurn, turnOf, readAfter}
+use Rattle.timetable_turns.specs.Lent.{pastOf}
+use Rattle.timetable_turns.specs.Answers.{Turns}
+use Rattle.timetable_turns.specs.Laws.Lent.{lent-puts}
+use Rattle.timetable_turns.specs.Laws.Short.{turn-short}
+use Rattle.timetable_turns.specs.declared.Heard.{Heard}
+use Rattle.timetable_turns.specs.declared.Turned.{Turned}
 use Rattle.timetable.specs.declared.Output.{Output}
 use Rattle.timetable.specs.declared.Between.{Between}
 use Rattle.timetable.specs.Between.{Gathers, HandsOn, Stands, Goes}

@@ -5,9 +5,9 @@ use mathlib.Core.List.{List, _++_}
 use Prim.Native.Nat.{ℕ, _+_, _-_, _*_, _≤_, _<_}
 use lib.ListN.{length, take, drop}
 use Rattle.plan.specs.declared.Plan.{Plan}
-use Rattle.table.specs.Turn.{turnOf, turnsFrom, readAfter, mostTurns, Open}
-use Rattle.table.specs.Timetable.{textOfPlan}
-use Rattle.table.specs.declared.Heard.{Heard}
+use Rattle.timetable_turns.specs.Turn.{turnOf, turnsFrom, readAfter, mostTurns, Open}
+use Rattle.timetable_turns.specs.Timetable.{textOfPlan}
+use Rattle.timetable_turns.specs.declared.Heard.{Heard}
 use Rattle.timetable.specs.declared.Output.{Output}
 use Rattle.timetable.specs.declared.Between.{Between}
 

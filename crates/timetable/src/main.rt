@@ -2,20 +2,20 @@
 use libc::STDIN_FILENO;
 use libc::STDOUT_FILENO;
 use plan::Plan;
-use table::Heard;
-use table::lent::past;
-use table::turns::counted;
-use table::turns::left_after;
-use table::turns::turn;
-use timing::Progress;
+use timetable_turns::Heard;
+use timetable_turns::lent::past;
+use timetable_turns::turns::counted;
+use timetable_turns::turns::left_after;
+use timetable_turns::turns::turn;
+use times::Progress;
 ghost use mathlib.Core.Path.{_≡_};
 ghost use mathlib.Core.Bool.{true};
 ghost use Prim.Native.Nat.{_+_, _*_, _≤_, _<_};
 ghost use lib.ListN.{length, getD};
 ghost use Rattle.plan.specs.Fault.{numberOf};
 ghost use Rattle.plan.specs.declared.Fault.{Fault};
-ghost use Rattle.lines.specs.Lines.{refused};
-ghost use Rattle.table.specs.Turn.{waitsOf};
+ghost use Rattle.timetable_lines.specs.Lines.{refused};
+ghost use Rattle.timetable_turns.specs.Turn.{waitsOf};
 ghost use Rattle.timetable.specs.Between.{HandsOn, Stands, Goes, Prints, Ends, Printed};
 
 // What the output was given of the text so far.
@@ -153,7 +153,7 @@ fn go_on(out: &mut [u8], plan: Plan, b: Between) -> Between
     ensures { λ r. ⌜ Stands plan r × (r .left < b .left) × Prints plan b (now (out .entry)) (now (out .exit)) r ⌝ }
 {
     let progress = b.progress;
-    if table::waits(plan, progress) {
+    if timetable_turns::waits(plan, progress) {
         return ask(out, plan, b);
     }
     one_turn(out, plan, b, Heard::Nothing)
@@ -181,7 +181,7 @@ fn print_table(bytes: &[u8]) -> Output
     ensures { λ r. ⌜ Printed (now (bytes .entry)) r ⌝ }
 {
     let mut out = io::large_buffer();
-    let begun = table::begin(&mut out, bytes);
+    let begun = timetable_turns::begin(&mut out, bytes);
     let put = begun.put;
     let gathered = past(0, put);
     let output = Output {
@@ -208,7 +208,7 @@ fn print_cut(present: usize) -> Output
     ensures { λ r. ⌜ r .handed ≡ length (refused (numberOf Fault.Ends) present) ⌝ }
 {
     let mut out = io::large_buffer();
-    let put = table::cut(&mut out, present as u64);
+    let put = timetable_turns::cut(&mut out, present as u64);
     let gathered = past(0, put);
     let output = Output {
         handed: 0,

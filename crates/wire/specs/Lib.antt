@@ -4,3 +4,5 @@ pub mod Map
 pub mod Span
 pub mod Fields
 pub mod Maps
+-- Bytes put into a lent buffer
+pub mod Puts

@@ -5,6 +5,8 @@ ghost use lib.ListN.{length, set};
 ghost use lib.Dec.{leb};
 ghost use Rattle.wire.specs.Number.{little, fieldAt};
 
+pub mod puts; // numbers put into a lent buffer
+
 // A field of one byte, unless the bytes end inside it.
 pub enum Byte {
     Value(u8),

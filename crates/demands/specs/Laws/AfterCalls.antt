@@ -13,10 +13,10 @@ use Rattle.run.specs.declared.Reply.{Reply}
 use Rattle.run.specs.declared.Answer.{Answer}
 use Rattle.run.specs.declared.Refusal.{Refusal}
 use Rattle.run.specs.Calls.{callOf, readingOf}
-use Rattle.log.specs.Log.{Log, said, reading, StoppedIn, StoppedBy}
-use Rattle.log.specs.Drive.{drive}
-use Rattle.log.specs.Latest.{Right, reading-last}
-use Rattle.demand.specs.Laws.Replies.{same-stop}
+use Rattle.demands_log.specs.Log.{Log, said, reading, StoppedIn, StoppedBy}
+use Rattle.demands_log.specs.Drive.{drive}
+use Rattle.demands_log.specs.Latest.{Right, reading-last}
+use Rattle.demands_theory.specs.Laws.Replies.{same-stop}
 use Rattle.demands.specs.InLimits.{RunInLimits}
 use Rattle.demands.specs.InLimitsIff.{in-limits}
 use Rattle.demands.specs.InLimitsKept.{limits-kept}

@@ -7,7 +7,7 @@ use Prim.Native.Nat.{ℕ, zero, suc, _+_, _≤_, _<_}
 use native.Mathlib.Omega.{arith}
 use lib.ListN.{length, getD}
 use lib.Seq.{ext-getD}
-use Rattle.lists.specs.Parts.{part, length-part, getD-part}
+use Rattle.basis.specs.Parts.{part, length-part, getD-part}
 use Rattle.time.specs.Time.{horizon}
 use Rattle.time.specs.declared.Specified.{Specified}
 use Rattle.plan.specs.Plan.{pastNode, move, emittedBy, resourceOf}
@@ -16,27 +16,27 @@ use Rattle.plan.specs.declared.Node.{Node}
 use Rattle.plan.specs.declared.Plan.{Plan}
 use Rattle.activity.specs.Rules.{node}
 use Rattle.automaton.specs.Rules.{Leaves}
-use Rattle.timing.specs.Times.{specified, at}
-use Rattle.timing.specs.Engine.{takenBy}
-use Rattle.timing.specs.declared.Progress.{Progress}
-use Rattle.timing.specs.declared.Schedule.{Schedule}
-use Rattle.behaviour.specs.Word.{size}
-use Rattle.behaviour.specs.Combined.{Ident, identity, NotClaim, NotRelease, Is, Nodes, Joined}
-use Rattle.behaviour.specs.Times.{Timing}
-use Rattle.behaviour.specs.Paths.{wordOf, Follows, Lawful}
-use Rattle.behaviour.specs.Accepted.{GoodWord}
-use Rattle.behaviour.specs.Laws.Plans.{good-path}
-use Rattle.specified.specs.Words.{Opening, traceBy}
-use Rattle.specified.specs.Plans.{AtMostEight, progressAfter, First, whole, later, times-at, stored-at as kept-at, plan-equal, plan-run, plan-times, plan-free, progressAt, scheduleAt}
-use Rattle.opening.specs.Given.{atFirst}
-use Rattle.path.specs.Path.{isWork, loaded, entriesFrom, entriesBy, activityNumber}
-use Rattle.lines.specs.Lines.{rows, free}
-use Rattle.text.specs.Text.{decimal, line, wordFree}
-use Rattle.demand.specs.TheWord.{stateAfter, wholeOf}
-use Rattle.works.specs.Laws.Taken.{next-position, next-state}
+use Rattle.times.specs.Times.{specified, at}
+use Rattle.times.specs.Engine.{takenBy}
+use Rattle.times.specs.declared.Progress.{Progress}
+use Rattle.times.specs.declared.Schedule.{Schedule}
+use Rattle.times_combined.specs.Word.{size}
+use Rattle.times_combined.specs.Combined.{Ident, identity, NotClaim, NotRelease, Is, Nodes, Joined}
+use Rattle.times_combined.specs.Times.{Timing}
+use Rattle.times_combined.specs.Paths.{wordOf, Follows, Lawful}
+use Rattle.times_combined.specs.Accepted.{GoodWord}
+use Rattle.times_combined.specs.Laws.Plans.{good-path}
+use Rattle.times_equal.specs.Words.{Opening, traceBy}
+use Rattle.times_equal.specs.Plans.{AtMostEight, progressAfter, First, whole, later, times-at, stored-at as kept-at, plan-equal, plan-run, plan-times, plan-free, progressAt, scheduleAt}
+use Rattle.run_opening.specs.Given.{atFirst}
+use Rattle.run_path.specs.Path.{isWork, loaded, entriesFrom, entriesBy, activityNumber}
+use Rattle.timetable_lines.specs.Lines.{rows, free}
+use Rattle.timetable_text.specs.Text.{decimal, line, wordFree}
+use Rattle.demands_theory.specs.TheWord.{stateAfter, wholeOf}
+use Rattle.demands_run.specs.Laws.Taken.{next-position, next-state}
 use Rattle.activity.specs.Tells.{Tells}
-use Rattle.demand.specs.Loading.{Beyond}
-use Rattle.works.specs.Laws.Passing.{Leads, tells-leads}
+use Rattle.demands_theory.specs.Loading.{Beyond}
+use Rattle.demands_run.specs.Laws.Passing.{Leads, tells-leads}
 use Rattle.demands.specs.Timetables.{nodeRows, rowsOf, Frees}
 
 not-claim : (k : Kind) → isWork k ≡ true → NotClaim k

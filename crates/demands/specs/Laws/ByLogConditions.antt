@@ -10,11 +10,11 @@ use Rattle.plan.specs.Plan.{isFinal}
 use Rattle.plan.specs.declared.Kind.{Kind}
 use Rattle.plan.specs.declared.Output.{Output}
 use Rattle.plan.specs.declared.Plan.{Plan}
-use Rattle.behaviour.specs.Combined.{Ident, Is}
-use Rattle.behaviour.specs.Paths.{Follows, Lawful}
-use Rattle.window.specs.Window.{isHeld, isFree, startsBefore}
-use Rattle.window.specs.Tests.{free-or-held, unfree-held}
-use Rattle.window.specs.declared.Phase.{Phase}
+use Rattle.times_combined.specs.Combined.{Ident, Is}
+use Rattle.times_combined.specs.Paths.{Follows, Lawful}
+use Rattle.run_window.specs.Window.{isHeld, isFree, startsBefore}
+use Rattle.run_window.specs.Tests.{free-or-held, unfree-held}
+use Rattle.run_window.specs.declared.Phase.{Phase}
 use Rattle.run.specs.declared.Run.{Run}
 use Rattle.run.specs.declared.Halt.{Halt}
 use Rattle.run.specs.declared.Stop.{Stop}
@@ -23,10 +23,10 @@ use Rattle.run.specs.declared.Reply.{Reply}
 use Rattle.run.specs.declared.Refusal.{Refusal}
 use Rattle.run.specs.declared.Failure.{Failure}
 use Rattle.run.specs.Calls.{readingOf, kindOf}
-use Rattle.log.specs.Log.{Id, id, Log, reading, Stops, StoppedIn, StoppedBy, Started, FailedIn}
-use Rattle.demand.specs.Nodes.{whose, lengthOf, EmitsAt, here, earlier}
-use Rattle.demand.specs.TheWord.{stateAfter, wholeOf}
-use Rattle.demand.specs.Demand.{Demand3}
+use Rattle.demands_log.specs.Log.{Id, id, Log, reading, Stops, StoppedIn, StoppedBy, Started, FailedIn}
+use Rattle.demands_theory.specs.Nodes.{whose, lengthOf, EmitsAt, here, earlier}
+use Rattle.demands_theory.specs.TheWord.{stateAfter, wholeOf}
+use Rattle.demands_theory.specs.Demand.{Demand3}
 use Rattle.demands.specs.Laws.AfterCalls.{going-stopped}
 use Rattle.demands.specs.InLimits.{RunInLimits}
 use Rattle.demands.specs.Conditions.{entryAt, DueAt, FirstOf, IsReport, IsAction, RightKind, Condition, NamedAt, loadingAfter}

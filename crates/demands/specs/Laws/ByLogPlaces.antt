@@ -7,23 +7,23 @@ use Prim.Native.Nat.{ℕ, _<_}
 use native.Mathlib.Omega.{arith}
 use Rattle.time.specs.declared.Clock.{Clock}
 use Rattle.plan.specs.declared.Kind.{Kind}
-use Rattle.behaviour.specs.Combined.{Ident, Is}
-use Rattle.behaviour.specs.Paths.{Follows, Lawful}
-use Rattle.behaviour.specs.Laws.Plans.{good-path}
-use Rattle.window.specs.Window.{before, startsBefore, isHeld, isStarted}
-use Rattle.window.specs.Tests.{started-true}
-use Rattle.window.specs.Order.{AtMost, earlier, position, node, not-before, at-most-not, at-most-both}
-use Rattle.window.specs.declared.Entry.{Entry}
-use Rattle.window.specs.declared.Phase.{Phase}
+use Rattle.times_combined.specs.Combined.{Ident, Is}
+use Rattle.times_combined.specs.Paths.{Follows, Lawful}
+use Rattle.times_combined.specs.Laws.Plans.{good-path}
+use Rattle.run_window.specs.Window.{before, startsBefore, isHeld, isStarted}
+use Rattle.run_window.specs.Tests.{started-true}
+use Rattle.run_window.specs.Order.{AtMost, earlier, position, node, not-before, at-most-not, at-most-both}
+use Rattle.run_window.specs.declared.Entry.{Entry}
+use Rattle.run_window.specs.declared.Phase.{Phase}
 use Rattle.run.specs.declared.Run.{Run}
 use Rattle.run.specs.declared.Call.{Call}
 use Rattle.run.specs.Calls.{kindOf}
-use Rattle.log.specs.Log.{Id, Log, Started, FailedIn}
-use Rattle.demand.specs.Machine.{idOf}
-use Rattle.demand.specs.Nodes.{whose}
-use Rattle.demand.specs.TheWord.{stateAfter, wholeOf}
-use Rattle.demand.specs.Demand.{Demand3, OfTheWord}
-use Rattle.works.specs.Laws.Kinds.{kind-is}
+use Rattle.demands_log.specs.Log.{Id, Log, Started, FailedIn}
+use Rattle.demands_theory.specs.Machine.{idOf}
+use Rattle.demands_theory.specs.Nodes.{whose}
+use Rattle.demands_theory.specs.TheWord.{stateAfter, wholeOf}
+use Rattle.demands_theory.specs.Demand.{Demand3, OfTheWord}
+use Rattle.demands_run.specs.Laws.Kinds.{kind-is}
 use Rattle.demands.specs.Conditions.{entryAt, OverdueAt, LateAt, DueAt, NamedAt, FirstOf}
 use Rattle.demands.specs.ByLog.{Known, Open, Overdue, Late, Due, NotAfter, Earliest, Names}
 

@@ -6,10 +6,10 @@ use borrow.Author.Tests.{lt-ltb, le-ltb}
 use Rattle.time.specs.declared.Clock.{Clock}
 use Rattle.plan.specs.Plan.{outcomesOf}
 use Rattle.plan.specs.declared.Kind.{Kind}
-use Rattle.window.specs.declared.Entry.{Entry}
-use Rattle.window.specs.declared.Phase.{Phase}
-use Rattle.window.specs.Window.{isFree, isOverdue, isLate, isDue, isNode, startsBefore, endsBefore}
-use Rattle.window.specs.Order.{starts-order, ends-order}
+use Rattle.run_window.specs.declared.Entry.{Entry}
+use Rattle.run_window.specs.declared.Phase.{Phase}
+use Rattle.run_window.specs.Window.{isFree, isOverdue, isLate, isDue, isNode, startsBefore, endsBefore}
+use Rattle.run_window.specs.Order.{starts-order, ends-order}
 use Rattle.run.specs.declared.Run.{Run}
 use Rattle.run.specs.declared.Halt.{Halt}
 use Rattle.run.specs.declared.Stop.{Stop}
@@ -18,7 +18,7 @@ use Rattle.run.specs.declared.Reply.{Reply}
 use Rattle.run.specs.declared.Answer.{Answer}
 use Rattle.run.specs.declared.Refusal.{Refusal}
 use Rattle.run.specs.declared.Failure.{Failure}
-use Rattle.outcomes.specs.Told.{toldOf}
+use Rattle.run_outcomes.specs.Told.{toldOf}
 use Rattle.run.specs.Calls.{answer, refuse, stops, readingOf, isDone, asked, kindOf, reported, completedBy, completed, cleared, afterLoading, learnt, learnsBy, learns, timely, called, askOf, completionOf, outcomeOf, callOf}
 use Rattle.demands.specs.Conditions.{entryAt, OverdueAt, LateAt, DueAt, NodeAt, NamedAt, IsReport, RightKind, IsAction, IsEvent, Nowhere, FirstOf, Going, Rises, NotOverdue, Timely, Reports, Learns, loadingAfter, Ended, Refuses, Halts, Asks, Takes, Condition}
 use Rattle.demands.specs.InLimits.{RunInLimits}

@@ -7,12 +7,12 @@ use borrow.Author.Tests.{ltb-true, ltb-false}
 use Rattle.time.specs.declared.Clock.{Clock}
 use Rattle.plan.specs.Plan.{isFinal, outcomesOf}
 use Rattle.plan.specs.declared.Kind.{Kind}
-use Rattle.window.specs.declared.Entry.{Entry}
-use Rattle.window.specs.declared.Phase.{Phase}
-use Rattle.window.specs.Window.{isHeld, isStarted, isOverdue, isLate, isDue, isNode, startsBefore, endsBefore, isEmpty}
-use Rattle.window.specs.Tests.{by-test, started-true}
-use Rattle.window.specs.Order.{starts-order, ends-order}
-use Rattle.window.specs.Places.{empty-none, none-empty}
+use Rattle.run_window.specs.declared.Entry.{Entry}
+use Rattle.run_window.specs.declared.Phase.{Phase}
+use Rattle.run_window.specs.Window.{isHeld, isStarted, isOverdue, isLate, isDue, isNode, startsBefore, endsBefore, isEmpty}
+use Rattle.run_window.specs.Tests.{by-test, started-true}
+use Rattle.run_window.specs.Order.{starts-order, ends-order}
+use Rattle.run_window.specs.Places.{empty-none, none-empty}
 use Rattle.run.specs.declared.Run.{Run}
 use Rattle.run.specs.declared.Call.{Call}
 use Rattle.run.specs.declared.Reply.{Reply}
@@ -21,7 +21,7 @@ use Rattle.run.specs.declared.Refusal.{Refusal}
 use Rattle.run.specs.declared.Failure.{Failure}
 use Rattle.run.specs.Limits.{runInLimits}
 use Rattle.activity.specs.Tells.{told-false}
-use Rattle.log.specs.ByCases.{by-halt}
+use Rattle.demands_log.specs.ByCases.{by-halt}
 use Rattle.demands.specs.InLimitsIff.{tells-run, in-limits}
 use Rattle.run.specs.Calls.{refuse, readingOf, isDone, asked, kindOf, completedBy, completed, afterLoading, learnsBy, learns, timely, called, askOf, completionOf, outcomeOf, callOf}
 use Rattle.demands.specs.Conditions.{entryAt, OverdueAt, LateAt, DueAt, NodeAt, Going, Rises, NotOverdue, Timely, Reports, Learns, loadingAfter, Ended, Refuses, Halts, Asks, Takes, Condition}

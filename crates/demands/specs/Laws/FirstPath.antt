@@ -15,17 +15,17 @@ use Rattle.plan.specs.declared.Verdict.{Verdict}
 use Rattle.activity.specs.Rules.{node}
 use Rattle.activity.specs.Tells.{Tells}
 use Rattle.automaton.specs.Next.{nextOf}
-use Rattle.timing.specs.declared.Progress.{Progress}
-use Rattle.window.specs.Window.{vacant, vacancies}
-use Rattle.path.specs.Path.{Path, pathFrom, longestPath}
-use Rattle.opening.specs.Given.{atFirst, availabilities}
+use Rattle.times.specs.declared.Progress.{Progress}
+use Rattle.run_window.specs.Window.{vacant, vacancies}
+use Rattle.run_path.specs.Path.{Path, pathFrom, longestPath}
+use Rattle.run_opening.specs.Given.{atFirst, availabilities}
 use Rattle.judge.specs.Judge.{judgeOf}
-use Rattle.demand.specs.Loading.{FirstBeyond, FirstMany}
-use Rattle.demand.specs.Laws.Next.{lawful}
-use Rattle.works.specs.Stands.{Accepted}
-use Rattle.works.specs.Laws.Opening.{Judged, tells-first, tells-many}
-use Rattle.works.specs.Laws.EngineHolds.{engine-laws}
-use Rattle.works.specs.Laws.AcceptedHolds.{accepted-laws}
+use Rattle.demands_theory.specs.Loading.{FirstBeyond, FirstMany}
+use Rattle.demands_theory.specs.Laws.Next.{lawful}
+use Rattle.demands_run.specs.Stands.{Accepted}
+use Rattle.demands_run.specs.Laws.Opening.{Judged, tells-first, tells-many}
+use Rattle.demands_run.specs.Laws.EngineHolds.{engine-laws}
+use Rattle.demands_run.specs.Laws.AcceptedHolds.{accepted-laws}
 use Rattle.demands.specs.Accepted.{Bytes}
 use Rattle.demands.specs.Openings.{TimeAbove, planOf, Lasting}
 use Rattle.demands.specs.Laws.OpeningTests.{tells-slack, is-true, outside}

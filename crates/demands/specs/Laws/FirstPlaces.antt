@@ -6,12 +6,12 @@ use Prim.Native.Nat.{ℕ, zero, suc, _+_, _<_}
 use native.Mathlib.Omega.{arith}
 use lib.ListN.{length, getD}
 use Rattle.time.specs.declared.Clock.{Clock}
-use Rattle.window.specs.declared.Entry.{Entry}
-use Rattle.window.specs.declared.Found.{Found}
-use Rattle.window.specs.Window.{vacant, better, first, onFound, isOverdue, isLate, isDue, isNode}
-use Rattle.window.specs.Tests.{overdue-tells, late-tells, due-tells, node-tells}
-use Rattle.window.specs.Order.{Order}
-use Rattle.window.specs.Firsts.{first-found, first-nothing, nothing-first}
+use Rattle.run_window.specs.declared.Entry.{Entry}
+use Rattle.run_window.specs.declared.Found.{Found}
+use Rattle.run_window.specs.Window.{vacant, better, first, onFound, isOverdue, isLate, isDue, isNode}
+use Rattle.run_window.specs.Tests.{overdue-tells, late-tells, due-tells, node-tells}
+use Rattle.run_window.specs.Order.{Order}
+use Rattle.run_window.specs.Firsts.{first-found, first-nothing, nothing-first}
 use Rattle.run.specs.declared.Run.{Run}
 use Rattle.demands.specs.Conditions.{entryAt, OverdueAt, LateAt, DueAt, NodeAt, Nowhere, FirstOf}
 

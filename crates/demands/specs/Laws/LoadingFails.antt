@@ -11,20 +11,20 @@ use lib.ListN.{length}
 use borrow.Author.Tests.{ltb-true, ltb-false, lt-ltb, le-ltb}
 use Rattle.automaton.specs.Next.{nextOf}
 use Rattle.automaton.specs.declared.Next.{Next}
-use Rattle.window.specs.Window.{vacancies}
-use Rattle.window.specs.Tests.{by-test}
-use Rattle.path.specs.Path.{Path, takenBy, entriesBy, pathFrom, longestPath}
+use Rattle.run_window.specs.Window.{vacancies}
+use Rattle.run_window.specs.Tests.{by-test}
+use Rattle.run_path.specs.Path.{Path, takenBy, entriesBy, pathFrom, longestPath}
 use Rattle.run.specs.declared.Run.{Run}
 use Rattle.run.specs.declared.Failure.{Failure}
 use Rattle.run.specs.declared.Loading.{Loading}
-use Rattle.outcomes.specs.Way.{wayOn}
+use Rattle.run_outcomes.specs.Way.{wayOn}
 use Rattle.activity.specs.Tells.{Tells, holds, fails, told-true, told-false}
-use Rattle.log.specs.ByCases.{by-way}
-use Rattle.works.specs.Laws.Crosses.{Crosses, tells-crosses}
+use Rattle.demands_log.specs.ByCases.{by-way}
+use Rattle.demands_run.specs.Laws.Crosses.{Crosses, tells-crosses}
 use Rattle.demands.specs.Laws.OpeningTests.{is-true, is-false}
 use Rattle.plan.specs.declared.Plan.{Plan}
-use Rattle.timing.specs.declared.Progress.{Progress}
-use Rattle.window.specs.declared.Entry.{Entry}
+use Rattle.times.specs.declared.Progress.{Progress}
+use Rattle.run_window.specs.declared.Entry.{Entry}
 use Rattle.run.specs.Loading.{load, loadPath, withPath, onLoading, further}
 
 -- ---- a path that crosses a limit of 44, as the engine takes it from any progress

@@ -15,13 +15,13 @@ use Rattle.plan.specs.declared.Kind.{Kind}
 use Rattle.plan.specs.declared.Node.{Node}
 use Rattle.plan.specs.declared.Plan.{Plan}
 use Rattle.activity.specs.Tells.{Tells, holds, fails, tells-iff, tells-and, tells-or}
-use Rattle.limits.specs.Tells.{tells-ltb, tells-leb}
-use Rattle.path.specs.Path.{isWork}
+use Rattle.plan_limits.specs.Tells.{tells-ltb, tells-leb}
+use Rattle.run_path.specs.Path.{isWork}
 use Rattle.run.specs.Limits.{slackInLimits}
-use Rattle.opening.specs.declared.Short.{Short}
-use Rattle.opening.specs.Short.{onShort, anyShort, shortFrom}
-use Rattle.opening.specs.Given.{anyAbove}
-use Rattle.demand.specs.Nodes.{Working}
+use Rattle.run_opening.specs.declared.Short.{Short}
+use Rattle.run_opening.specs.Short.{onShort, anyShort, shortFrom}
+use Rattle.run_opening.specs.Given.{anyAbove}
+use Rattle.demands_theory.specs.Nodes.{Working}
 use Rattle.demands.specs.Openings.{TimeAbove, SlackOutside, HasShort, LowestShort}
 
 -- ---- a test that tells P

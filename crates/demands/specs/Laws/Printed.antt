@@ -19,26 +19,26 @@ use Rattle.automaton.specs.Next.{nextOf, chosenOf}
 use Rattle.automaton.specs.States.{NextIs, ended, goes, waits, next-is}
 use Rattle.automaton.specs.Later.{final-ends, ended-final, processes-waits, waits-chosen}
 use Rattle.automaton.specs.declared.Next.{Next}
-use Rattle.timing.specs.Times.{specified}
-use Rattle.timing.specs.Engine.{takenBy}
-use Rattle.timing.specs.declared.Progress.{Progress}
-use Rattle.behaviour.specs.Word.{size}
-use Rattle.behaviour.specs.Combined.{Ident}
-use Rattle.behaviour.specs.Times.{Timing}
-use Rattle.behaviour.specs.Paths.{wordOf, Lawful}
-use Rattle.specified.specs.Words.{Opening}
-use Rattle.specified.specs.Plans.{AtMostEight, progressAfter}
-use Rattle.opening.specs.Given.{atFirst}
-use Rattle.path.specs.Path.{entriesBy}
-use Rattle.lines.specs.Lines.{rows, waiting, refused}
-use Rattle.lines.specs.Lines as L
-use Rattle.demand.specs.TheWord.{stateAfter, wholeOf}
-use Rattle.demand.specs.TheWord.{here, later}
-use Rattle.demand.specs.Loading.{Exceeds, Beyond, Within}
-use Rattle.demand.specs.Laws.Longest.{within-more}
-use Rattle.works.specs.Laws.Taken.{size-is}
-use Rattle.table.specs.Timetable.{Move, Takes, moveBy, tableFrom, positions}
-use Rattle.table.specs.Timetable as T
+use Rattle.times.specs.Times.{specified}
+use Rattle.times.specs.Engine.{takenBy}
+use Rattle.times.specs.declared.Progress.{Progress}
+use Rattle.times_combined.specs.Word.{size}
+use Rattle.times_combined.specs.Combined.{Ident}
+use Rattle.times_combined.specs.Times.{Timing}
+use Rattle.times_combined.specs.Paths.{wordOf, Lawful}
+use Rattle.times_equal.specs.Words.{Opening}
+use Rattle.times_equal.specs.Plans.{AtMostEight, progressAfter}
+use Rattle.run_opening.specs.Given.{atFirst}
+use Rattle.run_path.specs.Path.{entriesBy}
+use Rattle.timetable_lines.specs.Lines.{rows, waiting, refused}
+use Rattle.timetable_lines.specs.Lines as L
+use Rattle.demands_theory.specs.TheWord.{stateAfter, wholeOf}
+use Rattle.demands_theory.specs.TheWord.{here, later}
+use Rattle.demands_theory.specs.Loading.{Exceeds, Beyond, Within}
+use Rattle.demands_theory.specs.Laws.Longest.{within-more}
+use Rattle.demands_run.specs.Laws.Taken.{size-is}
+use Rattle.timetable_turns.specs.Timetable.{Move, Takes, moveBy, tableFrom, positions}
+use Rattle.timetable_turns.specs.Timetable as T
 use Rattle.demands.specs.Laws.OpeningTests.{is-true, is-false}
 use Rattle.demands.specs.TimesEqual.{zeros-at, no-lengths}
 use Rattle.demands.specs.Timetables.{Steps, Walk, Closes}

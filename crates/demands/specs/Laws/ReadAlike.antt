@@ -1,7 +1,7 @@
 -- What is read of the file of a plan is the plan but for its spare room: every field has the same number (format/Alike).
 use mathlib.Core.Path.{_≡_, refl, sym, _∙_, ap}
 use Prim.Native.Nat.{ℕ, _<_}
-use Rattle.lists.specs.Parts.{part}
+use Rattle.basis.specs.Parts.{part}
 use Rattle.wire.specs.Map.{bit}
 use Rattle.plan.specs.Plan.{sizeOf, move}
 use Rattle.plan.specs.Limits.{nodeAt}
@@ -12,13 +12,13 @@ use Rattle.plan.specs.declared.Automaton.{Automaton}
 use Rattle.plan.specs.declared.Plan.{Plan}
 use Rattle.format.specs.Format.{Format, part-of, each, Holds, result}
 use Rattle.format.specs.Alike.{Same, same-read, same-result, then-same, part-same, all-same, read-same}
-use Rattle.planfile.specs.PlanFile.{faultOrder, kind, rising, duration, arrowCount, node, nodeOf, activity, moveOf, transition, automaton, resourceCount, peripheralCount, itsResource, eventCount, itsOutcomes, activityCount, planFile}
-use Rattle.planfile.specs.Stages.{nodeLast, counted, timed, kinded, end, last, lastly, acting, outcoming, eventing, belonging, having, resourced}
-use Rattle.planfile.specs.Known.{self, nothing}
-use Rattle.planfile.specs.KnownPlan.{plan-knows}
-use Rattle.planfile.specs.HoldNode.{rising-result, kind-read, duration-read, count-read}
-use Rattle.planfile.specs.HoldMoves.{move-result}
-use Rattle.planfile.specs.HoldPlan.{bs, os, r0, r1, r2, r3, rb, ro}
+use Rattle.plan_file.specs.PlanFile.{faultOrder, kind, rising, duration, arrowCount, node, nodeOf, activity, moveOf, transition, automaton, resourceCount, peripheralCount, itsResource, eventCount, itsOutcomes, activityCount, planFile}
+use Rattle.plan_file.specs.Stages.{nodeLast, counted, timed, kinded, end, last, lastly, acting, outcoming, eventing, belonging, having, resourced}
+use Rattle.plan_file.specs.Known.{self, nothing}
+use Rattle.plan_file.specs.KnownPlan.{plan-knows}
+use Rattle.plan_file.specs.HoldNode.{rising-result, kind-read, duration-read, count-read}
+use Rattle.plan_file.specs.HoldMoves.{move-result}
+use Rattle.plan_file.specs.HoldPlan.{bs, os, r0, r1, r2, r3, rb, ro}
 use Rattle.demands.specs.Alike.{SameNode, SamePlan}
 
 abbrev kinds : ℕ → ℕ → ℕ → ℕ → Format Node Kind

@@ -4,7 +4,7 @@ use native.Mathlib.Omega.{arith}
 use denote.Ref.{now}
 use Prim.Native.Nat.{_+_, _*_, _-_, _≤_}
 use lib.ListN.{length}
-use Rattle.puts.specs.Puts.{puts-length}
+use Rattle.wire.specs.Puts.{puts-length}
 use Rattle.drive.proofs.Placed.{record-length}
 use Rattle.drive.proofs.Turns.{drivenFrom, Leads, call-ahead, turn-ends, turn-goes, turn-over}
 use borrow.Author.Needs.{needs}

@@ -4,7 +4,7 @@ use denote.Ref.{now}
 use Prim.Native.Nat.{_-_}
 use Rattle.drive.proofs.Turns.{whole-fits, whole-calls, opens}
 use Rattle.drive.proofs.Placed.{record-length}
-use Rattle.puts.specs.Puts.{puts-length}
+use Rattle.wire.specs.Puts.{puts-length}
 use borrow.Author.Needs.{needs}
 use Rattle.drive.proofs.opened_and_called.Statement.{statement}
 use Rattle.drive.proofs.opened_and_called.Tie as tie

@@ -9,7 +9,7 @@ use Rattle.exports.proofs.jidlekuvo_activities.Reads as reads
 use Rattle.exports.proofs.jidlekuvo_activities.Lts as lts
 use Rattle.exports.proofs.activities_of.Reads as activities-of-reads
 use Rattle.exports.proofs.code.Reads as code-reads
-use Rattle.reading.proofs.read.Reads as read-reads
+use Rattle.plan_read.proofs.read.Reads as read-reads
 
 read-requires : tie.Need-read-requires
 read-requires c κs = search needs

@@ -7,7 +7,7 @@ use Rattle.exports.proofs.jidlekuvo_read.Tie as tie
 use Rattle.exports.proofs.jidlekuvo_read.Reads as reads
 use Rattle.exports.proofs.jidlekuvo_read.Lts as lts
 use Rattle.exports.proofs.code.Reads as code-reads
-use Rattle.reading.proofs.read.Reads as read-reads
+use Rattle.plan_read.proofs.read.Reads as read-reads
 
 read-requires : tie.Need-read-requires
 read-requires c κs = search needs

@@ -7,8 +7,8 @@ use Rattle.exports.proofs.jidlekuvo_write_back.Reads as reads
 use Rattle.exports.proofs.jidlekuvo_write_back.Lts as lts
 use Rattle.exports.proofs.code.Reads as code-reads
 use Rattle.exports.proofs.written_code.Reads as written-code-reads
-use Rattle.reading.proofs.read.Reads as read-reads
-use Rattle.writing.proofs.write.Reads as write-reads
+use Rattle.plan_read.proofs.read.Reads as read-reads
+use Rattle.plan_write.proofs.write.Reads as write-reads
 
 read-requires : tie.Need-read-requires
 read-requires c κs = search needs

@@ -8,8 +8,8 @@ use Rattle.judge.proofs.judge.Tie as tie
 use Rattle.judge.proofs.judge.Reads as reads
 use Rattle.judge.proofs.judge.Lts as lts
 use Rattle.judge.proofs.judge_plan.Reads as judge-plan-reads
-use Rattle.reading.proofs.no_plan.Reads as no-plan-reads
-use Rattle.reading.proofs.read.Reads as read-reads
+use Rattle.plan_read.proofs.no_plan.Reads as no-plan-reads
+use Rattle.plan_read.proofs.read.Reads as read-reads
 
 read-requires : tie.Need-read-requires
 read-requires c κs = search needs

@@ -3,8 +3,8 @@ use Rattle.judge.proofs.judge_automaton.Statement.{statement}
 use Rattle.judge.proofs.judge_automaton.Tie as tie
 use Rattle.judge.proofs.judge_automaton.Reads as reads
 use Rattle.judge.proofs.judge_automaton.Lts as lts
-use Rattle.reading.proofs.no_plan.Reads as no-plan-reads
-use Rattle.states.proofs.automaton.Reads as automaton-reads
+use Rattle.plan_read.proofs.no_plan.Reads as no-plan-reads
+use Rattle.automaton_verdict.proofs.automaton.Reads as automaton-reads
 
 automaton-requires : tie.Need-automaton-requires
 automaton-requires c κs = search needs

@@ -5,7 +5,7 @@ use Rattle.judge.proofs.judge_plan.Reads as reads
 use Rattle.judge.proofs.judge_plan.Lts as lts
 use Rattle.activity.proofs.activities.Reads as activities-reads
 use Rattle.judge.proofs.judge_automaton.Reads as judge-automaton-reads
-use Rattle.reading.proofs.no_plan.Reads as no-plan-reads
+use Rattle.plan_read.proofs.no_plan.Reads as no-plan-reads
 
 activities-requires : tie.Need-activities-requires
 activities-requires c κs = search needs

@@ -1,7 +1,7 @@
 -- Two records, or a buffer too short.
 use native.Mathlib.Omega.{arith}
 use denote.Ref.{now}
-use Rattle.puts.specs.Puts.{puts-length}
+use Rattle.wire.specs.Puts.{puts-length}
 use Rattle.made_up.proofs.Recorded.{record-length, too-short, both-written}
 use borrow.Author.Needs.{needs}
 use Rattle.made_up.proofs.answer.Statement.{statement}

@@ -1,7 +1,7 @@
 -- `ask` meets its contract. Assumes nothing.
 use mathlib.Core.Path.{sym, _∙_}
 use native.Mathlib.Omega.{arith}
-use Rattle.table.specs.Laws.ByTurns.{never}
+use Rattle.timetable_turns.specs.Laws.ByTurns.{never}
 use Rattle.timetable.proofs.Turning.{between, stands-lost, stands-ready, goes-less}
 use Rattle.timetable.proofs.Printing.{prints-none, prints-lost, prints-turn, prints-join}
 use borrow.Author.Needs.{needs}

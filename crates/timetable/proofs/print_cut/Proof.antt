@@ -1,7 +1,7 @@
 -- `print_cut` meets its contract. Assumes nothing.
 use native.Mathlib.Omega.{arith}
-use Rattle.lines.specs.Laws.{refused-length}
-use Rattle.table.specs.Laws.Lent.{lent-puts}
+use Rattle.timetable_lines.specs.Laws.{refused-length}
+use Rattle.timetable_turns.specs.Laws.Lent.{lent-puts}
 use borrow.Author.Needs.{needs}
 use Rattle.timetable.proofs.print_cut.Statement.{statement}
 use Rattle.timetable.proofs.print_cut.Tie as tie

@@ -4,8 +4,8 @@ use native.Mathlib.Omega.{arith}
 use mathlib.Core.Bool.{false}
 use denote.Ref.{now}
 use Rattle.judge.specs.Judge.{judgeOf}
-use Rattle.table.specs.Turn.{firstText}
-use Rattle.table.specs.Laws.Short.{first-short}
+use Rattle.timetable_turns.specs.Turn.{firstText}
+use Rattle.timetable_turns.specs.Laws.Short.{first-short}
 use Rattle.timetable.proofs.Printing.{gathers-first, printed-refused, printed-all}
 use borrow.Author.Needs.{needs}
 use Rattle.timetable.proofs.print_table.Statement.{statement}

@@ -6,7 +6,7 @@ use native.Mathlib.Omega.{arith}
 use borrow.Author.Count.{below-more}
 use lib.ListN.{length, getD, length-set}
 use lib.Seq.{getD-set-same, getD-set-other}
-use Rattle.lists.specs.Lists.{Among}
+use Rattle.basis.specs.Lists.{Among}
 use Rattle.plan.specs.Plan.{pastNode, predecessors}
 use Rattle.activity.specs.Bits.{Bit, no-bit, lt-or-ge, zeros}
 use Rattle.activity.specs.Closure.{Rel}

@@ -1,13 +1,13 @@
 -- The parts of a record are put one after the other.
-use Rattle.puts.specs.Puts.{puts-join}
+use Rattle.wire.specs.Puts.{puts-join}
 use Rattle.drive.specs.Records.{recordBytes}
 use borrow.Author.Needs.{needs}
 use Rattle.drive.proofs.records.put_first.Statement.{statement}
 use Rattle.drive.proofs.records.put_first.Tie as tie
 use Rattle.drive.proofs.records.put_first.Reads as reads
 use Rattle.drive.proofs.records.put_first.Lts as lts
-use Rattle.puts.proofs.put_byte.Reads as put-byte-reads
-use Rattle.puts.proofs.put_number.Reads as put-number-reads
+use Rattle.wire.proofs.puts.put_byte.Reads as put-byte-reads
+use Rattle.wire.proofs.puts.put_number.Reads as put-number-reads
 
 put-byte-requires : tie.Need-put-byte-requires
 put-byte-requires c κs = search needs

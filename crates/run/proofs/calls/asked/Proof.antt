@@ -1,7 +1,7 @@
 -- `asked` starts the first due node, or answers done or wait.
 use mathlib.Core.Path.{_≡_, sym, _∙_, ap}
 use lib.ListN.{length}
-use Rattle.window.specs.Window.{isDue}
+use Rattle.run_window.specs.Window.{isDue}
 use Rattle.run.proofs.Checking.{unmapped, timed, state-below, found-within, asked-idle, asked-starts}
 use borrow.Author.Needs.{needs}
 use Rattle.run.proofs.calls.asked.Statement.{statement}

@@ -1,7 +1,7 @@
 -- `begin` loads the first path, from the initial state.
 use mathlib.Core.Path.{sym, ap, _∙_, subst}
-use Rattle.path.specs.Pathed.{Leads}
-use Rattle.path.specs.Laws.Stepping.{next-leads}
+use Rattle.run_path.specs.Pathed.{Leads}
+use Rattle.run_path.specs.Laws.Stepping.{next-leads}
 use Rattle.run.specs.Loading.{load}
 use Rattle.run.specs.Opening.{firstLoaded}
 use borrow.Author.Needs.{needs}

@@ -8,8 +8,8 @@ use Rattle.plan.specs.declared.Plan.{Plan}
 use Rattle.run.specs.declared.Run.{Run}
 use Rattle.run.specs.declared.Unopened.{Unopened}
 use Rattle.run.specs.Loads.{Loads}
-use Rattle.opening.specs.Given.{atFirst, availabilities}
-use Rattle.opening.specs.Short.{shortFrom}
+use Rattle.run_opening.specs.Given.{atFirst, availabilities}
+use Rattle.run_opening.specs.Short.{shortFrom}
 use Rattle.run.specs.Opening.{fresh, unopened, begin}
 use Rattle.run.specs.Inner.{firstPath}
 use Rattle.run.proofs.Opens.{fresh-loads, none-short, one-short}

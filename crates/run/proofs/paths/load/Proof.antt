@@ -3,7 +3,7 @@ use mathlib.Core.Path.{_≡_, sym, _∙_, ap}
 use mathlib.Core.List.{List}
 use native.Mathlib.Omega.{arith}
 use lib.ListN.{length}
-use Rattle.window.specs.declared.Entry.{Entry}
+use Rattle.run_window.specs.declared.Entry.{Entry}
 use Rattle.run.specs.declared.Failure.{Failure}
 use Rattle.run.specs.Calls.{heard}
 use Rattle.run.specs.Loading.{loading}

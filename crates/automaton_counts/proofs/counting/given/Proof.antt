@@ -1,0 +1,57 @@
+-- `given` answers by the case of the output.
+use Rattle.automaton_counts.specs.Emits.{gives-at}
+use Rattle.automaton.specs.Counts.{OutputOk}
+use Rattle.automaton.specs.Tests.{at}
+use Rattle.automaton_counts.specs.Emits.{gives}
+use Rattle.plan.specs.declared.Output.{Output}
+use Prim.Native.Nat.{ℕ, _+_, _*_}
+use mathlib.Core.Path.{sym, ap, subst, _∙_}
+use native.Mathlib.Omega.{arith}
+use borrow.Author.Needs.{needs}
+use Rattle.automaton_counts.proofs.counting.given.Statement.{statement}
+use Rattle.automaton_counts.proofs.counting.given.Tie as tie
+
+enum-told : tie.Need-enum-told
+enum-told c = search needs
+
+enum-known-output : tie.Need-enum-known-output
+enum-known-output c = search needs
+
+wide-requires : tie.Need-wide-requires
+wide-requires c κs = search needs
+
+mul-place : tie.Need-mul-place
+mul-place c = search needs
+
+add-place : tie.Need-add-place
+add-place c = search needs
+
+element-copy-out-short : tie.Need-element-copy-out-short
+element-copy-out-short c = omega (arith, subst OutputOk (c .before .before .output .given .1) (c .before .before .before .before .pre .0))
+
+short-requires : tie.Need-short-requires
+short-requires c κs = search needs
+
+returns : tie.Need-returns
+returns c = search needs
+
+returns-2 : tie.Need-returns-2
+returns-2 c =
+    let b = c .before .before in
+    let s = b .before .before .before .before in
+    let n = b .before .before .output .given in
+    c .short .ensures ∙ ap (λ (k : ℕ). at (s .args .emits .now) (16 * k + s .args .e)) (b .wide .ensures) ∙ sym (gives-at (s .args .emits .now) (n .0 .0) (s .args .e) (s .pre .1)) ∙ sym (ap (λ (o : Output). gives (s .args .emits .now) o (s .args .e)) (n .1))
+
+pub given-spec : {M : Type 1} → statement M
+given-spec =
+    tie.close
+    (tie.spec
+    enum-told
+    enum-known-output
+    wide-requires
+    mul-place
+    add-place
+    element-copy-out-short
+    short-requires
+    returns
+    returns-2)

@@ -1,0 +1,34 @@
+-- `taken` answers by the case of the input.
+use Rattle.automaton.specs.Rules.{takes, one}
+use Rattle.plan.specs.declared.Input.{Input}
+use borrow.Author.Tests.{eq-eqb, ne-eqb}
+use mathlib.Core.Path.{sym, ap, _∙_}
+use borrow.Author.Needs.{needs}
+use Rattle.automaton_counts.proofs.counting.taken.Statement.{statement}
+use Rattle.automaton_counts.proofs.counting.taken.Tie as tie
+
+enum-told : tie.Need-enum-told
+enum-told c = search needs
+
+enum-known-input : tie.Need-enum-known-input
+enum-known-input c = search needs
+
+wide-requires : tie.Need-wide-requires
+wide-requires c κs = search needs
+
+returns : tie.Need-returns
+returns c = search needs
+
+returns-2 : tie.Need-returns-2
+returns-2 c =
+    let s = c .before .before .before .before .before in
+    sym (ap (λ (n : Input). takes n (s .args .e)) (c .before .before .before .input .given .1) ∙ ap one (eq-eqb _ _ (sym (c .before .wide .ensures) ∙ c .if1 .taken)))
+
+returns-3 : tie.Need-returns-3
+returns-3 c =
+    let s = c .before .before .before .before .before in
+    sym (ap (λ (n : Input). takes n (s .args .e)) (c .before .before .before .input .given .1) ∙ ap one (ne-eqb _ _ (λ e. c .if1 .left (c .before .wide .ensures ∙ e))))
+
+pub taken-spec : {M : Type 1} → statement M
+taken-spec =
+    tie.close (tie.spec enum-told enum-known-input wide-requires returns returns-2 returns-3)

@@ -1,0 +1,102 @@
+-- `mark_back` keeps what `Backing` says of the marked states, one transition after the other.
+use Rattle.automaton.specs.Passes.{back-stay, back-store, Backing}
+use Rattle.automaton.specs.Tests.{true-false}
+use Rattle.automaton_counts.proofs.Tools.{moved, move-ok}
+use borrow.Author.Tests.{not-true, not-false}
+use mathlib.Core.Bool.{false}
+use Prim.Native.Nat.{_-_, _≤_}
+use mathlib.Core.Path.{_≡_, sym, _∙_}
+use native.Mathlib.Omega.{arith}
+use borrow.Author.Needs.{needs}
+use Rattle.automaton_counts.proofs.final_states.mark_back.Statement.{statement}
+use Rattle.automaton_counts.proofs.final_states.mark_back.Tie as tie
+
+abbrev Inv-loop : tie.InvT-loop
+Inv-loop a count marked₀ changed₀ i₀ marked changed i = (i ≤ count) × Backing a marked₀ i marked changed
+
+abbrev μ-loop : tie.MeasureT-loop
+μ-loop a count marked₀ changed₀ i₀ marked changed i = count - i
+
+long-requires : tie.Need-long-requires Inv-loop μ-loop
+long-requires c κs = search needs
+
+loop-holds : tie.Need-loop-holds Inv-loop μ-loop
+loop-holds c = (omega arith, c .before .pre .1)
+
+mul-t : tie.Need-mul-t Inv-loop μ-loop
+mul-t c = search needs
+
+element-copy-out-t : tie.Need-element-copy-out-t Inv-loop μ-loop
+element-copy-out-t c = search needs
+
+add-i : tie.Need-add-i Inv-loop μ-loop
+add-i c = search needs
+
+wide-requires : tie.Need-wide-requires Inv-loop μ-loop
+wide-requires c κs = search needs
+
+wide-requires-2 : tie.Need-wide-requires-2 Inv-loop μ-loop
+wide-requires-2 c κs = search needs
+
+array-read-if1 : tie.Need-array-read-if1 Inv-loop μ-loop
+array-read-if1 c = omega (arith, c .before .wide .ensures, move-ok _ (c .before .before .before .before .before .before .pre .0) (c .before .before .before .before .loop .i) (omega arith) .from)
+
+loop-less : tie.Need-loop-less Inv-loop μ-loop
+loop-less c = search needs
+
+loop-again : tie.Need-loop-again Inv-loop μ-loop
+loop-again c =
+    let l = c .before .before .before .before .before .loop in
+    (omega arith, back-stay _ (c .before .before .before .before .before .before .before .pre .0) _ _ _ _ (l .inv .1) (λ _. moved (l .marked) (c .before .before .wide .ensures) (c .if1 .taken)))
+
+array-read-if2 : tie.Need-array-read-if2 Inv-loop μ-loop
+array-read-if2 c = omega (arith, c .before .wide2 .ensures, move-ok _ (c .before .before .before .before .before .before .before .pre .0) (c .before .before .before .before .before .loop .i) (omega arith) .to)
+
+loop-less-2 : tie.Need-loop-less-2 Inv-loop μ-loop
+loop-less-2 c = search needs
+
+loop-again-2 : tie.Need-loop-again-2 Inv-loop μ-loop
+loop-again-2 c =
+    let l = c .before .before .before .before .before .before .loop in
+    (omega arith, back-stay _ (c .before .before .before .before .before .before .before .before .pre .0) _ _ _ _ (l .inv .1) (λ h. absurd (true-false (sym h ∙ moved (l .marked) (c .before .before .wide2 .ensures) (not-true _ (c .if2 .taken))))))
+
+array-write-marked : tie.Need-array-write-marked Inv-loop μ-loop
+array-write-marked c = omega (arith, c .before .before .before .wide .ensures, move-ok _ (c .before .before .before .before .before .before .before .before .pre .0) (c .before .before .before .before .before .before .loop .i) (omega arith) .from)
+
+loop-less-3 : tie.Need-loop-less-3 Inv-loop μ-loop
+loop-less-3 c = search needs
+
+loop-again-3 : tie.Need-loop-again-3 Inv-loop μ-loop
+loop-again-3 c =
+    let l = c .before .before .before .before .before .before .loop in
+    (omega arith, rw (c .before .before .before .wide .ensures) (back-store _ (c .before .before .before .before .before .before .before .before .pre .0) _ _ _ _ (l .inv .1) (omega arith) (moved (l .marked) (c .before .before .before .wide .ensures) (c .before .if1 .left)) (moved (l .marked) (c .before .before .wide2 .ensures) (not-false _ (c .if2 .left)))))
+
+returns : tie.Need-returns Inv-loop μ-loop
+returns c =
+    let l = c .before .loop in
+    let e : l .i ≡ c .before .before .before .args .t1 .count = omega arith in
+    rw e at (l .inv .1)
+
+pub mark-back-spec : {M : Type 1} → statement M
+mark-back-spec =
+    tie.close
+    (tie.spec
+    Inv-loop
+    μ-loop
+    long-requires
+    loop-holds
+    mul-t
+    element-copy-out-t
+    add-i
+    wide-requires
+    wide-requires-2
+    array-read-if1
+    loop-less
+    loop-again
+    array-read-if2
+    loop-less-2
+    loop-again-2
+    array-write-marked
+    loop-less-3
+    loop-again-3
+    returns)

@@ -1,0 +1,160 @@
+// The events pending along the paths from the initial state: one count of each event for each state reached.
+use crate::widths::long;
+use crate::widths::short;
+use crate::widths::wide;
+use automaton::Explored;
+use plan::Automaton;
+use plan::Input;
+use plan::Output;
+ghost use mathlib.Core.Bool.{false};
+ghost use mathlib.Core.Path.{_≡_};
+ghost use Prim.Native.Nat.{ℕ, _+_, _*_, _<_, _≤_};
+ghost use Rattle.automaton.specs.Tests.{at, Tells};
+ghost use Rattle.automaton.specs.Rules.{takes};
+ghost use Rattle.automaton.specs.Counts.{InputOk, OutputOk, InRange, Ready, Known};
+ghost use Rattle.automaton.specs.Passes.{Advanced, Going};
+ghost use Rattle.automaton_counts.specs.Emits.{gives, Few};
+
+pub(crate) fn taken(input: Input, e: usize) -> u16
+    ensures { λ r. ⌜ r ≡ takes input e ⌝ }
+{
+    match input {
+        Input::Nothing => 0,
+        Input::Outcome(f, _) => { if wide(f) == e { 1 } else { 0 } }
+    }
+}
+
+pub(crate) fn given(output: Output, emits: &[u8; 512], e: usize) -> u16
+    requires { ⌜ OutputOk output ⌝ }
+    requires { ⌜ e < 16 ⌝ }
+    ensures { λ r. ⌜ r ≡ gives (now (emits .entry)) output e ⌝ }
+{
+    match output {
+        Output::Empty => 0,
+        Output::Activity(k) => {
+            let place = 16 * wide(k) + e;
+            short(emits[place])
+        }
+    }
+}
+
+// Whether what the input processes is pending at s.
+fn ready(input: Input, counts: &[u16; 1024], s: usize) -> bool
+    requires { ⌜ InputOk input ⌝ }
+    requires { ⌜ s < 64 ⌝ }
+    ensures { λ r. ⌜ Tells r (Ready (now (counts .entry)) s input) ⌝ }
+{
+    match input {
+        Input::Nothing => true,
+        Input::Outcome(f, _) => {
+            let place = 16 * s + wide(f);
+            0 < counts[place]
+        }
+    }
+}
+
+fn blank() -> [u16; 1024]
+    ensures { λ r. ⌜ ((k : ℕ) → at r k ≡ 0) ⌝ }
+{
+    [0u16; 1024]
+}
+
+// The counts with those of the state to set, from those of the state from: a transition processes first, then emits.
+fn advance(
+    counts: [u16; 1024],
+    from: usize,
+    to: usize,
+    input: Input,
+    output: Output,
+    emits: &[u8; 512],
+) -> [u16; 1024]
+    requires { ⌜ (from < 64) × (to < 64) × OutputOk output ⌝ }
+    requires { ⌜ ((e : ℕ) → e < 16 → takes input e ≤ at counts (16 * from + e)) ⌝ }
+    requires { ⌜ ((k : ℕ) → at counts k ≤ 4096) ⌝ }
+    requires { ⌜ Few (now emits) ⌝ }
+    ensures { λ r. ⌜ Advanced (gives (now (emits .entry))) counts from to input output 16 r ⌝ }
+{
+    let mut r = counts;
+    let mut e: usize = 0;
+    while e < 16 {
+        let g = given(output, emits, e);
+        let x = taken(input, e);
+        let was = 16 * from + e;
+        let place = 16 * to + e;
+        r[place] = counts[was] - x + g;
+        e += 1;
+    }
+    r
+}
+
+// The states reached and their counts after a pass over the transitions, and whether the pass reached one.
+pub struct Passed {
+    pub reached: [bool; 64],
+    pub counts: [u16; 1024],
+    pub changed: bool,
+}
+
+// One pass over the transitions: one that leaves a reached state, where what it processes is pending, reaches its to-state.
+fn pass(a: Automaton, emits: [u8; 512], before: [bool; 64], pending: [u16; 1024]) -> Passed
+    requires { ⌜ InRange a ⌝ }
+    requires { ⌜ Few emits ⌝ }
+    requires { ⌜ Going a (gives emits) before 0 before pending false ⌝ }
+    ensures { λ r. ⌜ Going a (gives emits) before (a .count) (r .reached) (r .counts) (r .changed) ⌝ }
+{
+    let count = long(a.count);
+    let mut counts = pending;
+    let mut reached = before;
+    let mut changed = false;
+    let mut i: usize = 0;
+    while i < count {
+        let t = a.moves[i];
+        i += 1;
+        let from = wide(t.from);
+        let to = wide(t.to);
+        if !reached[from] {
+            continue;
+        }
+        if reached[to] {
+            continue;
+        }
+        let input = t.input;
+        if !ready(input, &counts, from) {
+            continue;
+        }
+        let output = t.output;
+        let next = advance(counts, from, to, input, output, &emits);
+        counts = next;
+        reached[to] = true;
+        changed = true;
+    }
+    Passed {
+        reached,
+        counts,
+        changed,
+    }
+}
+
+// One count of each event for each state that a path from the initial one reaches, until a pass over the transitions reaches nothing new.
+pub(crate) fn explore(a: Automaton, emits: [u8; 512]) -> Explored
+    requires { ⌜ InRange a ⌝ }
+    requires { ⌜ Few emits ⌝ }
+    ensures { λ r. ⌜ Known a (gives emits) (r .reached) (r .counts) ⌝ }
+{
+    let first = wide(a.initial);
+    let mut counts = blank();
+    let mut reached = [false; 64];
+    reached[first] = true;
+    loop {
+        let r = pass(a, emits, reached, counts);
+        let known = r.reached;
+        let there = r.counts;
+        reached = known;
+        counts = there;
+        if !r.changed {
+            return Explored {
+                reached: reached,
+                counts: counts,
+            };
+        }
+    }
+}

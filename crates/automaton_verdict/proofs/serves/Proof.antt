@@ -1,0 +1,70 @@
+-- `serves` answers by what the state does next.
+use mathlib.Core.Path.{sym, ap, _∙_}
+use Prim.Native.Nat.{ℕ}
+use native.Mathlib.Omega.{arith}
+use Rattle.automaton.specs.Tests.{at, all}
+use Rattle.automaton.specs.Next.{chosenOf}
+use Rattle.automaton.specs.Number.{isMove, servesNext, serves}
+use Rattle.automaton_verdict.proofs.Tools.{awaited-low}
+use borrow.Author.Needs.{needs}
+use Rattle.automaton_verdict.proofs.serves.Statement.{statement}
+use Rattle.automaton_verdict.proofs.serves.Tie as tie
+
+next-of-requires : tie.Need-next-of-requires
+next-of-requires c κs = search needs
+
+enum-told : tie.Need-enum-told
+enum-told c = search needs
+
+enum-told-2 : tie.Need-enum-told-2
+enum-told-2 c = search needs
+
+enum-known-n : tie.Need-enum-known-n
+enum-known-n c = search needs
+
+wide-requires : tie.Need-wide-requires
+wide-requires c κs = search needs
+
+array-read-serves-all : tie.Need-array-read-serves-all
+array-read-serves-all c =
+    let b = c .before .before .before .before in
+    let n = c .before .before .n .given in
+    omega (arith, c .wide .ensures, awaited-low (b .before .args .a) (b .before .pre) (b .before .args .s) (n .0 .0) (sym (b .next-of .ensures) ∙ n .1))
+
+serves-all-requires : tie.Need-serves-all-requires
+serves-all-requires c κs = search needs
+
+returns : tie.Need-returns
+unfolding serves
+returns c =
+    let x = c .before .before .before .args in
+    sym (ap (servesNext (x .a) (at (x .t2)) (x .s)) (sym (c .before .before .next-of .ensures) ∙ c .enum-told .given .1))
+
+returns-2 : tie.Need-returns-2
+unfolding serves
+returns-2 c =
+    let x = c .before .before .before .args in
+    sym (ap (servesNext (x .a) (at (x .t2)) (x .s)) (sym (c .before .before .next-of .ensures) ∙ c .enum-told2 .given .1))
+
+returns-3 : tie.Need-returns-3
+unfolding serves
+returns-3 c =
+    let b = c .before .before .before .before .before in
+    let x = b .before .args in
+    let n = c .before .before .before .n .given in
+    c .serves-all .ensures ∙ ap (λ (k : ℕ). all (at (x .t2) k) (λ q. isMove (chosenOf (x .a) (x .s) (n .0 .0) q))) (c .before .wide .ensures) ∙ sym (ap (servesNext (x .a) (at (x .t2)) (x .s)) (sym (b .next-of .ensures) ∙ n .1))
+
+pub serves-spec : {M : Type 1} → statement M
+serves-spec =
+    tie.close
+    (tie.spec
+    next-of-requires
+    enum-told
+    enum-told-2
+    enum-known-n
+    wide-requires
+    array-read-serves-all
+    serves-all-requires
+    returns
+    returns-2
+    returns-3)

@@ -1,0 +1,39 @@
+-- What the activities of a plan emit, as a table.
+use mathlib.Core.Path.{_≡_, refl, sym, _∙_}
+use mathlib.Core.List.{List}
+use Prim.Native.Nat.{ℕ, _+_, _*_, _<_}
+use native.Mathlib.Omega.{arith}
+use native.Mathlib.Decide.{decLt}
+use Rattle.plan.specs.declared.Kind.{Kind}
+use Rattle.plan.specs.declared.Output.{Output}
+use Rattle.plan.specs.declared.Plan.{Plan}
+use Rattle.plan.specs.Plan.{activityOf, move}
+use Rattle.plan.specs.Limits.{OutputNames, InLimits}
+use Rattle.automaton.specs.Tests.{at}
+use Rattle.automaton.specs.Rules.{eventsIn, emits}
+use Rattle.automaton.specs.Bounds.{emits-bounded}
+use Rattle.automaton_counts.specs.Emits.{gives, Few, gives-at, gives-bounded}
+
+-- at 16 * k + e stands how many nodes of event e activity k has
+pub record Table (p : Plan) (em : List ℕ) : Type 0 where
+  pub counts : (k e : ℕ) → k < p .activities → e < 16 → at em (16 * k + e) ≡ eventsIn e (activityOf p k)
+  pub few : Few em
+
+-- the event of a node; 16 if it is none
+abbrev pub eventNumber : Kind → ℕ
+eventNumber (Kind.Action n x) = 16
+eventNumber (Kind.Claim r) = 16
+eventNumber (Kind.Release r) = 16
+eventNumber (Kind.Event e) = e
+
+-- the table says what the plan's transitions emit
+pub table-gives : (p : Plan) → InLimits p → (em : List ℕ) → Table p em → (i e : ℕ) → i < p .automaton .count
+    → gives em (move (p .automaton) i .output) e ≡ emits p (move (p .automaton) i .output) e
+table-gives p h em t i e l = elim (decLt e 16) [
+  | yes n ↦ go n (move (p .automaton) i .output) (h .moves i l .output)
+  | no n ↦ gives-bounded (p .automaton) em i e l (omega arith) ∙ sym (emits-bounded p h i e l (omega arith))
+]
+  where
+    go : e < 16 → (o : Output) → OutputNames p o → gives em o e ≡ emits p o e
+    go n Output.Empty x = refl
+    go n (Output.Activity k) x = gives-at em k e n ∙ t .counts k e x n

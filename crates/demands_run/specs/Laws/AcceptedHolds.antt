@@ -1,0 +1,18 @@
+-- Bytes that are accepted as a plan: the plan meets the file's rules, those of each activity, and those of the automaton.
+use mathlib.Core.List.{List}
+use Rattle.judge.specs.Laws.{passed}
+use Rattle.activity.specs.Activities as Activities
+use Rattle.automaton.specs.Decides as Automaton
+use Rattle.plan_roundtrip.specs.RoundTrip.{Bytes, written-read}
+use Rattle.demands_run.specs.Laws.Opening.{AcceptedLaws}
+use Prim.Native.Nat.{ℕ}
+
+pub accepted-laws : (bytes : List ℕ) → Bytes bytes → AcceptedLaws bytes
+accepted-laws bytes b p e =
+    let q = passed p bytes e in
+    let h = written-read bytes b p (q .read) in
+    record {
+      file = h .file;
+      activities = Activities.accepted-iff p .0 (q .activities);
+      automaton = Automaton.accepted-iff p (h .file .limits) .0 (q .automaton);
+    }

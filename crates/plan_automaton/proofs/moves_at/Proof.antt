@@ -1,0 +1,70 @@
+-- The final-state bits, the transition count, and the loop.
+use native.Mathlib.Omega.{arith}
+use mathlib.Core.Path.{_≡_, refl, sym, _∙_, ap}
+use Rattle.plan.specs.Moves.{movesAt}
+use Rattle.plan_fields.specs.Read.{byte-most, move-count-most}
+use borrow.Author.Needs.{needs}
+use Rattle.plan_automaton.proofs.moves_at.Statement.{statement}
+use Rattle.plan_automaton.proofs.moves_at.Tie as tie
+use Rattle.plan_automaton.proofs.moves_at.Reads as reads
+use Rattle.plan_automaton.proofs.moves_at.Lts as lts
+use Rattle.plan_fields.proofs.finals_at.Reads as finals-at-reads
+use Rattle.plan_fields.proofs.move_count_at.Reads as move-count-at-reads
+use Rattle.plan_automaton.proofs.moves_loop.Reads as moves-loop-reads
+use Rattle.plan_automaton.proofs.no_automaton.Reads as no-automaton-reads
+
+finals-at-requires : tie.Need-finals-at-requires
+finals-at-requires c κs = search needs
+
+enum-known-f : tie.Need-enum-known-f
+enum-known-f c = search needs
+
+no-automaton-requires : tie.Need-no-automaton-requires
+no-automaton-requires c κs = search needs
+
+enum-known-f-2 : tie.Need-enum-known-f-2
+enum-known-f-2 c = search needs
+
+move-count-at-requires : tie.Need-move-count-at-requires
+move-count-at-requires c κs = search needs
+
+enum-known-g : tie.Need-enum-known-g
+enum-known-g c = search needs
+
+no-automaton-requires-2 : tie.Need-no-automaton-requires-2
+no-automaton-requires-2 c κs = search needs
+
+enum-known-g-2 : tie.Need-enum-known-g-2
+enum-known-g-2 c = search needs
+
+moves-loop-requires : tie.Need-moves-loop-requires
+moves-loop-requires c κs = (move-count-most _ _ _ _ (sym (c .before .before .before .move-count-at .ensures) ∙ c .before .g2 .given .1), search needs)
+
+returns : tie.Need-returns
+unfolding movesAt
+returns c = rw (← c .before .before .before .before .finals-at .ensures, c .before .before .f .given .1) (c .no-automaton .ensures)
+
+returns-2 : tie.Need-returns-2
+unfolding movesAt
+returns-2 c = rw (← c .before .before .before .before .before .before .before .before .finals-at .ensures, c .before .before .before .before .before .before .f2 .given .1, ← c .before .before .before .before .move-count-at .ensures, c .before .before .g .given .1) (c .no-automaton2 .ensures)
+
+returns-3 : tie.Need-returns-3
+unfolding movesAt
+returns-3 c = rw (← c .before .before .before .before .before .before .before .before .finals-at .ensures, c .before .before .before .before .before .before .f2 .given .1, ← c .before .before .before .before .move-count-at .ensures, c .before .before .g2 .given .1) (c .moves-loop .ensures)
+
+pub moves-at-spec : {M : Type 1} → statement M
+moves-at-spec =
+    tie.close
+    (tie.spec
+    finals-at-requires
+    enum-known-f
+    no-automaton-requires
+    enum-known-f-2
+    move-count-at-requires
+    enum-known-g
+    no-automaton-requires-2
+    enum-known-g-2
+    moves-loop-requires
+    returns
+    returns-2
+    returns-3)

@@ -1,0 +1,92 @@
+-- The loop over the transitions: the whole answer is the answer of what is left.
+use native.Mathlib.Omega.{arith}
+use mathlib.Core.Path.{_≡_, refl, sym, _∙_, ap}
+use denote.Ref.{now}
+use Prim.Native.Nat.{ℕ, _+_, _-_, _%_, _/_, _≤_, _<_}
+use lib.ListN.{length, replicate, length-set}
+use native.Mathlib.Nat.{sub-zero}
+use Rattle.plan_automaton.proofs.Loops.{moves-done, moves-refused, moves-next}
+use Rattle.plan.specs.Moves.{movesLoop}
+use Rattle.plan.specs.Plan.{pastMove}
+use borrow.Author.Needs.{needs}
+use Rattle.plan_automaton.proofs.moves_loop.Statement.{statement}
+use Rattle.plan_automaton.proofs.moves_loop.Tie as tie
+use Rattle.plan_automaton.proofs.moves_loop.Reads as reads
+use Rattle.plan_automaton.proofs.moves_loop.Lts as lts
+use Rattle.plan_automaton.proofs.transitions.move_at.Reads as move-at-reads
+use Rattle.plan_automaton.proofs.no_automaton.Reads as no-automaton-reads
+use Rattle.plan_automaton.proofs.zero_move.Reads as zero-move-reads
+
+abbrev Inv-loop : tie.InvT-loop
+Inv-loop bytes at states initial finals count events outcomes activities moves₀ off₀ i₀ n moves off i =
+    (i ≤ n) × (n ≡ count) × (count ≤ 256) × (events ≤ 16) × (length moves ≡ 256)
+    × (movesLoop events outcomes activities bytes states initial finals count count at 0 (replicate 256 pastMove) ≡ movesLoop events outcomes activities bytes states initial finals count (count - i) off i moves)
+
+abbrev μ-loop : tie.MeasureT-loop
+μ-loop bytes at states initial finals count events outcomes activities moves₀ off₀ i₀ n moves off i = n - i
+
+zero-move-requires : tie.Need-zero-move-requires Inv-loop μ-loop
+zero-move-requires c κs = search needs
+
+loop-holds : tie.Need-loop-holds Inv-loop μ-loop
+loop-holds c = (search needs, search needs, search needs, search needs, search needs, rw (sub-zero, c .zero-move .ensures))
+
+move-at-requires : tie.Need-move-at-requires Inv-loop μ-loop
+move-at-requires c κs = search needs
+
+enum-known-f : tie.Need-enum-known-f Inv-loop μ-loop
+enum-known-f c = search needs
+
+no-automaton-requires : tie.Need-no-automaton-requires Inv-loop μ-loop
+no-automaton-requires c κs = search needs
+
+returns : tie.Need-returns Inv-loop μ-loop
+returns c = c .no-automaton .ensures ∙ moves-refused (c .before .before .before .before .before .before .before .before .before .args .events) (c .before .before .before .before .before .before .before .before .before .args .outcomes) (c .before .before .before .before .before .before .before .before .before .args .activities) (now (c .before .before .before .before .before .before .before .before .before .args .bytes)) (c .before .before .before .before .before .before .before .before .before .args .states) (c .before .before .before .before .before .before .before .before .before .args .initial) (c .before .before .before .before .before .before .before .before .before .args .finals) (c .before .before .before .before .before .before .before .before .before .args .count) (c .before .before .before .before .before .before .loop .i) (c .before .before .before .before .before .before .loop .off) (c .before .before .before .before .before .before .loop .moves) (omega arith) _ _ (sym (c .before .before .before .before .move-at .ensures) ∙ c .before .before .f .given .1) ∙ sym (c .before .before .before .before .before .before .loop .inv .5)
+
+enum-known-f-2 : tie.Need-enum-known-f-2 Inv-loop μ-loop
+enum-known-f-2 c = search needs
+
+mul-moves : tie.Need-mul-moves Inv-loop μ-loop
+mul-moves c = search needs
+
+array-set-from-moves : tie.Need-array-set-from-moves Inv-loop μ-loop
+array-set-from-moves c = search needs
+
+add-i : tie.Need-add-i Inv-loop μ-loop
+add-i c = search needs
+
+loop-less : tie.Need-loop-less Inv-loop μ-loop
+loop-less c = search needs
+
+loop-again : tie.Need-loop-again Inv-loop μ-loop
+loop-again c = (
+  omega arith,
+  search needs,
+  search needs,
+  search needs,
+  simp length-set (c .before .before .before .before .before .loop .inv .4),
+  c .before .before .before .before .before .loop .inv .5 ∙ moves-next (c .before .before .before .before .before .before .before .before .args .events) (c .before .before .before .before .before .before .before .before .args .outcomes) (c .before .before .before .before .before .before .before .before .args .activities) (now (c .before .before .before .before .before .before .before .before .args .bytes)) (c .before .before .before .before .before .before .before .before .args .states) (c .before .before .before .before .before .before .before .before .args .initial) (c .before .before .before .before .before .before .before .before .args .finals) (c .before .before .before .before .before .before .before .before .args .count) (c .before .before .before .before .before .loop .i) (c .before .before .before .before .before .loop .off) (c .before .before .before .before .before .loop .moves) (omega arith) _ _ (sym (c .before .before .before .move-at .ensures) ∙ c .before .f2 .given .1),
+)
+
+returns-2 : tie.Need-returns-2 Inv-loop μ-loop
+returns-2 c = moves-done (c .before .before .before .before .args .events) (c .before .before .before .before .args .outcomes) (c .before .before .before .before .args .activities) (now (c .before .before .before .before .args .bytes)) (c .before .before .before .before .args .states) (c .before .before .before .before .args .initial) (c .before .before .before .before .args .finals) (c .before .before .before .before .args .count) (c .before .loop .i) (c .before .loop .off) (c .before .loop .moves) (omega arith) ∙ sym (c .before .loop .inv .5)
+
+pub moves-loop-spec : {M : Type 1} → statement M
+moves-loop-spec =
+    tie.close
+    (tie.spec
+    Inv-loop
+    μ-loop
+    zero-move-requires
+    loop-holds
+    move-at-requires
+    enum-known-f
+    no-automaton-requires
+    returns
+    enum-known-f-2
+    mul-moves
+    array-set-from-moves
+    add-i
+    loop-less
+    loop-again
+    returns-2)

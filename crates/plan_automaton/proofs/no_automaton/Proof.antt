@@ -1,0 +1,17 @@
+-- A refused automaton is all zeros.
+use mathlib.Core.Path.{_≡_, refl, sym, _∙_, ap}
+use borrow.Author.Needs.{needs}
+use Rattle.plan_automaton.proofs.no_automaton.Statement.{statement}
+use Rattle.plan_automaton.proofs.no_automaton.Tie as tie
+use Rattle.plan_automaton.proofs.no_automaton.Reads as reads
+use Rattle.plan_automaton.proofs.no_automaton.Lts as lts
+use Rattle.plan_automaton.proofs.zero_automaton.Reads as zero-automaton-reads
+
+zero-automaton-requires : tie.Need-zero-automaton-requires
+zero-automaton-requires c κs = search needs
+
+returns : tie.Need-returns
+returns c = rw (c .zero-automaton .ensures)
+
+pub no-automaton-spec : {M : Type 1} → statement M
+no-automaton-spec = tie.close (tie.spec zero-automaton-requires returns)

@@ -1,0 +1,58 @@
+-- A transition's states, and what follows.
+use mathlib.Core.Path.{_≡_, refl, sym, _∙_, ap}
+use Rattle.plan.specs.Moves.{moveFrom}
+use borrow.Author.Needs.{needs}
+use Rattle.plan_automaton.proofs.transitions.move_from.Statement.{statement}
+use Rattle.plan_automaton.proofs.transitions.move_from.Tie as tie
+use Rattle.plan_automaton.proofs.transitions.move_from.Reads as reads
+use Rattle.plan_automaton.proofs.transitions.move_from.Lts as lts
+use Rattle.plan_fields.proofs.name_at.Reads as name-at-reads
+use Rattle.plan_automaton.proofs.transitions.move_with.Reads as move-with-reads
+
+name-at-requires : tie.Need-name-at-requires
+name-at-requires c κs = search needs
+
+enum-known-f : tie.Need-enum-known-f
+enum-known-f c = search needs
+
+enum-known-f-2 : tie.Need-enum-known-f-2
+enum-known-f-2 c = search needs
+
+name-at-requires-2 : tie.Need-name-at-requires-2
+name-at-requires-2 c κs = search needs
+
+enum-known-g : tie.Need-enum-known-g
+enum-known-g c = search needs
+
+enum-known-g-2 : tie.Need-enum-known-g-2
+enum-known-g-2 c = search needs
+
+move-with-requires : tie.Need-move-with-requires
+move-with-requires c κs = search needs
+
+returns : tie.Need-returns
+unfolding moveFrom
+returns c = rw (← c .before .before .before .name-at .ensures, c .before .f .given .1)
+
+returns-2 : tie.Need-returns-2
+unfolding moveFrom
+returns-2 c = rw (← c .before .before .before .before .before .before .before .name-at .ensures, c .before .before .before .before .before .f2 .given .1, ← c .before .before .before .name-at2 .ensures, c .before .g .given .1)
+
+returns-3 : tie.Need-returns-3
+unfolding moveFrom
+returns-3 c = rw (← c .before .before .before .before .before .before .before .before .name-at .ensures, c .before .before .before .before .before .before .f2 .given .1, ← c .before .before .before .before .name-at2 .ensures, c .before .before .g2 .given .1) (c .move-with .ensures)
+
+pub move-from-spec : {M : Type 1} → statement M
+move-from-spec =
+    tie.close
+    (tie.spec
+    name-at-requires
+    enum-known-f
+    enum-known-f-2
+    name-at-requires-2
+    enum-known-g
+    enum-known-g-2
+    move-with-requires
+    returns
+    returns-2
+    returns-3)

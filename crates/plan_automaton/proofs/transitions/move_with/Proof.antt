@@ -1,0 +1,54 @@
+-- A transition's input and output.
+use mathlib.Core.Path.{_≡_, refl, sym, _∙_, ap}
+use Rattle.plan.specs.Moves.{moveWith}
+use borrow.Author.Needs.{needs}
+use Rattle.plan_automaton.proofs.transitions.move_with.Statement.{statement}
+use Rattle.plan_automaton.proofs.transitions.move_with.Tie as tie
+use Rattle.plan_automaton.proofs.transitions.move_with.Reads as reads
+use Rattle.plan_automaton.proofs.transitions.move_with.Lts as lts
+use Rattle.plan_automaton.proofs.transitions.input_at.Reads as input-at-reads
+use Rattle.plan_automaton.proofs.transitions.output_at.Reads as output-at-reads
+
+input-at-requires : tie.Need-input-at-requires
+input-at-requires c κs = search needs
+
+enum-known-f : tie.Need-enum-known-f
+enum-known-f c = search needs
+
+enum-known-f-2 : tie.Need-enum-known-f-2
+enum-known-f-2 c = search needs
+
+output-at-requires : tie.Need-output-at-requires
+output-at-requires c κs = search needs
+
+enum-known-g : tie.Need-enum-known-g
+enum-known-g c = search needs
+
+enum-known-g-2 : tie.Need-enum-known-g-2
+enum-known-g-2 c = search needs
+
+returns : tie.Need-returns
+unfolding moveWith
+returns c = rw (← c .before .before .before .input-at .ensures, c .before .f .given .1)
+
+returns-2 : tie.Need-returns-2
+unfolding moveWith
+returns-2 c = rw (← c .before .before .before .before .before .before .before .input-at .ensures, c .before .before .before .before .before .f2 .given .1, ← c .before .before .before .output-at .ensures, c .before .g .given .1)
+
+returns-3 : tie.Need-returns-3
+unfolding moveWith
+returns-3 c = rw (← c .before .before .before .before .before .before .before .input-at .ensures, c .before .before .before .before .before .f2 .given .1, ← c .before .before .before .output-at .ensures, c .before .g2 .given .1)
+
+pub move-with-spec : {M : Type 1} → statement M
+move-with-spec =
+    tie.close
+    (tie.spec
+    input-at-requires
+    enum-known-f
+    enum-known-f-2
+    output-at-requires
+    enum-known-g
+    enum-known-g-2
+    returns
+    returns-2
+    returns-3)

@@ -1,0 +1,17 @@
+-- All zeros.
+use mathlib.Core.Path.{_≡_, refl, sym, _∙_, ap}
+use borrow.Author.Needs.{needs}
+use Rattle.plan_automaton.proofs.zero_automaton.Statement.{statement}
+use Rattle.plan_automaton.proofs.zero_automaton.Tie as tie
+use Rattle.plan_automaton.proofs.zero_automaton.Reads as reads
+use Rattle.plan_automaton.proofs.zero_automaton.Lts as lts
+use Rattle.plan_automaton.proofs.zero_move.Reads as zero-move-reads
+
+zero-move-requires : tie.Need-zero-move-requires
+zero-move-requires c κs = search needs
+
+returns : tie.Need-returns
+returns c = rw (c .zero-move .ensures)
+
+pub zero-automaton-spec : {M : Type 1} → statement M
+zero-automaton-spec = tie.close (tie.spec zero-move-requires returns)

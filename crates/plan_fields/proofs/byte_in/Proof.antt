@@ -1,0 +1,63 @@
+-- A field of one byte: each answer by the law of fields.
+use native.Mathlib.Omega.{arith}
+use borrow.Author.Tests.{lt-ltb, le-ltb, le-leb, lt-leb, leb-true, ltb-true, eq-eqb, ne-eqb}
+use mathlib.Core.Path.{_≡_, refl, sym, _∙_, ap}
+use denote.Ref.{now}
+use Prim.Native.Nat.{ℕ, _+_, _^_}
+use Rattle.wire.specs.Fields.{short, too-low, too-high, in-range}
+use Rattle.plan_fields.proofs.There.{byte-there, byte-short}
+use Rattle.plan.specs.declared.fields.Field.{Field}
+use Rattle.plan.specs.declared.Fault.{Fault}
+use Rattle.plan.specs.Fields.{byteAt}
+use borrow.Author.Needs.{needs}
+use Rattle.plan_fields.proofs.byte_in.Statement.{statement}
+use Rattle.plan_fields.proofs.byte_in.Tie as tie
+use Rattle.plan_fields.proofs.byte_in.Reads as reads
+use Rattle.plan_fields.proofs.byte_in.Lts as lts
+use Rattle.plan_fields.proofs.widen.Reads as widen-reads
+use Rattle.wire.proofs.byte_at.Reads as byte-at-reads
+
+byte-at-requires : tie.Need-byte-at-requires
+byte-at-requires c κs = search needs
+
+enum-told : tie.Need-enum-told
+enum-told c = search needs
+
+enum-known-f : tie.Need-enum-known-f
+enum-known-f c = search needs
+
+returns : tie.Need-returns
+unfolding byteAt
+returns c = let p = byte-there (now (c .before .before .before .before .before .before .args .bytes)) (c .before .before .before .before .before .before .args .at) _ (sym (c .before .before .before .before .byte-at .ensures) ∙ c .before .before .f .given .1) in too-low Field.Value Field.Refused Fault.Ends 1 ((c .before .before .before .before .before .before .args) .low) ((c .before .before .before .before .before .before .args) .below) ((c .before .before .before .before .before .before .args) .wrong) (now ((c .before .before .before .before .before .before .args) .bytes)) ((c .before .before .before .before .before .before .args) .at) _ (p .is) (p .fits) (c .if1 .taken)
+
+widen-requires : tie.Need-widen-requires
+widen-requires c κs = search needs
+
+add-t12 : tie.Need-add-t12
+add-t12 c = let p = byte-there (now (c .before .before .before .before .before .before .before .before .args .bytes)) (c .before .before .before .before .before .before .before .before .args .at) _ (sym (c .before .before .before .before .before .before .byte-at .ensures) ∙ c .before .before .before .before .f .given .1) in omega (arith, p .fits)
+
+returns-2 : tie.Need-returns-2
+unfolding byteAt
+returns-2 c = let p = byte-there (now (c .before .before .before .before .before .before .before .before .args .bytes)) (c .before .before .before .before .before .before .before .before .args .at) _ (sym (c .before .before .before .before .before .before .byte-at .ensures) ∙ c .before .before .before .before .f .given .1) in in-range Field.Value Field.Refused Fault.Ends 1 ((c .before .before .before .before .before .before .before .before .args) .low) ((c .before .before .before .before .before .before .before .before .args) .below) ((c .before .before .before .before .before .before .before .before .args) .wrong) (now ((c .before .before .before .before .before .before .before .before .args) .bytes)) ((c .before .before .before .before .before .before .before .before .args) .at) _ (p .is) (p .fits) (omega arith) (omega arith)
+
+returns-3 : tie.Need-returns-3
+unfolding byteAt
+returns-3 c = short Field.Value Field.Refused Fault.Ends 1 ((c .before .before .before .before .args) .low) ((c .before .before .before .before .args) .below) ((c .before .before .before .before .args) .wrong) (now ((c .before .before .before .before .args) .bytes)) ((c .before .before .before .before .args) .at) (byte-short (now (c .before .before .before .before .args .bytes)) (c .before .before .before .before .args .at) (sym (c .before .before .byte-at .ensures) ∙ c .enum-told .given .1))
+
+returns-4 : tie.Need-returns-4
+unfolding byteAt
+returns-4 c = let p = byte-there (now (c .before .before .before .before .before .before .before .before .args .bytes)) (c .before .before .before .before .before .before .before .before .args .at) _ (sym (c .before .before .before .before .before .before .byte-at .ensures) ∙ c .before .before .before .before .f .given .1) in too-high Field.Value Field.Refused Fault.Ends 1 ((c .before .before .before .before .before .before .before .before .args) .low) ((c .before .before .before .before .before .before .before .before .args) .below) ((c .before .before .before .before .before .before .before .before .args) .wrong) (now ((c .before .before .before .before .before .before .before .before .args) .bytes)) ((c .before .before .before .before .before .before .before .before .args) .at) _ (p .is) (p .fits) (omega arith) (omega arith)
+
+pub byte-in-spec : {M : Type 1} → statement M
+byte-in-spec =
+    tie.close
+    (tie.spec
+    byte-at-requires
+    enum-told
+    enum-known-f
+    returns
+    widen-requires
+    add-t12
+    returns-2
+    returns-3
+    returns-4)

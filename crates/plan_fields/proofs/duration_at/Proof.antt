@@ -1,0 +1,26 @@
+-- A duration that is present iff bit 4 stands.
+use native.Mathlib.Omega.{arith}
+use mathlib.Core.Path.{_≡_, refl, sym, _∙_, ap}
+use borrow.Author.Tests.{lt-ltb, le-ltb, le-leb, lt-leb, leb-true, ltb-true, eq-eqb, ne-eqb}
+use Rattle.plan.specs.Nodes.{durationAt}
+use Rattle.wire.specs.Number.{optional}
+use borrow.Author.Needs.{needs}
+use Rattle.plan_fields.proofs.duration_at.Statement.{statement}
+use Rattle.plan_fields.proofs.duration_at.Tie as tie
+use Rattle.plan_fields.proofs.duration_at.Reads as reads
+use Rattle.plan_fields.proofs.duration_at.Lts as lts
+use Rattle.plan_fields.proofs.duration_in.Reads as duration-in-reads
+
+duration-in-requires : tie.Need-duration-in-requires
+duration-in-requires c κs = search needs
+
+returns : tie.Need-returns
+unfolding durationAt optional
+returns c = rw (eq-eqb _ _ (c .before .if1 .taken)) (c .duration-in .ensures)
+
+returns-2 : tie.Need-returns-2
+unfolding durationAt optional
+returns-2 c = rw (ne-eqb _ _ (c .if1 .left))
+
+pub duration-at-spec : {M : Type 1} → statement M
+duration-at-spec = tie.close (tie.spec duration-in-requires returns returns-2)

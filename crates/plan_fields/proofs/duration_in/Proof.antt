@@ -1,0 +1,45 @@
+-- A duration that is present: each answer by the law of fields.
+use native.Mathlib.Omega.{arith}
+use borrow.Author.Tests.{lt-ltb, le-ltb, le-leb, lt-leb, leb-true, ltb-true, eq-eqb, ne-eqb}
+use mathlib.Core.Path.{_≡_, refl, sym, _∙_, ap}
+use denote.Ref.{now}
+use Prim.Native.Nat.{ℕ, _+_, _^_}
+use Rattle.wire.specs.Fields.{short, too-low, too-high, in-range}
+use Rattle.plan_fields.proofs.There.{long-there, long-short}
+use Rattle.plan.specs.declared.fields.DurationField.{DurationField}
+use Rattle.plan.specs.declared.Fault.{Fault}
+use borrow.Author.Needs.{needs}
+use Rattle.plan_fields.proofs.duration_in.Statement.{statement}
+use Rattle.plan_fields.proofs.duration_in.Tie as tie
+use Rattle.plan_fields.proofs.duration_in.Reads as reads
+use Rattle.plan_fields.proofs.duration_in.Lts as lts
+use Rattle.wire.proofs.long_at.Reads as long-at-reads
+
+long-at-requires : tie.Need-long-at-requires
+long-at-requires c κs = search needs
+
+enum-told : tie.Need-enum-told
+enum-told c = search needs
+
+enum-known-f : tie.Need-enum-known-f
+enum-known-f c = search needs
+
+returns : tie.Need-returns
+returns c = let p = long-there (now (c .before .before .before .before .before .before .args .bytes)) (c .before .before .before .before .before .before .args .at) _ (sym (c .before .before .before .before .long-at .ensures) ∙ c .before .before .f .given .1) in too-low DurationField.Value DurationField.Refused Fault.Ends 4 1 60000001 Fault.Duration (now ((c .before .before .before .before .before .before .args) .bytes)) ((c .before .before .before .before .before .before .args) .at) _ (p .is) (p .fits) (omega arith)
+
+add-t9 : tie.Need-add-t9
+add-t9 c = let p = long-there (now (c .before .before .before .before .before .before .before .args .bytes)) (c .before .before .before .before .before .before .before .args .at) _ (sym (c .before .before .before .before .before .long-at .ensures) ∙ c .before .before .before .f .given .1) in omega (arith, p .fits)
+
+returns-2 : tie.Need-returns-2
+returns-2 c = let p = long-there (now (c .before .before .before .before .before .before .before .args .bytes)) (c .before .before .before .before .before .before .before .args .at) _ (sym (c .before .before .before .before .before .long-at .ensures) ∙ c .before .before .before .f .given .1) in in-range DurationField.Value DurationField.Refused Fault.Ends 4 1 60000001 Fault.Duration (now ((c .before .before .before .before .before .before .before .args) .bytes)) ((c .before .before .before .before .before .before .before .args) .at) _ (p .is) (p .fits) (omega arith) (omega arith)
+
+returns-3 : tie.Need-returns-3
+returns-3 c = short DurationField.Value DurationField.Refused Fault.Ends 4 1 60000001 Fault.Duration (now ((c .before .before .before .before .args) .bytes)) ((c .before .before .before .before .args) .at) (long-short (now (c .before .before .before .before .args .bytes)) (c .before .before .before .before .args .at) (sym (c .before .before .long-at .ensures) ∙ c .enum-told .given .1))
+
+returns-4 : tie.Need-returns-4
+returns-4 c = let p = long-there (now (c .before .before .before .before .before .before .before .args .bytes)) (c .before .before .before .before .before .before .before .args .at) _ (sym (c .before .before .before .before .before .long-at .ensures) ∙ c .before .before .before .f .given .1) in too-high DurationField.Value DurationField.Refused Fault.Ends 4 1 60000001 Fault.Duration (now ((c .before .before .before .before .before .before .before .args) .bytes)) ((c .before .before .before .before .before .before .before .args) .at) _ (p .is) (p .fits) (omega arith) (omega arith)
+
+pub duration-in-spec : {M : Type 1} → statement M
+duration-in-spec =
+    tie.close
+    (tie.spec long-at-requires enum-told enum-known-f returns add-t9 returns-2 returns-3 returns-4)

@@ -1,0 +1,59 @@
+-- The final-state bits: each answer by the law of fields.
+use native.Mathlib.Omega.{arith}
+use borrow.Author.Tests.{lt-ltb, le-ltb, le-leb, lt-leb, leb-true, ltb-true, eq-eqb, ne-eqb}
+use mathlib.Core.Path.{_≡_, refl, sym, _∙_, ap}
+use denote.Ref.{now}
+use Prim.Native.Nat.{ℕ, _+_, _^_}
+use Rattle.wire.specs.Fields.{short, too-low, too-high, in-range}
+use Rattle.plan_fields.proofs.There.{wide-there, wide-short}
+use Rattle.plan.specs.declared.fields.FinalsField.{FinalsField}
+use Rattle.plan.specs.declared.Fault.{Fault}
+use Rattle.plan.specs.Moves.{finalsAt}
+use borrow.Author.Tests.{ltb-false}
+use borrow.Author.Needs.{needs}
+use Rattle.plan_fields.proofs.finals_at.Statement.{statement}
+use Rattle.plan_fields.proofs.finals_at.Tie as tie
+use Rattle.plan_fields.proofs.finals_at.Reads as reads
+use Rattle.plan_fields.proofs.finals_at.Lts as lts
+use Rattle.plan_fields.proofs.in_states.Reads as in-states-reads
+use Rattle.wire.proofs.wide_at.Reads as wide-at-reads
+
+wide-at-requires : tie.Need-wide-at-requires
+wide-at-requires c κs = search needs
+
+enum-told : tie.Need-enum-told
+enum-told c = search needs
+
+enum-known-f : tie.Need-enum-known-f
+enum-known-f c = search needs
+
+in-states-requires : tie.Need-in-states-requires
+in-states-requires c κs = search needs
+
+add-t9 : tie.Need-add-t9
+add-t9 c = let p = wide-there (now (c .before .before .before .before .before .before .before .args .bytes)) (c .before .before .before .before .before .before .before .args .at) _ (sym (c .before .before .before .before .before .wide-at .ensures) ∙ c .before .before .before .f .given .1) in omega (arith, p .fits)
+
+returns : tie.Need-returns
+unfolding finalsAt
+returns c = let p = wide-there (now (c .before .before .before .before .before .before .before .args .bytes)) (c .before .before .before .before .before .before .before .args .at) _ (sym (c .before .before .before .before .before .wide-at .ensures) ∙ c .before .before .before .f .given .1) in in-range FinalsField.Value FinalsField.Refused Fault.Ends 8 0 (2 ^ (c .before .before .before .before .before .before .before .args) .states) Fault.Names (now ((c .before .before .before .before .before .before .before .args) .bytes)) ((c .before .before .before .before .before .before .before .args) .at) _ (p .is) (p .fits) (omega arith) (ltb-true _ _ (sym (c .before .in-states .ensures) ∙ c .if1 .taken))
+
+returns-2 : tie.Need-returns-2
+unfolding finalsAt
+returns-2 c = short FinalsField.Value FinalsField.Refused Fault.Ends 8 0 (2 ^ (c .before .before .before .before .args) .states) Fault.Names (now ((c .before .before .before .before .args) .bytes)) ((c .before .before .before .before .args) .at) (wide-short (now (c .before .before .before .before .args .bytes)) (c .before .before .before .before .args .at) (sym (c .before .before .wide-at .ensures) ∙ c .enum-told .given .1))
+
+returns-3 : tie.Need-returns-3
+unfolding finalsAt
+returns-3 c = let p = wide-there (now (c .before .before .before .before .before .before .before .args .bytes)) (c .before .before .before .before .before .before .before .args .at) _ (sym (c .before .before .before .before .before .wide-at .ensures) ∙ c .before .before .before .f .given .1) in too-high FinalsField.Value FinalsField.Refused Fault.Ends 8 0 (2 ^ (c .before .before .before .before .before .before .before .args) .states) Fault.Names (now ((c .before .before .before .before .before .before .before .args) .bytes)) ((c .before .before .before .before .before .before .before .args) .at) _ (p .is) (p .fits) (omega arith) (ltb-false _ _ (sym (c .before .in-states .ensures) ∙ c .if1 .left))
+
+pub finals-at-spec : {M : Type 1} → statement M
+finals-at-spec =
+    tie.close
+    (tie.spec
+    wide-at-requires
+    enum-told
+    enum-known-f
+    in-states-requires
+    add-t9
+    returns
+    returns-2
+    returns-3)

@@ -1,0 +1,46 @@
+-- The transition count: each answer by the law of fields.
+use native.Mathlib.Omega.{arith}
+use borrow.Author.Tests.{lt-ltb, le-ltb, le-leb, lt-leb, leb-true, ltb-true, eq-eqb, ne-eqb}
+use mathlib.Core.Path.{_≡_, refl, sym, _∙_, ap}
+use denote.Ref.{now}
+use Prim.Native.Nat.{ℕ, _+_, _^_}
+use Rattle.wire.specs.Fields.{short, too-low, too-high, in-range}
+use Rattle.plan_fields.proofs.There.{short-there, short-short}
+use Rattle.plan.specs.declared.fields.MoveCount.{MoveCount}
+use Rattle.plan.specs.declared.Fault.{Fault}
+use Rattle.plan.specs.Moves.{moveCountAt}
+use borrow.Author.Needs.{needs}
+use Rattle.plan_fields.proofs.move_count_at.Statement.{statement}
+use Rattle.plan_fields.proofs.move_count_at.Tie as tie
+use Rattle.plan_fields.proofs.move_count_at.Reads as reads
+use Rattle.plan_fields.proofs.move_count_at.Lts as lts
+use Rattle.wire.proofs.short_at.Reads as short-at-reads
+
+short-at-requires : tie.Need-short-at-requires
+short-at-requires c κs = search needs
+
+enum-told : tie.Need-enum-told
+enum-told c = search needs
+
+enum-known-f : tie.Need-enum-known-f
+enum-known-f c = search needs
+
+add-t8 : tie.Need-add-t8
+add-t8 c = let p = short-there (now (c .before .before .before .before .before .before .args .bytes)) (c .before .before .before .before .before .before .args .at) _ (sym (c .before .before .before .before .short-at .ensures) ∙ c .before .before .f .given .1) in omega (arith, p .fits)
+
+returns : tie.Need-returns
+unfolding moveCountAt
+returns c = let p = short-there (now (c .before .before .before .before .before .before .args .bytes)) (c .before .before .before .before .before .before .args .at) _ (sym (c .before .before .before .before .short-at .ensures) ∙ c .before .before .f .given .1) in in-range MoveCount.Value MoveCount.Refused Fault.Ends 2 0 257 Fault.Count (now ((c .before .before .before .before .before .before .args) .bytes)) ((c .before .before .before .before .before .before .args) .at) _ (p .is) (p .fits) (omega arith) (omega arith)
+
+returns-2 : tie.Need-returns-2
+unfolding moveCountAt
+returns-2 c = short MoveCount.Value MoveCount.Refused Fault.Ends 2 0 257 Fault.Count (now ((c .before .before .before .before .args) .bytes)) ((c .before .before .before .before .args) .at) (short-short (now (c .before .before .before .before .args .bytes)) (c .before .before .before .before .args .at) (sym (c .before .before .short-at .ensures) ∙ c .enum-told .given .1))
+
+returns-3 : tie.Need-returns-3
+unfolding moveCountAt
+returns-3 c = let p = short-there (now (c .before .before .before .before .before .before .args .bytes)) (c .before .before .before .before .before .before .args .at) _ (sym (c .before .before .before .before .short-at .ensures) ∙ c .before .before .f .given .1) in too-high MoveCount.Value MoveCount.Refused Fault.Ends 2 0 257 Fault.Count (now ((c .before .before .before .before .before .before .args) .bytes)) ((c .before .before .before .before .before .before .args) .at) _ (p .is) (p .fits) (omega arith) (omega arith)
+
+pub move-count-at-spec : {M : Type 1} → statement M
+move-count-at-spec =
+    tie.close
+    (tie.spec short-at-requires enum-told enum-known-f add-t8 returns returns-2 returns-3)

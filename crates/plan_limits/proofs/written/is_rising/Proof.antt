@@ -1,0 +1,88 @@
+-- `written::is_rising` is what it is defined to be. The loop's invariant: what is passed changes nothing.
+-- Assumes nothing.
+use mathlib.Core.Path.{_≡_, sym}
+use Prim.Native.Nat.{_≤_, _+_, _-_}
+use native.Mathlib.Omega.{arith}
+use borrow.Author.Tests.{lt-ltb, le-ltb}
+use borrow.Author.Needs.{needs}
+use lib.ListN.{getD, length, List·getD-eq-default}
+use lib.Dec.{ltb}
+use Rattle.plan_limits.specs.Every.{every-on, every-off, every-end, every-not}
+use Rattle.plan_limits.specs.Limits.{isRising}
+use Rattle.activity.specs.Tests.{every}
+use Rattle.plan_limits.proofs.written.is_rising.Statement.{statement}
+use Rattle.plan_limits.proofs.written.is_rising.Tie as tie
+
+abbrev Inv-loop : tie.InvT-loop
+Inv-loop count preds left₀ left = (left ≤ count)
+    × (every (count - 1) (λ i. ltb (getD preds i 0) (getD preds (i + 1) 0)) ≡ every (left - 1) (λ i. ltb (getD preds i 0) (getD preds (i + 1) 0)))
+
+abbrev μ-loop : tie.MeasureT-loop
+μ-loop count preds left₀ left = left
+
+returns : tie.Need-returns Inv-loop μ-loop
+unfolding isRising
+returns c =
+    let a = c .before .args in
+    let n : length (a .t2) ≡ 8 = search needs in
+    let z : getD (a .t2) 8 0 ≡ 0 = List·getD-eq-default (a .t2) 0 (omega arith) in
+    sym (every-not (λ i. ltb (getD (a .t2) i 0) (getD (a .t2) (i + 1) 0)) (a .count - 1) 7 (omega arith) (le-ltb (getD (a .t2) 7 0) (getD (a .t2) 8 0) (omega arith)))
+
+loop-holds : tie.Need-loop-holds Inv-loop μ-loop
+loop-holds c = search needs
+
+sub-i : tie.Need-sub-i Inv-loop μ-loop
+sub-i c = search needs
+
+sub-if2 : tie.Need-sub-if2 Inv-loop μ-loop
+sub-if2 c = search needs
+
+array-read-if2 : tie.Need-array-read-if2 Inv-loop μ-loop
+array-read-if2 c = search needs
+
+array-read-if2-2 : tie.Need-array-read-if2-2 Inv-loop μ-loop
+array-read-if2-2 c = search needs
+
+returns-2 : tie.Need-returns-2 Inv-loop μ-loop
+unfolding isRising
+returns-2 c =
+    let a = c .before .before .before .before .args in
+    let l = c .before .before .loop in
+    let e : l .left - 1 - 1 + 1 ≡ l .left - 1 = omega arith in
+    sym (every-off (λ i. ltb (getD (a .t2) i 0) (getD (a .t2) (i + 1) 0)) (a .count - 1) (l .left - 1) (omega arith) (l .inv .1) (rw (e, le-ltb _ _ (c .if2 .taken))))
+
+loop-less : tie.Need-loop-less Inv-loop μ-loop
+loop-less c = search needs
+
+loop-again : tie.Need-loop-again Inv-loop μ-loop
+loop-again c =
+    let a = c .before .before .before .before .args in
+    let l = c .before .before .loop in
+    let e : l .left - 1 - 1 + 1 ≡ l .left - 1 = omega arith in (
+      omega arith,
+      every-on (λ i. ltb (getD (a .t2) i 0) (getD (a .t2) (i + 1) 0)) (a .count - 1) (l .left - 1) (omega arith) (l .inv .1) (rw (e, lt-ltb _ _ (c .if2 .left))),
+    )
+
+returns-3 : tie.Need-returns-3 Inv-loop μ-loop
+unfolding isRising
+returns-3 c =
+    let a = c .before .before .before .args in
+    let l = c .before .loop in
+    sym (every-end (λ i. ltb (getD (a .t2) i 0) (getD (a .t2) (i + 1) 0)) (a .count - 1) (l .left - 1) (omega arith) (l .inv .1))
+
+pub is-rising-spec : {M : Type 1} → statement M
+is-rising-spec =
+    tie.close
+    (tie.spec
+    Inv-loop
+    μ-loop
+    returns
+    loop-holds
+    sub-i
+    sub-if2
+    array-read-if2
+    array-read-if2-2
+    returns-2
+    loop-less
+    loop-again
+    returns-3)

@@ -1,0 +1,50 @@
+-- The two fields of an action, by their answers.
+use mathlib.Core.Path.{_≡_, refl, sym, _∙_, ap}
+use borrow.Author.Needs.{needs}
+use Rattle.plan_nodes.proofs.action_at.Statement.{statement}
+use Rattle.plan_nodes.proofs.action_at.Tie as tie
+use Rattle.plan_nodes.proofs.action_at.Reads as reads
+use Rattle.plan_nodes.proofs.action_at.Lts as lts
+use Rattle.plan_fields.proofs.any_at.Reads as any-at-reads
+use Rattle.plan_fields.proofs.name_at.Reads as name-at-reads
+
+any-at-requires : tie.Need-any-at-requires
+any-at-requires c κs = search needs
+
+enum-known-f : tie.Need-enum-known-f
+enum-known-f c = search needs
+
+enum-known-f-2 : tie.Need-enum-known-f-2
+enum-known-f-2 c = search needs
+
+name-at-requires : tie.Need-name-at-requires
+name-at-requires c κs = search needs
+
+enum-known-g : tie.Need-enum-known-g
+enum-known-g c = search needs
+
+enum-known-g-2 : tie.Need-enum-known-g-2
+enum-known-g-2 c = search needs
+
+returns : tie.Need-returns
+returns c = rw (← c .before .before .before .any-at .ensures, c .before .f .given .1)
+
+returns-2 : tie.Need-returns-2
+returns-2 c = rw (← c .before .before .before .before .before .before .before .any-at .ensures, c .before .before .before .before .before .f2 .given .1, ← c .before .before .before .name-at .ensures, c .before .g .given .1)
+
+returns-3 : tie.Need-returns-3
+returns-3 c = rw (← c .before .before .before .before .before .before .before .any-at .ensures, c .before .before .before .before .before .f2 .given .1, ← c .before .before .before .name-at .ensures, c .before .g2 .given .1)
+
+pub action-at-spec : {M : Type 1} → statement M
+action-at-spec =
+    tie.close
+    (tie.spec
+    any-at-requires
+    enum-known-f
+    enum-known-f-2
+    name-at-requires
+    enum-known-g
+    enum-known-g-2
+    returns
+    returns-2
+    returns-3)

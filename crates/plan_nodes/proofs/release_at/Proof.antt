@@ -1,0 +1,27 @@
+-- The field of the kind, by the field's answer.
+use mathlib.Core.Path.{_≡_, refl, sym, _∙_, ap}
+use borrow.Author.Needs.{needs}
+use Rattle.plan_nodes.proofs.release_at.Statement.{statement}
+use Rattle.plan_nodes.proofs.release_at.Tie as tie
+use Rattle.plan_nodes.proofs.release_at.Reads as reads
+use Rattle.plan_nodes.proofs.release_at.Lts as lts
+use Rattle.plan_fields.proofs.name_at.Reads as name-at-reads
+
+name-at-requires : tie.Need-name-at-requires
+name-at-requires c κs = search needs
+
+enum-known-f : tie.Need-enum-known-f
+enum-known-f c = search needs
+
+enum-known-f-2 : tie.Need-enum-known-f-2
+enum-known-f-2 c = search needs
+
+returns : tie.Need-returns
+returns c = rw (← c .before .before .before .name-at .ensures, c .before .f .given .1)
+
+returns-2 : tie.Need-returns-2
+returns-2 c = rw (← c .before .before .before .name-at .ensures, c .before .f2 .given .1)
+
+pub release-at-spec : {M : Type 1} → statement M
+release-at-spec =
+    tie.close (tie.spec name-at-requires enum-known-f enum-known-f-2 returns returns-2)

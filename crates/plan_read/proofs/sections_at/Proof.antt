@@ -1,0 +1,35 @@
+-- The map of sections: its rule, then the automaton's bit.
+use mathlib.Core.Path.{_≡_, refl, sym, _∙_, ap, subst}
+use borrow.Author.Tests.{eq-eqb, ne-eqb}
+use Rattle.plan.specs.Reading.{sectionsAt}
+use borrow.Author.Needs.{needs}
+use Rattle.plan_read.proofs.sections_at.Statement.{statement}
+use Rattle.plan_read.proofs.sections_at.Tie as tie
+use Rattle.plan_read.proofs.sections_at.Reads as reads
+use Rattle.plan_read.proofs.sections_at.Lts as lts
+use Rattle.plan_fields.proofs.byte_in.Reads as byte-in-reads
+
+byte-in-requires : tie.Need-byte-in-requires
+byte-in-requires c κs = search needs
+
+enum-known-f : tie.Need-enum-known-f
+enum-known-f c = search needs
+
+enum-known-f-2 : tie.Need-enum-known-f-2
+enum-known-f-2 c = search needs
+
+returns : tie.Need-returns
+unfolding sectionsAt
+returns c = rw (← c .before .before .before .before .byte-in .ensures, c .before .before .f2 .given .1, eq-eqb _ _ (c .if1 .taken))
+
+returns-2 : tie.Need-returns-2
+unfolding sectionsAt
+returns-2 c = rw (← c .before .before .before .byte-in .ensures, c .before .f .given .1)
+
+returns-3 : tie.Need-returns-3
+unfolding sectionsAt
+returns-3 c = rw (← c .before .before .before .before .byte-in .ensures, c .before .before .f2 .given .1, ne-eqb _ _ (c .if1 .left))
+
+pub sections-at-spec : {M : Type 1} → statement M
+sections-at-spec =
+    tie.close (tie.spec byte-in-requires enum-known-f enum-known-f-2 returns returns-2 returns-3)

@@ -1,0 +1,50 @@
+-- What follows the peripherals.
+use Rattle.plan_read.proofs.Steps.{after-peripherals}
+use mathlib.Core.Path.{_≡_, refl, sym, _∙_, ap, subst}
+use denote.Ref.{now}
+use Rattle.plan.specs.Reading.{withPeripherals}
+use Prim.Native.Nat.{_≤_}
+use Rattle.plan_sections.specs.Counts.{events-most}
+use Rattle.plan.specs.declared.fields.EventsRead.{EventsRead}
+use borrow.Author.Needs.{needs}
+use Rattle.plan_read.proofs.with_peripherals.Statement.{statement}
+use Rattle.plan_read.proofs.with_peripherals.Tie as tie
+use Rattle.plan_read.proofs.with_peripherals.Reads as reads
+use Rattle.plan_read.proofs.with_peripherals.Lts as lts
+use Rattle.plan_read.proofs.no_plan.Reads as no-plan-reads
+use Rattle.plan_read.proofs.with_events.Reads as with-events-reads
+use Rattle.plan_sections.proofs.events_at.Reads as events-at-reads
+
+enum-known-v : tie.Need-enum-known-v
+enum-known-v c = search needs
+
+no-plan-requires : tie.Need-no-plan-requires
+no-plan-requires c κs = search needs
+
+enum-known-v-2 : tie.Need-enum-known-v-2
+enum-known-v-2 c = search needs
+
+events-at-requires : tie.Need-events-at-requires
+events-at-requires c κs = search needs
+
+with-events-requires : tie.Need-with-events-requires
+with-events-requires c κs = rw (c .events-at .ensures) (events-most _ _ _)
+
+returns : tie.Need-returns
+unfolding withPeripherals
+returns c = rw (c .before .before .v .given .1) (c .no-plan .ensures)
+
+returns-2 : tie.Need-returns-2
+returns-2 c = c .with-events .ensures ∙ after-peripherals (now (c .before .before .before .before .before .before .args .bytes)) (c .before .before .before .before .before .before .args .m) (c .before .before .before .before .before .before .args .resources) _ (c .before .before .before .before .before .before .args .x) _ (c .before .before .before .v2 .given .1) (c .before .events-at .ensures)
+
+pub with-peripherals-spec : {M : Type 1} → statement M
+with-peripherals-spec =
+    tie.close
+    (tie.spec
+    enum-known-v
+    no-plan-requires
+    enum-known-v-2
+    events-at-requires
+    with-events-requires
+    returns
+    returns-2)

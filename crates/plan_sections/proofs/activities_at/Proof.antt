@@ -1,0 +1,49 @@
+-- A section: its count, and the loop over what it counts.
+use native.Mathlib.Omega.{arith}
+use mathlib.Core.Path.{_≡_, refl, sym, _∙_, ap}
+use borrow.Author.Tests.{lt-ltb, le-ltb, le-leb, lt-leb, eq-eqb, ne-eqb, eqb-true}
+use Rattle.plan.specs.Sections.{activitiesAt}
+use Rattle.plan_fields.specs.Read.{byte-most, count-most}
+use borrow.Author.Needs.{needs}
+use Rattle.plan_sections.proofs.activities_at.Statement.{statement}
+use Rattle.plan_sections.proofs.activities_at.Tie as tie
+use Rattle.plan_sections.proofs.activities_at.Reads as reads
+use Rattle.plan_sections.proofs.activities_at.Lts as lts
+use Rattle.plan_fields.proofs.optional_count.Reads as optional-count-reads
+use Rattle.plan_sections.proofs.activities_loop.Reads as activities-loop-reads
+use Rattle.plan_sections.proofs.no_activities.Reads as no-activities-reads
+
+optional-count-requires : tie.Need-optional-count-requires
+optional-count-requires c κs = search needs
+
+enum-known-f : tie.Need-enum-known-f
+enum-known-f c = search needs
+
+no-activities-requires : tie.Need-no-activities-requires
+no-activities-requires c κs = search needs
+
+enum-known-f-2 : tie.Need-enum-known-f-2
+enum-known-f-2 c = search needs
+
+activities-loop-requires : tie.Need-activities-loop-requires
+activities-loop-requires c κs = count-most 32 _ _ _ _ _ (sym (c .before .before .before .optional-count .ensures) ∙ c .before .f2 .given .1)
+
+returns : tie.Need-returns
+unfolding activitiesAt
+returns c = rw (← c .before .before .before .before .optional-count .ensures, c .before .before .f .given .1) (c .no-activities .ensures)
+
+returns-2 : tie.Need-returns-2
+unfolding activitiesAt
+returns-2 c = rw (← c .before .before .before .before .optional-count .ensures, c .before .before .f2 .given .1) (c .activities-loop .ensures)
+
+pub activities-at-spec : {M : Type 1} → statement M
+activities-at-spec =
+    tie.close
+    (tie.spec
+    optional-count-requires
+    enum-known-f
+    no-activities-requires
+    enum-known-f-2
+    activities-loop-requires
+    returns
+    returns-2)

@@ -1,0 +1,16 @@
+-- A refused part is all zeros.
+use borrow.Author.Needs.{needs}
+use Rattle.plan_sections.proofs.parts.no_part.Statement.{statement}
+use Rattle.plan_sections.proofs.parts.no_part.Tie as tie
+use Rattle.plan_sections.proofs.parts.no_part.Reads as reads
+use Rattle.plan_sections.proofs.parts.no_part.Lts as lts
+use Rattle.plan_nodes.proofs.zero_node.Reads as zero-node-reads
+
+zero-node-requires : tie.Need-zero-node-requires
+zero-node-requires c κs = search needs
+
+returns : tie.Need-returns
+returns c = rw (c .zero-node .ensures)
+
+pub no-part-spec : {M : Type 1} → statement M
+no-part-spec = tie.close (tie.spec zero-node-requires returns)

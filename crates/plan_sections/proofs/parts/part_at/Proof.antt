@@ -1,0 +1,45 @@
+-- A node while nodes are left, then a node count while activities are left.
+use native.Mathlib.Omega.{arith}
+use mathlib.Core.Path.{_≡_}
+use Prim.Native.Nat.{ℕ, suc, _-_}
+use Rattle.plan_sections.specs.Parts.{partAt}
+use borrow.Author.Needs.{needs}
+use Rattle.plan_sections.proofs.parts.part_at.Statement.{statement}
+use Rattle.plan_sections.proofs.parts.part_at.Tie as tie
+use Rattle.plan_sections.proofs.parts.part_at.Reads as reads
+use Rattle.plan_sections.proofs.parts.part_at.Lts as lts
+use Rattle.plan_nodes.proofs.zero_node.Reads as zero-node-reads
+use Rattle.plan_sections.proofs.parts.count_part.Reads as count-part-reads
+use Rattle.plan_sections.proofs.parts.node_part.Reads as node-part-reads
+
+node-part-requires : tie.Need-node-part-requires
+node-part-requires c κs = search needs
+
+returns : tie.Need-returns
+unfolding partAt
+returns c = let l = c .before .before .before .args .left in let e : l ≡ suc (l - 1) = omega arith in rw e (c .node-part .ensures)
+
+count-part-requires : tie.Need-count-part-requires
+count-part-requires c κs = search needs
+
+returns-2 : tie.Need-returns-2
+unfolding partAt
+returns-2 c = let s = c .before .before .before .before in let e : s .args .left ≡ 0 = omega arith in let f : s .args .more ≡ suc (s .args .more - 1) = omega arith in rw (e, f) (c .count-part .ensures)
+
+zero-node-requires : tie.Need-zero-node-requires
+zero-node-requires c κs = search needs
+
+returns-3 : tie.Need-returns-3
+unfolding partAt
+returns-3 c = let s = c .before .before .before .before in let e : s .args .left ≡ 0 = omega arith in let f : s .args .more ≡ 0 = omega arith in rw (e, f, c .zero-node .ensures)
+
+pub part-at-spec : {M : Type 1} → statement M
+part-at-spec =
+    tie.close
+    (tie.spec
+    node-part-requires
+    returns
+    count-part-requires
+    returns-2
+    zero-node-requires
+    returns-3)

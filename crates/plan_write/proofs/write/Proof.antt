@@ -1,0 +1,51 @@
+-- The three answers: a rule broken, a buffer too short, the bytes.
+use native.Mathlib.Omega.{arith}
+use mathlib.Core.Path.{_≡_, refl, sym, _∙_}
+use denote.Ref.{now}
+use Rattle.plan_write.proofs.Answers.{breaks-rule, too-short, wrote}
+use Rattle.activity.specs.Tells.{told-true}
+use Rattle.plan_limits.specs.Files.{tells-file-rules}
+use borrow.Author.Needs.{needs}
+use Rattle.plan_write.proofs.write.Statement.{statement}
+use Rattle.plan_write.proofs.write.Tie as tie
+use Rattle.plan_write.proofs.write.Reads as reads
+use Rattle.plan_write.proofs.write.Lts as lts
+use Rattle.plan_encode.proofs.put_plan.Reads as put-plan-reads
+use Rattle.plan_limits.proofs.file_rules.Reads as file-rules-reads
+
+file-rules-requires : tie.Need-file-rules-requires
+file-rules-requires c κs = search needs
+
+slice-aggregate-put-plan : tie.Need-slice-aggregate-put-plan
+slice-aggregate-put-plan c = search needs
+
+put-plan-requires : tie.Need-put-plan-requires
+put-plan-requires c κs = told-true (tells-file-rules (c .before .before .before .before .args .plan)) (sym (c .before .before .file-rules .ensures) ∙ c .before .if1 .taken) .limits
+
+put-plan-requires-2 : tie.Need-put-plan-requires-2
+put-plan-requires-2 c κs = told-true (tells-file-rules (c .before .before .before .before .before .before .before .before .args .plan)) (sym (c .before .before .before .before .before .before .file-rules .ensures) ∙ c .before .before .before .before .before .if1 .taken) .limits
+
+same-length : tie.Need-same-length
+same-length c = search needs
+
+returns : tie.Need-returns
+returns c = wrote (c .before .before .before .before .before .before .before .before .before .before .before .args .plan) (now (c .before .before .before .before .before .before .before .before .before .before .before .args .out)) (sym (c .before .before .before .before .before .before .before .before .before .file-rules .ensures) ∙ c .before .before .before .before .before .before .before .before .if1 .taken) _ _ _ (c .before .before .before .before .before .before .put-plan .ensures) (omega arith) _ _ (c .before .before .put-plan2 .ensures)
+
+returns-2 : tie.Need-returns-2
+returns-2 c = too-short (c .before .before .before .before .before .before .before .args .plan) (now (c .before .before .before .before .before .before .before .args .out)) (sym (c .before .before .before .before .before .file-rules .ensures) ∙ c .before .before .before .before .if1 .taken) _ _ _ (c .before .before .put-plan .ensures) (omega arith)
+
+returns-3 : tie.Need-returns-3
+returns-3 c = breaks-rule (c .before .before .before .args .plan) (now (c .before .before .before .args .out)) (sym (c .before .file-rules .ensures) ∙ c .if1 .left)
+
+pub write-spec : {M : Type 1} → statement M
+write-spec =
+    tie.close
+    (tie.spec
+    file-rules-requires
+    slice-aggregate-put-plan
+    put-plan-requires
+    put-plan-requires-2
+    same-length
+    returns
+    returns-2
+    returns-3)

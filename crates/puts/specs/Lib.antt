@@ -1,2 +1,0 @@
--- Bytes put into a lent buffer.
-pub mod Puts

@@ -1,0 +1,29 @@
+-- `progress::instance_in_limits` is what it is defined to be. Assumes nothing.
+use borrow.Author.Tests.{le-leb, lt-leb, lt-ltb, le-ltb}
+use borrow.Author.Needs.{needs}
+use Rattle.plan_limits.specs.Limits.{instanceInLimits}
+use Rattle.run_limits.proofs.progress.instance_in_limits.Statement.{statement}
+use Rattle.run_limits.proofs.progress.instance_in_limits.Tie as tie
+
+returns : tie.Need-returns
+unfolding instanceInLimits
+returns c = rw (lt-leb _ _ (c .if1 .taken))
+
+returns-2 : tie.Need-returns-2
+unfolding instanceInLimits
+returns-2 c = rw (le-leb _ _ (c .before .before .if1 .left), le-ltb _ _ (c .if2 .taken))
+
+returns-3 : tie.Need-returns-3
+unfolding instanceInLimits
+returns-3 c = rw (le-leb _ _ (c .before .before .before .before .if1 .left), lt-ltb _ _ (c .before .before .if2 .left), lt-leb _ _ (c .if3 .taken))
+
+told-names-requires : tie.Need-told-names-requires
+told-names-requires c κs = search needs
+
+returns-4 : tie.Need-returns-4
+unfolding instanceInLimits
+returns-4 c = rw (le-leb _ _ (c .before .before .before .before .before .if1 .left), lt-ltb _ _ (c .before .before .before .if2 .left), le-leb _ _ (c .before .if3 .left)) (c .told-names .ensures)
+
+pub instance-in-limits-spec : {M : Type 1} → statement M
+instance-in-limits-spec =
+    tie.close (tie.spec returns returns-2 returns-3 told-names-requires returns-4)

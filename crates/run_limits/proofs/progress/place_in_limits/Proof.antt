@@ -1,0 +1,20 @@
+-- `progress::place_in_limits` is what it is defined to be. Assumes nothing.
+use borrow.Author.Tests.{le-leb, lt-leb}
+use borrow.Author.Needs.{needs}
+use Rattle.plan_limits.specs.Limits.{placeInLimits}
+use Rattle.run_limits.proofs.progress.place_in_limits.Statement.{statement}
+use Rattle.run_limits.proofs.progress.place_in_limits.Tie as tie
+
+returns : tie.Need-returns
+unfolding placeInLimits
+returns c = rw (le-leb _ _ (c .if1 .taken))
+
+instance-in-limits-requires : tie.Need-instance-in-limits-requires
+instance-in-limits-requires c κs = search needs
+
+returns-2 : tie.Need-returns-2
+unfolding placeInLimits
+returns-2 c = rw (lt-leb _ _ (c .before .if1 .left)) (c .instance-in-limits .ensures)
+
+pub place-in-limits-spec : {M : Type 1} → statement M
+place-in-limits-spec = tie.close (tie.spec returns instance-in-limits-requires returns-2)

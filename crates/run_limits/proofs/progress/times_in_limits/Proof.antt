@@ -1,0 +1,77 @@
+-- `progress::times_in_limits` is what it is defined to be. The loop's invariant: what is passed changes nothing.
+-- Assumes nothing.
+use mathlib.Core.Path.{_≡_, sym}
+use Prim.Native.Nat.{_≤_}
+use native.Mathlib.Omega.{arith}
+use borrow.Author.Tests.{le-leb, lt-leb}
+use borrow.Author.Needs.{needs}
+use lib.Dec.{leb}
+use Rattle.plan_limits.specs.Every.{every-on, every-off, every-end}
+use Rattle.plan_limits.specs.Limits.{timesInLimits}
+use Rattle.times.specs.Times.{at}
+use Rattle.time.specs.Time.{horizon}
+use Rattle.activity.specs.Tests.{every}
+use Rattle.run_limits.proofs.progress.times_in_limits.Statement.{statement}
+use Rattle.run_limits.proofs.progress.times_in_limits.Tie as tie
+
+abbrev Inv-loop : tie.InvT-loop
+Inv-loop count times left₀ left = (left ≤ count)
+    × (every (count) (λ i. leb (at times i) horizon)
+    ≡ every left (λ i. leb (at times i) horizon))
+
+abbrev μ-loop : tie.MeasureT-loop
+μ-loop count times left₀ left = left
+
+loop-holds : tie.Need-loop-holds Inv-loop μ-loop
+loop-holds c = search needs
+
+sub-i : tie.Need-sub-i Inv-loop μ-loop
+sub-i c = search needs
+
+mul-t : tie.Need-mul-t Inv-loop μ-loop
+mul-t c = search needs
+
+array-copy-out-t : tie.Need-array-copy-out-t Inv-loop μ-loop
+array-copy-out-t c = search needs
+
+returns : tie.Need-returns Inv-loop μ-loop
+unfolding timesInLimits
+returns c =
+    let a = c .before .before .before .before .before .args in
+    let l = c .before .before .before .before .loop in
+    sym (every-off (λ i. leb (at (a .t2) i) horizon) (a .count) (l .left) (c .before .before .before .loop-test .taken) (l .inv .1)
+    (lt-leb _ _ (c .if1 .taken)))
+
+loop-less : tie.Need-loop-less Inv-loop μ-loop
+loop-less c = search needs
+
+loop-again : tie.Need-loop-again Inv-loop μ-loop
+loop-again c =
+    let a = c .before .before .before .before .before .args in
+    let l = c .before .before .before .before .loop in (
+      omega arith,
+      every-on (λ i. leb (at (a .t2) i) horizon) (a .count) (l .left) (c .before .before .before .loop-test .taken) (l .inv .1)
+          (le-leb _ _ (c .if1 .left)),
+    )
+
+returns-2 : tie.Need-returns-2 Inv-loop μ-loop
+unfolding timesInLimits
+returns-2 c =
+    let a = c .before .before .args in
+    let l = c .before .loop in
+    sym (every-end (λ i. leb (at (a .t2) i) horizon) (a .count) (l .left) (omega arith) (l .inv .1))
+
+pub times-in-limits-spec : {M : Type 1} → statement M
+times-in-limits-spec =
+    tie.close
+    (tie.spec
+    Inv-loop
+    μ-loop
+    loop-holds
+    sub-i
+    mul-t
+    array-copy-out-t
+    returns
+    loop-less
+    loop-again
+    returns-2)

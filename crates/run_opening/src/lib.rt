@@ -1,0 +1,118 @@
+// What an opening gives beside the plan and Ψ: availabilities and a slack. Document 01, section "A run".
+use plan::Activity;
+use plan::Node;
+use plan::Plan;
+use time::Specified;
+use times::Instance;
+use times::Progress;
+use times::Told;
+ghost use mathlib.Core.Path.{_≡_};
+ghost use Prim.Native.Nat.{_≤_};
+ghost use Rattle.plan.specs.Plan.{nodesOf};
+ghost use Rattle.plan.specs.Limits.{InLimits};
+ghost use Rattle.run_opening.specs.Given.{atFirst, availabilities, anyAbove};
+ghost use Rattle.run_opening.specs.Short.{isShort, anyShort, shortFrom};
+
+// The lowest activity with an action or event whose duration is not above the slack.
+pub enum Short {
+    Nothing,
+    Activity(usize),
+}
+
+// ---- 31
+
+// Some availability is above 10^15.
+pub fn any_above(ts: &[u64]) -> bool
+    ensures { λ r. ⌜ r ≡ anyAbove (now (ts .entry)) ⌝ }
+{
+    let mut i: usize = 0;
+    while i < ts.len() {
+        if ts[i] > 1_000_000_000_000_000 {
+            return true;
+        }
+        i += 1;
+    }
+    false
+}
+
+// ---- 33
+
+// "an action or event with duration not above the slack"
+fn is_short(slack: u64, n: Node) -> bool
+    ensures { λ r. ⌜ r ≡ isShort slack n ⌝ }
+{
+    let kind = n.kind;
+    if run_path::is_work(kind) {
+        return (n.duration as u64) <= slack;
+    }
+    false
+}
+
+// Some node of an activity is such an action or event.
+fn any_short(slack: u64, activity: Activity) -> bool
+    requires { ⌜ activity .count ≤ 64 ⌝ }
+    ensures { λ r. ⌜ r ≡ anyShort slack (nodesOf activity) ⌝ }
+{
+    let count = activity.count as usize;
+    let mut i: usize = 0;
+    while i < count {
+        let n = activity.nodes[i];
+        if is_short(slack, n) {
+            return true;
+        }
+        i += 1;
+    }
+    false
+}
+
+// "the lowest such activity"
+pub fn short_from(plan: Plan, slack: u64) -> Short
+    requires { ⌜ InLimits plan ⌝ }
+    ensures { λ r. ⌜ r ≡ shortFrom plan slack 0 (plan .activities) ⌝ }
+{
+    let mut a: u8 = 0;
+    while a < plan.activities {
+        let activity = activity::activity_of(plan, a);
+        if any_short(slack, activity) {
+            return Short::Activity(a as usize);
+        }
+        a += 1;
+    }
+    Short::Nothing
+}
+
+// ---- where the behaviour stands at first
+
+// Availabilities in an array of 16, zeros past them.
+pub fn given(ts: &[u64]) -> [Specified; 16]
+    requires { do ⌜ (← ⟦ts.len()⟧) ≤ 16 ⌝ }
+    ensures { λ r. ⌜ r ≡ availabilities (now (ts .entry)) ⌝ }
+{
+    let mut available = [Specified(0); 16];
+    let mut i: usize = 0;
+    while i < ts.len() {
+        available[i] = Specified(ts[i]);
+        i += 1;
+    }
+    available
+}
+
+// A behaviour that stands at a state before its first transition.
+pub fn at_first(available: [Specified; 16], s: u8) -> Progress
+    ensures { λ r. ⌜ r ≡ atFirst available s ⌝ }
+{
+    let empty = Instance {
+        position: 0,
+        node: 0,
+        end: Specified(0),
+        told: Told::Nothing,
+    };
+    Progress {
+        available,
+        latest: [Specified(0); 16],
+        lengths: [0u8; 16],
+        pending: [empty; 128],
+        position: 0,
+        state: s,
+    }
+}

@@ -1,0 +1,23 @@
+use mathlib.Core.Path.{ap}
+use Rattle.run_outcomes.specs.Told.{toldOf}
+use borrow.Author.Needs.{needs}
+use Rattle.run_outcomes.proofs.told_of.Statement.{statement}
+use Rattle.run_outcomes.proofs.told_of.Tie as tie
+use Rattle.run_outcomes.proofs.told_of.Reads as reads
+use Rattle.run_outcomes.proofs.told_of.Lts as lts
+use Rattle.run_outcomes.proofs.told_from.Reads as told-from-reads
+
+element-copy-out-count : tie.Need-element-copy-out-count
+element-copy-out-count c = search needs
+
+mul-told-from : tie.Need-mul-told-from
+mul-told-from c = search needs
+
+told-from-requires : tie.Need-told-from-requires
+told-from-requires c κs = search needs
+
+returns : tie.Need-returns
+returns c = simp (c .told-from .ensures)
+
+pub told-of-spec : {M : Type 1} → statement M
+told-of-spec = tie.close (tie.spec element-copy-out-count mul-told-from told-from-requires returns)

@@ -1,0 +1,75 @@
+-- One turn of a loop over the window: what the loop has worked out of the places behind, and of the place that it comes to.
+use mathlib.Core.Path.{_≡_, sym, _∙_}
+use mathlib.Core.Bool.{Bool, true, false, cond, _&&_}
+use mathlib.Core.List.{List, map}
+use Prim.Native.Nat.{ℕ, zero, suc, _+_, _-_, _≤_, _<_}
+use native.Mathlib.Omega.{arith}
+use native.Mathlib.Numerals.{add-one, sub-one}
+use lib.ListN.{length, getD, drop, drop-of-length-le, length-map}
+use lib.Seq.{drop-cons}
+use Rattle.run_window.specs.declared.Entry.{Entry}
+use Rattle.run_window.specs.declared.Found.{Found}
+use Rattle.run_window.specs.Window.{isFree, better, first, isEmpty, vacancies}
+
+-- the length of an array of structs
+pub unmapped : (X Y : Type 0) (f : X → Y) (l : List X) (n : ℕ) → length (map f l) ≡ n → length l ≡ n
+unmapped X Y f l n e = sym (length-map l f) ∙ e
+
+-- ---- the first of those that pass a test, from the back
+
+module _ (p : Entry → Bool) (goes : Entry → Entry → Bool) (w : List Entry) where
+  pub first-none : (i : ℕ) → length w ≤ i → Found.Nothing ≡ first p goes i (drop i w)
+  unfolding first
+  first-none i h = rw (drop-of-length-le w h)
+
+  split : (d : Entry) (i : ℕ) → 0 < i → i ≤ length w
+      → first p goes (i - 1) (drop (i - 1) w)
+      ≡ cond (p (getD w (i - 1) d)) (better goes (i - 1) (getD w (i - 1) d) (first p goes i (drop i w))) (first p goes i (drop i w))
+  unfolding first
+  split d zero z h = absurd (omega arith)
+  split d (suc j) z h = rw (sub-one, drop-cons w j d)
+
+  pub first-here : (d : Entry) (i : ℕ) → 0 < i → i ≤ length w → {b : Bool} → b ≡ p (getD w (i - 1) d) → b ≡ true
+      → better goes (i - 1) (getD w (i - 1) d) (first p goes i (drop i w)) ≡ first p goes (i - 1) (drop (i - 1) w)
+  first-here d i z h e t = sym (split d i z h ∙ rw (sym e ∙ t))
+
+  pub first-past : (d : Entry) (i : ℕ) → 0 < i → i ≤ length w → {b : Bool} → b ≡ p (getD w (i - 1) d) → b ≡ false
+      → first p goes i (drop i w) ≡ first p goes (i - 1) (drop (i - 1) w)
+  first-past d i z h e t = sym (split d i z h ∙ rw (sym e ∙ t))
+
+-- ---- whether every place is free, from the front
+
+module _ (w : List Entry) (d : Entry) (i : ℕ) where
+  empty-split : i < length w → isEmpty (drop i w) ≡ isFree (getD w i d .phase) && isEmpty (drop (i + 1) w)
+  unfolding isEmpty
+  empty-split h = rw (add-one, drop-cons w i d)
+
+  pub empty-past : i < length w → isEmpty w ≡ isEmpty (drop i w) → {b : Bool} → b ≡ isFree (getD w i d .phase) → b ≡ true → isEmpty w ≡ isEmpty (drop (i + 1) w)
+  empty-past h inv e t = inv ∙ empty-split h ∙ rw (sym e ∙ t)
+
+  pub empty-not : i < length w → isEmpty w ≡ isEmpty (drop i w) → {b : Bool} → b ≡ isFree (getD w i d .phase) → b ≡ false → false ≡ isEmpty w
+  empty-not h inv e t = sym (inv ∙ empty-split h ∙ rw (sym e ∙ t))
+
+pub empty-all : (w : List Entry) (i : ℕ) → length w ≤ i → isEmpty w ≡ isEmpty (drop i w) → true ≡ isEmpty w
+unfolding isEmpty
+empty-all w i h inv = sym (inv ∙ rw (drop-of-length-le w h))
+
+-- ---- how many places are free, from the back
+
+pub vacancies-none : (w : List Entry) (i : ℕ) → length w ≤ i → 0 ≡ vacancies (drop i w)
+unfolding vacancies
+vacancies-none w i h = rw (drop-of-length-le w h)
+
+vacancies-split : (w : List Entry) (d : Entry) (i : ℕ) → 0 < i → i ≤ length w
+    → vacancies (drop (i - 1) w) ≡ cond (isFree (getD w (i - 1) d .phase)) (suc (vacancies (drop i w))) (vacancies (drop i w))
+unfolding vacancies
+vacancies-split w d zero z h = absurd (omega arith)
+vacancies-split w d (suc j) z h = rw (sub-one, drop-cons w j d)
+
+pub vacancies-here : (w : List Entry) (d : Entry) (i : ℕ) → 0 < i → i ≤ length w → {b : Bool} → b ≡ isFree (getD w (i - 1) d .phase) → b ≡ true
+    → vacancies (drop i w) + 1 ≡ vacancies (drop (i - 1) w)
+vacancies-here w d i z h e t = add-one (vacancies (drop i w)) ∙ sym (vacancies-split w d i z h ∙ rw (sym e ∙ t))
+
+pub vacancies-past : (w : List Entry) (d : Entry) (i : ℕ) → 0 < i → i ≤ length w → {b : Bool} → b ≡ isFree (getD w (i - 1) d .phase) → b ≡ false
+    → vacancies (drop i w) ≡ vacancies (drop (i - 1) w)
+vacancies-past w d i z h e t = sym (vacancies-split w d i z h ∙ rw (sym e ∙ t))

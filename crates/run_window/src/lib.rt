@@ -1,0 +1,256 @@
+// The window: "loaded action and event nodes not yet reported complete, at most 512".
+use time::Clock;
+use time::Specified;
+ghost use mathlib.Core.Path.{_≡_};
+ghost use Prim.Native.Nat.{_≤_, _<_};
+ghost use Rattle.time.specs.Time.{horizon};
+ghost use Rattle.run_window.specs.Window.{vacant, isFree, startedOf, isOverdue, isLate, isDue, isNode, before, startsBefore, endsBefore, better, first};
+ghost use Rattle.run_window.specs.Times.{InTime, AllInTime};
+ghost use Rattle.run_window.specs.Search.{timeOf, sooner};
+
+mod places; // the whole window
+
+pub use places::is_empty;
+pub use places::place;
+pub use places::vacancies;
+
+// What a place of the window holds: nothing, a loaded node, or a started one.
+pub enum Phase {
+    Free,
+    Loaded,
+    Started,
+}
+
+// A place of the window: an action or event node, loaded and not yet reported complete.
+pub struct Entry {
+    pub start: Specified,
+    pub end: Specified,
+    pub position: u32,
+    pub activity: u8,
+    pub node: u8,
+    pub phase: Phase,
+}
+
+// A place of the window and its entry, or none.
+pub enum Found {
+    Nothing,
+    At(usize, Entry),
+}
+
+// Which time comes first: "the earliest specified start", "the earliest completion".
+enum Earliest {
+    Start,
+    Completion,
+}
+
+// ---- one place
+
+// A place that holds nothing.
+pub fn vacant() -> Entry
+    ensures { λ r. ⌜ r ≡ vacant ⌝ }
+{
+    Entry {
+        phase: Phase::Free,
+        position: 0,
+        activity: 0,
+        node: 0,
+        start: Specified(0),
+        end: Specified(0),
+    }
+}
+
+// The same node, started.
+pub fn started(e: Entry) -> Entry
+    ensures { λ r. ⌜ r ≡ startedOf e ⌝ }
+{
+    let start = e.start;
+    let end = e.end;
+    Entry {
+        phase: Phase::Started,
+        position: e.position,
+        activity: e.activity,
+        node: e.node,
+        start: start,
+        end: end,
+    }
+}
+
+pub fn is_free(e: Entry) -> bool
+    ensures { λ r. ⌜ r ≡ isFree (e .phase) ⌝ }
+{
+    let phase = e.phase;
+    match phase {
+        Phase::Free => true,
+        Phase::Loaded => false,
+        Phase::Started => false, // it keeps its place until it is reported
+    }
+}
+
+// "the reading is at or past Ψ + completion of a started, unreported node"
+pub fn is_overdue(psi: Clock, t: Clock, e: Entry) -> bool
+    requires { ⌜ (psi .0 ≤ horizon) × InTime e ⌝ }
+    ensures { λ r. ⌜ r ≡ isOverdue psi t e ⌝ }
+{
+    let phase = e.phase;
+    match phase {
+        Phase::Started => {
+            let end = time::to_clock(psi, e.end);
+            end.0 <= t.0
+        }
+        Phase::Loaded => false,
+        Phase::Free => false,
+    }
+}
+
+// "the reading exceeds Ψ + start + slack of an unstarted node"
+pub fn is_late(psi: Clock, slack: u64, t: Clock, e: Entry) -> bool
+    requires { ⌜ (psi .0 ≤ horizon) × (slack ≤ horizon) × InTime e ⌝ }
+    ensures { λ r. ⌜ r ≡ isLate psi slack t e ⌝ }
+{
+    let phase = e.phase;
+    match phase {
+        Phase::Loaded => {
+            let start = time::to_clock(psi, e.start);
+            t.0 > start.0 + slack
+        }
+        Phase::Started => false,
+        Phase::Free => false,
+    }
+}
+
+// "the due, unstarted node"
+pub fn is_due(psi: Clock, t: Clock, e: Entry) -> bool
+    requires { ⌜ (psi .0 ≤ horizon) × InTime e ⌝ }
+    ensures { λ r. ⌜ r ≡ isDue psi t e ⌝ }
+{
+    let phase = e.phase;
+    match phase {
+        Phase::Loaded => {
+            let start = time::to_clock(psi, e.start);
+            start.0 <= t.0
+        }
+        Phase::Started => false,
+        Phase::Free => false,
+    }
+}
+
+// "A node's identity is its position and its node number."
+pub fn is_node(position: u32, node: u8, e: Entry) -> bool
+    ensures { λ r. ⌜ r ≡ isNode position node e ⌝ }
+{
+    if is_free(e) {
+        return false;
+    }
+    if e.position == position {
+        return e.node == node;
+    }
+    false
+}
+
+// ---- the first of those that pass a test
+
+// The order of ties: of two entries with the times x and y, whether the first goes before the second.
+pub fn before(x: u64, y: u64, a: Entry, b: Entry) -> bool
+    ensures { λ r. ⌜ r ≡ before x y a b ⌝ }
+{
+    if x == y {
+        if a.position == b.position {
+            return a.node < b.node;
+        }
+        return a.position < b.position;
+    }
+    x < y
+}
+
+fn time_of(by: Earliest, e: Entry) -> u64
+    ensures { λ r. ⌜ r ≡ timeOf by e ⌝ }
+{
+    match by {
+        Earliest::Start => e.start.0,
+        Earliest::Completion => e.end.0,
+    }
+}
+
+// Entry e at place i, unless what was found behind it goes before it.
+fn better(by: Earliest, i: usize, e: Entry, rest: Found) -> Found
+    ensures { λ r. ⌜ r ≡ better (sooner by) i e rest ⌝ }
+{
+    match rest {
+        Found::Nothing => {
+            return Found::At(i, e);
+        }
+        Found::At(_, f) => {
+            if before(time_of(by, f), time_of(by, e), f, e) {
+                return rest;
+            }
+            return Found::At(i, e);
+        }
+    }
+}
+
+// The started node with the earliest completion whose completion has come.
+pub fn first_overdue(window: [Entry; 512], psi: Clock, t: Clock) -> Found
+    requires { ⌜ (psi .0 ≤ horizon) × AllInTime window ⌝ }
+    ensures { λ r. ⌜ r ≡ first (isOverdue psi t) endsBefore 0 window ⌝ }
+{
+    let mut best = Found::Nothing;
+    let mut i: usize = 512;
+    while 0 < i {
+        i -= 1;
+        let e = window[i];
+        if is_overdue(psi, t, e) {
+            best = better(Earliest::Completion, i, e, best);
+        }
+    }
+    best
+}
+
+// The unstarted node with the earliest start that is past by more than the slack.
+pub fn first_late(window: [Entry; 512], psi: Clock, slack: u64, t: Clock) -> Found
+    requires { ⌜ (psi .0 ≤ horizon) × (slack ≤ horizon) × AllInTime window ⌝ }
+    ensures { λ r. ⌜ r ≡ first (isLate psi slack t) startsBefore 0 window ⌝ }
+{
+    let mut best = Found::Nothing;
+    let mut i: usize = 512;
+    while 0 < i {
+        i -= 1;
+        let e = window[i];
+        if is_late(psi, slack, t, e) {
+            best = better(Earliest::Start, i, e, best);
+        }
+    }
+    best
+}
+
+// "the due, unstarted node with the earliest specified start"
+pub fn first_due(window: [Entry; 512], psi: Clock, t: Clock) -> Found
+    requires { ⌜ (psi .0 ≤ horizon) × AllInTime window ⌝ }
+    ensures { λ r. ⌜ r ≡ first (isDue psi t) startsBefore 0 window ⌝ }
+{
+    let mut best = Found::Nothing;
+    let mut i: usize = 512;
+    while 0 < i {
+        i -= 1;
+        let e = window[i];
+        if is_due(psi, t, e) {
+            best = better(Earliest::Start, i, e, best);
+        }
+    }
+    best
+}
+
+// The node with this identity.
+pub fn first_node(window: [Entry; 512], position: u32, node: u8) -> Found
+    ensures { λ r. ⌜ r ≡ first (isNode position node) startsBefore 0 window ⌝ }
+{
+    let mut best = Found::Nothing;
+    let mut i: usize = 512;
+    while 0 < i {
+        i -= 1;
+        let e = window[i];
+        if is_node(position, node, e) {
+            best = better(Earliest::Start, i, e, best);
+        }
+    }
+    best
+}

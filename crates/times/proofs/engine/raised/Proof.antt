@@ -1,0 +1,71 @@
+-- `raised` meets its contract. The loop's invariant: all raised is those raised that are left. Assumes nothing.
+use mathlib.Core.Path.{_≡_, sym, _∙_}
+use Prim.Native.Nat.{_≤_, _-_}
+use native.Mathlib.Nat.{sub-zero}
+use native.Mathlib.Omega.{arith}
+use borrow.Author.Needs.{needs}
+use Rattle.times.specs.Engine.{raisedOf}
+use Rattle.times.specs.Laws.Loops.{raised-on, raised-end}
+use Rattle.times.proofs.engine.raised.Statement.{statement}
+use Rattle.times.proofs.engine.raised.Tie as tie
+
+abbrev Inv-loop : tie.InvT-loop
+Inv-loop count c out₀ top i₀ out i = (i ≤ count) × (top ≡ count) × (raisedOf (c .0) 0 count out₀ ≡ raisedOf (c .0) i (count - i) out)
+
+abbrev μ-loop : tie.MeasureT-loop
+μ-loop count c out₀ top i₀ out i = count - i
+
+wide-requires : tie.Need-wide-requires Inv-loop μ-loop
+wide-requires c κs = search needs
+
+loop-holds : tie.Need-loop-holds Inv-loop μ-loop
+loop-holds c = (omega arith, omega arith, rw sub-zero)
+
+mul-t : tie.Need-mul-t Inv-loop μ-loop
+mul-t c = search needs
+
+array-copy-out-t : tie.Need-array-copy-out-t Inv-loop μ-loop
+array-copy-out-t c = search needs
+
+later-requires : tie.Need-later-requires Inv-loop μ-loop
+later-requires c κs = search needs
+
+mul-out : tie.Need-mul-out Inv-loop μ-loop
+mul-out c = search needs
+
+array-set-from-out : tie.Need-array-set-from-out Inv-loop μ-loop
+array-set-from-out c = search needs
+
+add-i : tie.Need-add-i Inv-loop μ-loop
+add-i c = search needs
+
+loop-less : tie.Need-loop-less Inv-loop μ-loop
+loop-less c = search needs
+
+loop-again : tie.Need-loop-again Inv-loop μ-loop
+loop-again c = let a = c .before .before .before .before .before .args in
+    let l = c .before .before .before .loop in
+    (omega arith, omega arith, l .inv .2 ∙ raised-on (a .c .0) (l .out) (l .i) (a .count) (omega arith) ∙ rw (c .later .ensures))
+
+returns : tie.Need-returns Inv-loop μ-loop
+returns c = let a = c .before .before .before .args in
+    let l = c .before .loop in
+    sym (l .inv .2 ∙ raised-end (a .c .0) (l .out) (l .i) (a .count) (omega arith))
+
+pub raised-spec : {M : Type 1} → statement M
+raised-spec =
+    tie.close
+    (tie.spec
+    Inv-loop
+    μ-loop
+    wide-requires
+    loop-holds
+    mul-t
+    array-copy-out-t
+    later-requires
+    mul-out
+    array-set-from-out
+    add-i
+    loop-less
+    loop-again
+    returns)

@@ -1,0 +1,185 @@
+// One transition.
+use super::Advanced;
+use super::Instance;
+use super::Progress;
+use super::Schedule;
+use super::Told;
+use super::queues::floor;
+use super::queues::processed;
+use super::times::later;
+use super::times::scheduled;
+use super::times::wide;
+use plan::Activity;
+use plan::Input;
+use plan::Kind;
+use time::Specified;
+ghost use mathlib.Core.Path.{_≡_};
+ghost use Prim.Native.Nat.{_≤_, _<_};
+ghost use Rattle.plan.specs.Plan.{nodesOf};
+ghost use Rattle.times.specs.Times.{orderOf};
+ghost use Rattle.times.specs.Engine.{lastPosition, raisedOf, heldOf, leftOf, aboveOf, beyondOf, closedOf, advanceOf};
+ghost use Rattle.times.specs.Limits.{StepFits};
+ghost use Rattle.times.specs.Inner.{Leaving};
+
+// The times of the first `count` resources, each raised to c.
+fn raised(available: [Specified; 16], count: u8, c: Specified) -> [Specified; 16]
+    requires { ⌜ count ≤ 16 ⌝ }
+    ensures { λ r. ⌜ r ≡ raisedOf (c .0) 0 count available ⌝ }
+{
+    let mut out = available;
+    let top = wide(count);
+    let mut i: usize = 0;
+    while i < top {
+        let t = out[i];
+        out[i] = later(t, c);
+        i += 1;
+    }
+    out
+}
+
+// Every resource is held back to the completion c of the processed instance.
+fn held(resources: u8, c: Specified, g: Progress) -> Progress
+    requires { ⌜ resources ≤ 16 ⌝ }
+    ensures { λ r. ⌜ r ≡ heldOf resources (c .0) g ⌝ }
+{
+    let before = g.available;
+    let available = raised(before, resources, c);
+    let mut h = g;
+    h.available = available;
+    h
+}
+
+// What the nodes that are done leave: availabilities, last completions and queues.
+fn left(a: Activity, t: Schedule, g: Progress) -> Progress
+    requires { ⌜ Leaving a t ⌝ }
+    ensures { λ r. ⌜ r ≡ leftOf (nodesOf a) (t .end) (orderOf t) g ⌝ }
+{
+    let count = wide(t.count);
+    let mut h = g;
+    let mut j: usize = 0;
+    while j < count {
+        let node = t.order[j];
+        let n = wide(node);
+        j += 1;
+        let end = t.end[n];
+        let x = a.nodes[n];
+        let k = x.kind;
+        match k {
+            Kind::Action(_, _) => continue,
+            Kind::Claim(_) => continue,
+            Kind::Release(r) => {
+                h.available[wide(r)] = end;
+                continue;
+            }
+            Kind::Event(e) => {
+                let i = wide(e);
+                let last = h.latest[i];
+                h.latest[i] = later(last, end);
+                let length = h.lengths[i];
+                if length < 8 {
+                    h.pending[8 * i + wide(length)] = Instance {
+                        position: h.position,
+                        node: node,
+                        end: end,
+                        told: Told::Nothing,
+                    };
+                    h.lengths[i] = length + 1;
+                }
+            }
+        }
+    }
+    h
+}
+
+const HORIZON: u64 = 1_000_000_000_000_000;
+
+// Whether one of the first `count` completions is above 10^15.
+fn ends_above(times: [Specified; 64], count: u8) -> bool
+    requires { ⌜ count ≤ 64 ⌝ }
+    ensures { λ r. ⌜ r ≡ aboveOf times 0 count ⌝ }
+{
+    let top = wide(count);
+    let mut i: usize = 0;
+    while i < top {
+        let t = times[i];
+        if HORIZON < t.0 {
+            return true;
+        }
+        i += 1;
+    }
+    false
+}
+
+// Whether one of the first `count` availabilities is above 10^15.
+pub fn above(times: [Specified; 16], count: u8) -> bool
+    requires { ⌜ count ≤ 16 ⌝ }
+    ensures { λ r. ⌜ r ≡ aboveOf times 0 count ⌝ }
+{
+    let top = wide(count);
+    let mut i: usize = 0;
+    while i < top {
+        let t = times[i];
+        if HORIZON < t.0 {
+            return true;
+        }
+        i += 1;
+    }
+    false
+}
+
+// Whether the next path is one that number 44 stops.
+fn beyond(resources: u8, size: u8, end: [Specified; 64], g: Progress) -> bool
+    requires { ⌜ resources ≤ 16 ⌝ }
+    requires { ⌜ size ≤ 64 ⌝ }
+    ensures { λ r. ⌜ r ≡ beyondOf resources size end g ⌝ }
+{
+    if 1_000_000_000 < g.position {
+        return true;
+    }
+    if ends_above(end, size) {
+        return true;
+    }
+    let available = g.available;
+    above(available, resources)
+}
+
+// The answer, with the position and the state of the next transition.
+fn closed(resources: u8, size: u8, to: u8, t: Schedule, g: Progress) -> Advanced
+    requires { ⌜ resources ≤ 16 ⌝ }
+    requires { ⌜ size ≤ 64 ⌝ }
+    requires { ⌜ g .position ≤ 1_000_000_001 ⌝ }
+    ensures { λ r. ⌜ r ≡ closedOf resources size to t g ⌝ }
+{
+    let end = t.end;
+    let past = beyond(resources, size, end, g);
+    let mut h = g;
+    h.position += 1;
+    h.state = to;
+    Advanced {
+        beyond: past,
+        schedule: t,
+        progress: h,
+    }
+}
+
+// One transition, which processes `input`, emits the activity and leads to the state `to`.
+pub fn advance(
+    resources: u8,
+    activity: Activity,
+    input: Input,
+    to: u8,
+    progress: Progress,
+) -> Advanced
+    requires { ⌜ StepFits resources activity input progress ⌝ }
+    ensures { λ r. ⌜ r ≡ advanceOf resources (nodesOf activity) input to progress ⌝ }
+{
+    let c = floor(input, progress);
+    let p = processed(input, progress);
+    let h = held(resources, c, p);
+    let available = h.available;
+    let latest = h.latest;
+    let t = scheduled(activity, available, latest);
+    let g = left(activity, t, h);
+    let size = activity.count;
+    closed(resources, size, to, t, g)
+}

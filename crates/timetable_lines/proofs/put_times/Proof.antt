@@ -1,0 +1,80 @@
+-- The loop over the times: what is left is put after what was put.
+use Rattle.timetable_lines.specs.Laws.{spaced, spaced-turn, spaced-end, Remains, remains-all, remains-less}
+use Rattle.timetable_text.specs.Digits.{decimal-length}
+use Rattle.times.specs.Times.{specified}
+use Rattle.basis.specs.Parts.{part}
+use lib.ListN.{length, getD}
+use Prim.Native.Nat.{_+_, _*_, _-_, _≤_, _<_}
+use mathlib.Core.Path.{_≡_, refl, _∙_}
+use native.Mathlib.Nat.{sub-zero}
+use native.Mathlib.Omega.{arith}
+use borrow.Author.Needs.{needs}
+use Rattle.timetable_lines.proofs.put_times.Statement.{statement}
+use Rattle.timetable_lines.proofs.put_times.Tie as tie
+use Rattle.timetable_lines.proofs.put_times.Reads as reads
+use Rattle.timetable_lines.proofs.put_times.Lts as lts
+use Rattle.timetable_text.proofs.put_after_space.Reads as put-after-space-reads
+use Rattle.timetable_text.proofs.put_newline.Reads as put-newline-reads
+
+abbrev Inv-loop : tie.InvT-loop
+Inv-loop out₀ at count times off₀ i₀ n out off i =
+    (i ≤ n) × (n ≡ count) × (count ≤ 16) × (at < 130100) × (off ≤ at + 21 * i) × (length out ≡ length out₀)
+    × Remains out₀ at (spaced (part (specified 0) times 0 count)) out off (spaced (part (specified 0) times i (count - i)))
+
+abbrev μ-loop : tie.MeasureT-loop
+μ-loop out₀ at count times off₀ i₀ n out off i = n - i
+
+loop-holds : tie.Need-loop-holds Inv-loop μ-loop
+loop-holds c = (search needs, search needs, search needs, search needs, omega arith, refl, remains-all _ _ _ _ (rw sub-zero))
+
+mul-t : tie.Need-mul-t Inv-loop μ-loop
+mul-t c = search needs
+
+array-copy-out-t : tie.Need-array-copy-out-t Inv-loop μ-loop
+array-copy-out-t c = search needs
+
+put-after-space-requires : tie.Need-put-after-space-requires Inv-loop μ-loop
+put-after-space-requires c κs = omega arith
+
+add-i : tie.Need-add-i Inv-loop μ-loop
+add-i c = search needs
+
+loop-less : tie.Need-loop-less Inv-loop μ-loop
+loop-less c = search needs
+
+loop-again : tie.Need-loop-again Inv-loop μ-loop
+loop-again c = (
+  omega arith,
+  search needs,
+  search needs,
+  search needs,
+  omega (arith, c .before .before .put-after-space .ensures .past, decimal-length (getD (c .before .before .before .before .before .before .before .before .args .t3) (c .before .before .before .before .before .before .loop .i) (specified 0) .0)),
+  c .before .before .put-after-space .kept .0 ∙ c .before .before .before .before .before .before .loop .inv .5,
+  remains-less _ _ _ _ _ _ _ _ _ _ (spaced-turn (c .before .before .before .before .before .before .before .before .args .t3) (c .before .before .before .before .before .before .before .before .args .count) (c .before .before .before .before .before .before .loop .i) (omega arith)) (c .before .before .before .before .before .before .loop .inv .6) (c .before .before .put-after-space .ensures),
+)
+
+put-newline-requires : tie.Need-put-newline-requires Inv-loop μ-loop
+put-newline-requires c κs = omega arith
+
+same-length : tie.Need-same-length Inv-loop μ-loop
+same-length c = search needs
+
+returns : tie.Need-returns Inv-loop μ-loop
+returns c = c .before .before .before .before .before .loop .inv .6 _ _ (rw (spaced-end (c .before .before .before .before .before .before .before .args .t3) (c .before .before .before .before .before .before .before .args .count) (c .before .before .before .before .before .loop .i) (omega arith)) (c .before .before .put-newline .ensures))
+
+pub put-times-spec : {M : Type 1} → statement M
+put-times-spec =
+    tie.close
+    (tie.spec
+    Inv-loop
+    μ-loop
+    loop-holds
+    mul-t
+    array-copy-out-t
+    put-after-space-requires
+    add-i
+    loop-less
+    loop-again
+    put-newline-requires
+    same-length
+    returns)

@@ -1,0 +1,25 @@
+-- The space, then the number.
+use borrow.Author.Needs.{needs}
+use Rattle.wire.specs.Puts.{puts-join}
+use Rattle.timetable_text.proofs.put_after_space.Statement.{statement}
+use Rattle.timetable_text.proofs.put_after_space.Tie as tie
+use Rattle.timetable_text.proofs.put_after_space.Reads as reads
+use Rattle.timetable_text.proofs.put_after_space.Lts as lts
+use Rattle.wire.proofs.puts.put_byte.Reads as put-byte-reads
+use Rattle.timetable_text.proofs.put_decimal.Reads as put-decimal-reads
+
+put-byte-requires : tie.Need-put-byte-requires
+put-byte-requires c κs = search needs
+
+put-decimal-requires : tie.Need-put-decimal-requires
+put-decimal-requires c κs = search needs
+
+same-length : tie.Need-same-length
+same-length c = search needs
+
+returns : tie.Need-returns
+returns c = puts-join (c .before .before .before .before .before .before .put-byte .ensures) (c .before .before .put-decimal .ensures)
+
+pub put-after-space-spec : {M : Type 1} → statement M
+put-after-space-spec =
+    tie.close (tie.spec put-byte-requires put-decimal-requires same-length returns)

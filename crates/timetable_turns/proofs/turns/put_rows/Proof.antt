@@ -1,0 +1,117 @@
+-- `put_rows` meets its contract. The loop's invariant: what puts the rows that are left, puts all of them. Assumes nothing.
+use mathlib.Core.Path.{_≡_, sym, _∙_}
+use Prim.Native.Nat.{_-_, _≤_}
+use native.Mathlib.Omega.{arith}
+use borrow.Author.Needs.{needs}
+use lib.ListN.{length}
+use Rattle.timetable_turns.proofs.Rows.{Putting, putting-row, putting-none, putting-ends}
+use Rattle.timetable_turns.proofs.turns.put_rows.Statement.{statement}
+use Rattle.timetable_turns.proofs.turns.put_rows.Tie as tie
+
+abbrev Inv-loop : tie.InvT-loop
+Inv-loop out₀ at position number times activity size next₀ n₀ out next n = (n ≤ activity .count) × (size ≡ activity .count) × (activity .count ≤ 64) × (at ≤ 61_440) × (length out ≡ length out₀) × Putting position number times (activity .nodes) (activity .count) out₀ at out next n
+
+abbrev μ-loop : tie.MeasureT-loop
+μ-loop out₀ at position number times activity size next₀ n₀ out next n = size - n
+
+wide-requires : tie.Need-wide-requires Inv-loop μ-loop
+wide-requires c κs = search needs
+
+loop-holds : tie.Need-loop-holds Inv-loop μ-loop
+loop-holds c = search needs
+
+add-n : tie.Need-add-n Inv-loop μ-loop
+add-n c = search needs
+
+mul-x : tie.Need-mul-x Inv-loop μ-loop
+mul-x c = search needs
+
+element-copy-out-x : tie.Need-element-copy-out-x Inv-loop μ-loop
+element-copy-out-x c = search needs
+
+is-work-requires : tie.Need-is-work-requires Inv-loop μ-loop
+is-work-requires c κs = search needs
+
+mul-start : tie.Need-mul-start Inv-loop μ-loop
+mul-start c = search needs
+
+element-copy-out-start : tie.Need-element-copy-out-start Inv-loop μ-loop
+element-copy-out-start c = search needs
+
+mul-end : tie.Need-mul-end Inv-loop μ-loop
+mul-end c = search needs
+
+element-copy-out-end : tie.Need-element-copy-out-end Inv-loop μ-loop
+element-copy-out-end c = search needs
+
+cast-t32 : tie.Need-cast-t32 Inv-loop μ-loop
+cast-t32 c = search needs
+
+put-row-requires : tie.Need-put-row-requires Inv-loop μ-loop
+put-row-requires c κs = search needs
+
+loop-less : tie.Need-loop-less Inv-loop μ-loop
+loop-less c = search needs
+
+loop-again : tie.Need-loop-again Inv-loop μ-loop
+loop-again c =
+    let a = c .before .before .before .before .before .before .before .before .before .before .before .before .before .args in
+    let l = c .before .before .before .before .before .before .before .before .before .before .loop in (
+      omega arith,
+      l .inv .1,
+      l .inv .2,
+      l .inv .3,
+      c .before .before .put-row .kept .0 ∙ l .inv .4,
+      putting-row (a .position) (a .number) (a .t5) (a .t6 .nodes) (a .t6 .count) _ (a .at) (l .out) (l .next) (l .n) (omega arith) (l .inv .5) _ _ (omega arith) (omega arith) (omega arith)
+          (sym (c .before .before .before .before .before .before .before .is-work .ensures) ∙ c .before .before .before .before .before .before .if1 .taken) (c .before .before .put-row .ensures),
+    )
+
+loop-less-2 : tie.Need-loop-less-2 Inv-loop μ-loop
+loop-less-2 c = search needs
+
+loop-again-2 : tie.Need-loop-again-2 Inv-loop μ-loop
+loop-again-2 c =
+    let a = c .before .before .before .before .before .before .before .args in
+    let l = c .before .before .before .before .loop in (
+      omega arith,
+      l .inv .1,
+      l .inv .2,
+      l .inv .3,
+      l .inv .4,
+      putting-none (a .position) (a .number) (a .t5) (a .t6 .nodes) (a .t6 .count) _ (a .at) (l .out) (l .next) (l .n) (omega arith) (l .inv .5)
+          (sym (c .before .is-work .ensures) ∙ c .if1 .left),
+    )
+
+same-length : tie.Need-same-length Inv-loop μ-loop
+same-length c = search needs
+
+returns : tie.Need-returns Inv-loop μ-loop
+returns c =
+    let a = c .before .before .before .before .args in
+    let l = c .before .loop in
+    putting-ends (a .position) (a .number) (a .t5) (a .t6 .nodes) (a .t6 .count) _ (a .at) (l .out) (l .next) (l .n) (omega arith) (l .inv .5)
+
+pub put-rows-spec : {M : Type 1} → statement M
+put-rows-spec =
+    tie.close
+    (tie.spec
+    Inv-loop
+    μ-loop
+    wide-requires
+    loop-holds
+    add-n
+    mul-x
+    element-copy-out-x
+    is-work-requires
+    mul-start
+    element-copy-out-start
+    mul-end
+    element-copy-out-end
+    cast-t32
+    put-row-requires
+    loop-less
+    loop-again
+    loop-less-2
+    loop-again-2
+    same-length
+    returns)

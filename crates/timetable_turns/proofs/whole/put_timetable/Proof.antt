@@ -1,0 +1,62 @@
+-- `put_timetable` meets its contract: by the input's length. Assumes nothing.
+use mathlib.Core.Path.{sym}
+use native.Mathlib.Omega.{arith}
+use denote.Ref.{now}
+use Rattle.timetable_turns.specs.Laws.Whole.{whole-none, whole-cut, whole-plan}
+use Rattle.timetable_turns.proofs.Placing.{puts-as}
+use borrow.Author.Needs.{needs}
+use Rattle.timetable_turns.proofs.whole.put_timetable.Statement.{statement}
+use Rattle.timetable_turns.proofs.whole.put_timetable.Tie as tie
+
+put-refused-requires : tie.Need-put-refused-requires
+put-refused-requires c κs = search needs
+
+same-length : tie.Need-same-length
+same-length c = search needs
+
+returns : tie.Need-returns
+returns c = puts-as _ 0 _ _ _ _ (sym (whole-none (now (c .before .before .before .before .before .before .before .args .input)) (c .before .before .before .before .if1 .taken))) (c .before .before .put-refused .ensures)
+
+plan-length-requires : tie.Need-plan-length-requires
+plan-length-requires c κs = omega (arith, c .if1 .left)
+
+sub-present : tie.Need-sub-present
+sub-present c = search needs
+
+put-refused-requires-2 : tie.Need-put-refused-requires-2
+put-refused-requires-2 c κs = search needs
+
+same-length-2 : tie.Need-same-length-2
+same-length-2 c = search needs
+
+returns-2 : tie.Need-returns-2
+returns-2 c =
+    let n = c .before .before .before .before .before .plan-length in
+    puts-as _ 0 _ _ _ _ (sym (whole-cut (now (c .before .before .before .before .before .before .before .before .before .args .input)) (n .result) (omega (arith, c .before .before .before .before .before .before .if1 .left)) (n .ensures .0) (c .before .before .before .before .if2 .taken))) (c .before .before .put-refused2 .ensures)
+
+put-table-requires : tie.Need-put-table-requires
+put-table-requires c κs = (c .before .before .plan-length .ensures .1, omega (arith, c .before .if2 .left, c .before .before .before .if1 .left))
+
+same-length-3 : tie.Need-same-length-3
+same-length-3 c = search needs
+
+returns-3 : tie.Need-returns-3
+returns-3 c =
+    let n = c .before .before .before .before .before .plan-length in
+    puts-as _ 0 _ _ _ _ (sym (whole-plan (now (c .before .before .before .before .before .before .before .before .before .args .input)) (n .result) (omega (arith, c .before .before .before .before .before .before .if1 .left)) (n .ensures .0) (omega (arith, c .before .before .before .before .if2 .left)))) (c .before .before .put-table .ensures)
+
+pub put-timetable-spec : {M : Type 1} → statement M
+put-timetable-spec =
+    tie.close
+    (tie.spec
+    put-refused-requires
+    same-length
+    returns
+    plan-length-requires
+    sub-present
+    put-refused-requires-2
+    same-length-2
+    returns-2
+    put-table-requires
+    same-length-3
+    returns-3)

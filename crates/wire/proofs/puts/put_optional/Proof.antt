@@ -1,0 +1,31 @@
+-- A number that is absent where it is 0.
+use native.Mathlib.Omega.{arith}
+use mathlib.Core.Path.{_≡_, refl, sym, _∙_, ap}
+use borrow.Author.Tests.{eq-eqb, ne-eqb}
+use denote.Ref.{now}
+use Rattle.wire.specs.Puts.{Puts, puts-none}
+use Rattle.wire.specs.Number.{optionalBytes}
+use Prim.Native.Nat.{ℕ, _%_, _<_}
+use borrow.Author.Needs.{needs}
+use Rattle.wire.proofs.puts.put_optional.Statement.{statement}
+use Rattle.wire.proofs.puts.put_optional.Tie as tie
+use Rattle.wire.proofs.puts.put_optional.Reads as reads
+use Rattle.wire.proofs.puts.put_optional.Lts as lts
+use Rattle.wire.proofs.puts.put_byte.Reads as put-byte-reads
+
+returns : tie.Need-returns
+unfolding optionalBytes
+returns c = rw (eq-eqb _ _ (c .if1 .taken)) (puts-none _ _)
+
+put-byte-requires : tie.Need-put-byte-requires
+put-byte-requires c κs = search needs
+
+same-length : tie.Need-same-length
+same-length c = search needs
+
+returns-2 : tie.Need-returns-2
+unfolding optionalBytes
+returns-2 c = let z : c .before .before .before .before .before .before .args .x % 256 ≡ c .before .before .before .before .before .before .args .x = omega arith in rw (ne-eqb _ _ (c .before .before .before .before .if1 .left), z) (c .before .before .put-byte .ensures)
+
+pub put-optional-spec : {M : Type 1} → statement M
+put-optional-spec = tie.close (tie.spec returns put-byte-requires same-length returns-2)
