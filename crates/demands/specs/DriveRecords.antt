@@ -6,9 +6,9 @@ use mathlib.Core.List.{List, [], _∷_}
 use Prim.Native.Nat.{ℕ, _+_}
 use Rattle.wire.specs.Number.{little}
 use Rattle.demands_log.specs.Log.{Log}
-use Rattle.drive.specs.Input.{planLength, planOf, clockAt, countOf, availabilitiesFrom, isWhole, opened}
-use Rattle.drive.specs.Records.{openingRecord}
-use Rattle.drive.specs.Drive.{callsOf, answersOf, recordsOf}
+use Rattle.drive_input.specs.Input.{planLength, planOf, clockAt, countOf, availabilitiesFrom, isWhole}
+use Rattle.drive_records.specs.Records.{openingRecord}
+use Rattle.drive.specs.Drive.{opened, callsOf, answersOf, recordsOf}
 use Rattle.demands.specs.Demand3.{drivenBy}
 
 -- the log of an input: plan, Ψ, slack, availabilities and calls are read from its bytes

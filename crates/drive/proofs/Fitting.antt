@@ -9,15 +9,16 @@ use lib.ListN.{length, length-append}
 use lib.Seq.{sets-eq}
 use borrow.Author.Tests.{le-leb, lt-leb}
 use Rattle.wire.specs.Puts.{Puts}
-use Rattle.drive.specs.declared.Head.{Head}
-use Rattle.drive.specs.declared.HeadRead.{HeadRead}
-use Rattle.drive.specs.declared.Record.{Record}
+use Rattle.drive_input.specs.declared.Head.{Head}
+use Rattle.drive_input.specs.declared.HeadRead.{HeadRead}
+use Rattle.drive_records.specs.declared.Record.{Record}
 use Rattle.drive.specs.declared.NotRecorded.{NotRecorded}
 use Rattle.drive.specs.declared.Recorded.{Recorded}
-use Rattle.drive.specs.Input.{callsAt, head, headOf, openedBy}
-use Rattle.drive.specs.Records.{openingRecord}
+use Rattle.drive_input.specs.Input.{callsAt, head, headOf}
+use Rattle.drive.specs.Drive.{openedBy}
+use Rattle.drive_records.specs.Records.{openingRecord}
 use Rattle.drive.specs.Drive.{callsFrom, callsOf, recordsFrom, recordsOf, joined, textOf, recordedOf, bufferOf}
-use Rattle.drive.proofs.Placed.{record-length}
+use Rattle.drive_records.specs.Laws.{record-length}
 use Rattle.drive.proofs.Turns.{text-whole, calls-same, records-length}
 
 joined-length : (rs : List Record) → length (joined rs) ≡ 16 * length rs

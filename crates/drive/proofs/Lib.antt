@@ -1,7 +1,3 @@
 -- Laws that the proofs of the functions cite.
-pub mod There
-pub mod Offsets
-pub mod Filled
-pub mod Placed
 pub mod Turns
 pub mod Fitting

@@ -16,12 +16,13 @@ use Rattle.run.specs.declared.Opened.{Opened}
 use Rattle.run.specs.Calls.{callOf}
 use Rattle.demands_log.specs.Log.{Log, said}
 use Rattle.demands_log.specs.Drive.{drive}
-use Rattle.drive.specs.declared.Head.{Head}
-use Rattle.drive.specs.declared.HeadRead.{HeadRead}
-use Rattle.drive.specs.declared.CallRead.{CallRead}
-use Rattle.drive.specs.declared.Record.{Record}
-use Rattle.drive.specs.Input.{byteAt, callsAt, head, headOf, openedBy, askAt, completionAt, outcomeAt, callAt}
-use Rattle.drive.specs.Records.{recordBytes, openingRecord, replyRecord}
+use Rattle.drive_input.specs.declared.Head.{Head}
+use Rattle.drive_input.specs.declared.HeadRead.{HeadRead}
+use Rattle.drive_input.specs.declared.CallRead.{CallRead}
+use Rattle.drive_records.specs.declared.Record.{Record}
+use Rattle.drive_input.specs.Input.{byteAt, callsAt, head, headOf, askAt, completionAt, outcomeAt, callAt}
+use Rattle.drive.specs.Drive.{openedBy}
+use Rattle.drive_records.specs.Records.{recordBytes, openingRecord, replyRecord}
 use Rattle.drive.specs.Drive.{onCall, callsFrom, callsOf, answersOf, recordsFrom, recordsOf, joined, textOf}
 
 -- ---- a call lies within the input, after the offset where it begins

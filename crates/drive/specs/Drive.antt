@@ -2,19 +2,29 @@
 -- ends inside a part, and what is left in a lent buffer.
 use mathlib.Core.Bool.{cond}
 use mathlib.Core.List.{List, [], _∷_, _++_}
-use Prim.Native.Nat.{ℕ, zero, suc}
+use Prim.Native.Nat.{ℕ, zero, suc, _+_}
 use lib.ListN.{length, drop}
 use lib.Dec.{leb}
 use Rattle.run.specs.declared.Run.{Run}
 use Rattle.run.specs.declared.Call.{Call}
+use Rattle.run.specs.declared.Opened.{Opened}
+use Rattle.run.specs.Opening.{openOf}
 use Rattle.demands_log.specs.Log.{Log}
 use Rattle.demands_log.specs.Drive.{drive}
-use Rattle.drive.specs.declared.CallRead.{CallRead}
-use Rattle.drive.specs.declared.Record.{Record}
+use Rattle.drive_input.specs.declared.CallRead.{CallRead}
+use Rattle.drive_records.specs.declared.Record.{Record}
 use Rattle.drive.specs.declared.NotRecorded.{NotRecorded}
 use Rattle.drive.specs.declared.Recorded.{Recorded}
-use Rattle.drive.specs.Input.{isWhole, callsAt, opened, callAt}
-use Rattle.drive.specs.Records.{recordBytes, openingRecord, replyRecord}
+use Rattle.drive_input.specs.declared.Head.{Head}
+use Rattle.drive_input.specs.Input.{planOf, availabilitiesFrom, head, isWhole, callsAt, callAt}
+use Rattle.drive_records.specs.Records.{recordBytes, openingRecord, replyRecord}
+
+-- the answer to the opening that has these numbers
+abbrev pub openedBy : List ℕ → Head → Opened
+openedBy b h = openOf (planOf b (h .length)) (h .psi) (h .slack) (availabilitiesFrom b (h .length + 19) (h .count))
+
+abbrev pub opened : List ℕ → Opened
+opened b = openedBy b (head b)
 
 abbrev pub onCall : {A : Type 0} → CallRead → (Call → ℕ → A) → A → A
 onCall CallRead.None f z = z

@@ -1,4 +1,2 @@
 -- A list of calls as bytes, and the records that answer it.
-pub mod Input
-pub mod Records
 pub mod Drive

@@ -1,41 +1,18 @@
 // A whole list of calls, as bytes, driven through a run: for tests from another language. The form of the input is in
-// specs/Input.antt, that of the records in specs/Records.antt.
+// drive_input, that of the records in drive_records.
 ghost use mathlib.Core.Path.{_≡_};
 ghost use Prim.Native.Nat.{_+_, _*_, _≤_, _<_};
 ghost use lib.ListN.{length};
 ghost use Rattle.wire.specs.Puts.{Puts};
-ghost use Rattle.drive.specs.Input.{headOf};
-ghost use Rattle.drive.specs.Drive.{callsFrom, callsOf, recordsFrom, textOf, joined, recordedOf, bufferOf};
+ghost use Rattle.drive_input.specs.Input.{headOf};
+ghost use Rattle.drive_input.specs.declared.HeadRead.{HeadRead};
+ghost use Rattle.drive.specs.Drive.{openedBy, callsFrom, callsOf, recordsFrom, textOf, joined, recordedOf, bufferOf};
 
-mod input;
-mod records;
-
-pub use records::put_at;
-pub use records::reply_record;
-use run::Call;
+use drive_input::CallRead;
+use drive_input::Head;
+use drive_input::HeadRead;
+use run::Opened;
 use run::Run;
-use time::Clock;
-
-// The numbers of an opening: the plan's length, Ψ, slack, availability count, and where the calls begin.
-pub struct Head {
-    pub length: usize,
-    pub psi: Clock,
-    pub slack: u64,
-    pub count: u8,
-    pub calls: usize,
-}
-
-// The input holds the opening whole, or ends inside it.
-pub enum HeadRead {
-    Whole(Head),
-    Ends,
-}
-
-// A call, and the offset past it.
-pub enum CallRead {
-    Some(Call, usize),
-    None,
-}
 
 // Why nothing was written.
 pub enum NotRecorded {
@@ -48,13 +25,16 @@ pub enum Recorded {
     Refused(NotRecorded),
 }
 
-// An answer: what was answered, the number or the activity, the node, the position, the place.
-pub struct Record {
-    pub answer: u8,
-    pub number: u8,
-    pub node: u8,
-    pub position: u32,
-    pub place: u64,
+// The opening that has these numbers.
+fn open(input: &[u8], head: Head) -> Opened
+    requires { ⌜ head .length + 19 + 8 * head .count ≤ length (now input) ⌝ }
+    ensures { λ r. ⌜ r ≡ openedBy (now (input .entry)) head ⌝ }
+{
+    let end = head.length + 2;
+    let psi = head.psi;
+    let n = drive_input::wide(head.count);
+    let times = drive_input::availabilities(input, head.length + 19, head.count);
+    Run::open(&input[2..end], psi, head.slack, &times[..n])
 }
 
 // How many calls there are from `from` on; the input holds fewer than it has bytes.
@@ -66,7 +46,7 @@ fn count_from(input: &[u8], from: usize) -> usize
     let mut count = 0;
     let mut left = input.len();
     while 0 < left {
-        let read = input::call_at(input, at);
+        let read = drive_input::call_at(input, at);
         match read {
             CallRead::None => {
                 return count;
@@ -98,7 +78,7 @@ fn calls_from(
     let mut end = written;
     let mut left = calls;
     while 0 < left {
-        let read = input::call_at(input, at);
+        let read = drive_input::call_at(input, at);
         match read {
             CallRead::None => {
                 return end;
@@ -106,8 +86,8 @@ fn calls_from(
             CallRead::Some(call, next) => {
                 let answer = run.call(call);
                 let reply = answer.reply;
-                let record = records::reply_record(reply);
-                end = records::put_at(out, end, record);
+                let record = drive_records::reply_record(reply);
+                end = drive_records::put_at(out, end, record);
                 run = answer.run;
                 at = next;
                 left -= 1;
@@ -122,10 +102,10 @@ fn opened_and_called(input: &[u8], head: Head, out: &mut [u8], calls: usize) -> 
     requires { ⌜ (headOf (now input) ≡ HeadRead.Whole head) × (calls ≡ length (callsOf (now input))) × (16 + 16 * calls ≤ length (now out)) ⌝ }
     ensures { λ r. ⌜ Puts (now (out .entry)) 0 (textOf (now (input .entry))) (now (out .exit)) r ⌝ }
 {
-    let opened = input::open(input, head);
+    let opened = open(input, head);
     let opening = opened.opening;
-    let record = records::opening_record(opening);
-    let end = records::put_at(out, 0, record);
+    let record = drive_records::opening_record(opening);
+    let end = drive_records::put_at(out, 0, record);
     let run = opened.run;
     calls_from(input, head.calls, run, out, end, calls)
 }
@@ -148,7 +128,7 @@ fn if_they_fit(input: &[u8], head: Head, out: &mut [u8]) -> Recorded
 pub fn drive(input: &[u8], out: &mut [u8]) -> Recorded
     ensures { λ r. ⌜ (r ≡ recordedOf (now (input .entry)) (now (out .entry))) × (now (out .exit) ≡ bufferOf (now (input .entry)) (now (out .entry))) ⌝ }
 {
-    let head = input::head_of(input);
+    let head = drive_input::head_of(input);
     match head {
         HeadRead::Ends => Recorded::Bytes(0),
         HeadRead::Whole(h) => if_they_fit(input, h, out),

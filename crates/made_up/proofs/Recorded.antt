@@ -12,14 +12,11 @@ use Rattle.run.specs.declared.Run.{Run}
 use Rattle.run.specs.declared.Call.{Call}
 use Rattle.run.specs.declared.Answer.{Answer}
 use Rattle.run.specs.Calls.{callOf}
-use Rattle.drive.specs.declared.Record.{Record}
-use Rattle.drive.specs.Records.{recordBytes, replyRecord}
+use Rattle.drive_records.specs.declared.Record.{Record}
+use Rattle.drive_records.specs.Records.{recordBytes, replyRecord}
+use Rattle.drive_records.specs.Laws.{record-length}
 use Rattle.made_up.specs.Made.{madeOf, callAt, firstFrom, secondFrom}
 use Rattle.made_up.specs.Answers.{madeRecords, madeCode, madeBuffer}
-
-pub record-length : (r : Record) → length (recordBytes r) ≡ 16
-unfolding recordBytes
-record-length r = refl
 
 module _ (b out : List ℕ) where
   pub too-short : length out < 32 → (154618822656 ≡ madeCode out) × (out ≡ madeBuffer b out)

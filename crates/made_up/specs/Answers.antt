@@ -7,7 +7,7 @@ use lib.Dec.{leb}
 use Rattle.run.specs.declared.Answer.{Answer}
 use Rattle.run.specs.declared.Call.{Call}
 use Rattle.run.specs.Calls.{callOf}
-use Rattle.drive.specs.Records.{recordBytes, replyRecord}
+use Rattle.drive_records.specs.Records.{recordBytes, replyRecord}
 use Rattle.made_up.specs.Made.{madeOf, callAt, firstFrom, secondFrom}
 
 abbrev pub recordOf : Answer → List ℕ

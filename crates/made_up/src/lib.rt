@@ -116,9 +116,9 @@ pub fn answer(bytes: &[u8], out: &mut [u8]) -> usize
     let run = run_of(bytes);
     let first = run.call(call_at(bytes, FIRST));
     let reply = first.reply;
-    let end = drive::put_at(out, 0, drive::reply_record(reply));
+    let end = drive_records::put_at(out, 0, drive_records::reply_record(reply));
     let after = first.run;
     let second = after.call(call_at(bytes, SECOND));
     let last = second.reply;
-    drive::put_at(out, end, drive::reply_record(last))
+    drive_records::put_at(out, end, drive_records::reply_record(last))
 }

@@ -5,16 +5,16 @@ use denote.Ref.{now}
 use Prim.Native.Nat.{_+_, _*_, _-_, _≤_}
 use lib.ListN.{length}
 use Rattle.wire.specs.Puts.{puts-length}
-use Rattle.drive.proofs.Placed.{record-length}
+use Rattle.drive_records.specs.Laws.{record-length}
 use Rattle.drive.proofs.Turns.{drivenFrom, Leads, call-ahead, turn-ends, turn-goes, turn-over}
 use borrow.Author.Needs.{needs}
 use Rattle.drive.proofs.calls_from.Statement.{statement}
 use Rattle.drive.proofs.calls_from.Tie as tie
 use Rattle.drive.proofs.calls_from.Reads as reads
 use Rattle.drive.proofs.calls_from.Lts as lts
-use Rattle.drive.proofs.input.call_at.Reads as call-at-reads
-use Rattle.drive.proofs.records.put_at.Reads as put-at-reads
-use Rattle.drive.proofs.records.reply_record.Reads as reply-record-reads
+use Rattle.drive_input.proofs.call_at.Reads as call-at-reads
+use Rattle.drive_records.proofs.put_at.Reads as put-at-reads
+use Rattle.drive_records.proofs.reply_record.Reads as reply-record-reads
 use Rattle.run.proofs.Run.call.Reads as call-reads
 
 abbrev Inv-loop : tie.InvT-loop

@@ -2,14 +2,15 @@
 use native.Mathlib.Omega.{arith}
 use denote.Ref.{now}
 use Rattle.wire.specs.Puts.{puts-length}
-use Rattle.made_up.proofs.Recorded.{record-length, too-short, both-written}
+use Rattle.drive_records.specs.Laws.{record-length}
+use Rattle.made_up.proofs.Recorded.{too-short, both-written}
 use borrow.Author.Needs.{needs}
 use Rattle.made_up.proofs.answer.Statement.{statement}
 use Rattle.made_up.proofs.answer.Tie as tie
 use Rattle.made_up.proofs.answer.Reads as reads
 use Rattle.made_up.proofs.answer.Lts as lts
-use Rattle.drive.proofs.put_at.Reads as put-at-reads
-use Rattle.drive.proofs.reply_record.Reads as reply-record-reads
+use Rattle.drive_records.proofs.put_at.Reads as put-at-reads
+use Rattle.drive_records.proofs.reply_record.Reads as reply-record-reads
 use Rattle.made_up.proofs.call_at.Reads as call-at-reads
 use Rattle.made_up.proofs.run_of.Reads as run-of-reads
 use Rattle.run.proofs.Run.call.Reads as call-reads

@@ -1,0 +1,55 @@
+-- Which call it is, by its kind.
+use mathlib.Core.Path.{_∙_}
+use native.Mathlib.Omega.{arith}
+use denote.Ref.{now}
+use Prim.Native.Nat.{_-_}
+use Rattle.drive_input.proofs.Offsets.{no-call, is-ask, is-completion, is-outcome, no-kind}
+use borrow.Author.Needs.{needs}
+use Rattle.drive_input.proofs.call_at.Statement.{statement}
+use Rattle.drive_input.proofs.call_at.Tie as tie
+use Rattle.drive_input.proofs.call_at.Reads as reads
+use Rattle.drive_input.proofs.call_at.Lts as lts
+use Rattle.drive_input.proofs.ask_at.Reads as ask-at-reads
+use Rattle.drive_input.proofs.completion_at.Reads as completion-at-reads
+use Rattle.drive_input.proofs.outcome_at.Reads as outcome-at-reads
+
+returns : tie.Need-returns
+returns c = let a = c .before .before .args in no-call (now (a .input)) (a .at) (omega arith)
+
+shared-slice-read-kind : tie.Need-shared-slice-read-kind
+shared-slice-read-kind c = search needs
+
+ask-at-requires : tie.Need-ask-at-requires
+ask-at-requires c κs = search needs
+
+returns-2 : tie.Need-returns-2
+returns-2 c = let a = c .before .before .before .before .before .args in c .ask-at .ensures ∙ is-ask (now (a .input)) (a .at) (omega arith) (c .before .if2 .taken)
+
+completion-at-requires : tie.Need-completion-at-requires
+completion-at-requires c κs = search needs
+
+returns-3 : tie.Need-returns-3
+returns-3 c = let a = c .before .before .before .before .before .before .args in c .completion-at .ensures ∙ is-completion (now (a .input)) (a .at) (omega arith) (c .before .if3 .taken)
+
+outcome-at-requires : tie.Need-outcome-at-requires
+outcome-at-requires c κs = search needs
+
+returns-4 : tie.Need-returns-4
+returns-4 c = let a = c .before .before .before .before .before .before .before .args in c .outcome-at .ensures ∙ is-outcome (now (a .input)) (a .at) (omega arith) (c .before .if4 .taken)
+
+returns-5 : tie.Need-returns-5
+returns-5 c = let a = c .before .before .before .before .before .before .args in no-kind (now (a .input)) (a .at) (omega arith) (c .before .before .if2 .left) (c .before .if3 .left) (c .if4 .left)
+
+pub call-at-spec : {M : Type 1} → statement M
+call-at-spec =
+    tie.close
+    (tie.spec
+    returns
+    shared-slice-read-kind
+    ask-at-requires
+    returns-2
+    completion-at-requires
+    returns-3
+    outcome-at-requires
+    returns-4
+    returns-5)

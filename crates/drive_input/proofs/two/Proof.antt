@@ -1,0 +1,33 @@
+-- A number of two bytes that the input holds.
+use mathlib.Core.Path.{sym, _∙_}
+use native.Mathlib.Omega.{arith}
+use denote.Ref.{now}
+use Rattle.drive_input.proofs.There.{two-is, two-there}
+use borrow.Author.Needs.{needs}
+use Rattle.drive_input.proofs.two.Statement.{statement}
+use Rattle.drive_input.proofs.two.Tie as tie
+use Rattle.drive_input.proofs.two.Reads as reads
+use Rattle.drive_input.proofs.two.Lts as lts
+use Rattle.wire.proofs.short_at.Reads as short-at-reads
+
+short-at-requires : tie.Need-short-at-requires
+short-at-requires c κs = search needs
+
+enum-known-f : tie.Need-enum-known-f
+enum-known-f c = search needs
+
+cast-result : tie.Need-cast-result
+cast-result c = search needs
+
+enum-told : tie.Need-enum-told
+enum-told c = search needs
+
+returns : tie.Need-returns
+returns c = (let a = c .before .before .before .before .before .args in two-is (now (a .input)) (a .at) _ (sym (c .before .before .before .short-at .ensures) ∙ c .before .f .given .1), search needs)
+
+returns-2 : tie.Need-returns-2
+returns-2 c = let a = c .before .before .before .before .args in absurd (two-there (now (a .input)) (a .at) (sym (c .before .before .short-at .ensures) ∙ c .enum-told .given .1) (omega arith))
+
+pub two-spec : {M : Type 1} → statement M
+two-spec =
+    tie.close (tie.spec short-at-requires enum-known-f cast-result enum-told returns returns-2)

@@ -1,0 +1,2 @@
+-- The form of a list of calls as bytes.
+pub mod Input

@@ -1,0 +1,186 @@
+// The parts of an input: an opening, then calls. Their form is in specs/Input.antt.
+use run::Call;
+use time::Clock;
+use wire::Long;
+use wire::Short;
+use wire::Wide;
+ghost use mathlib.Core.Path.{_≡_};
+ghost use Prim.Native.Nat.{_+_, _*_, _≤_, _<_};
+ghost use lib.ListN.{length, take};
+ghost use Rattle.wire.specs.Number.{little};
+ghost use Rattle.drive_input.specs.Input.{availabilitiesFrom, headOf, askAt, completionAt, outcomeAt, callAt};
+
+// The numbers of an opening: the plan's length, Ψ, slack, availability count, and where the calls begin.
+pub struct Head {
+    pub length: usize,
+    pub psi: Clock,
+    pub slack: u64,
+    pub count: u8,
+    pub calls: usize,
+}
+
+// The input holds the opening whole, or ends inside it.
+pub enum HeadRead {
+    Whole(Head),
+    Ends,
+}
+
+// A call, and the offset past it.
+pub enum CallRead {
+    Some(Call, usize),
+    None,
+}
+
+// ---- numbers that are there
+
+fn two(input: &[u8], at: usize) -> usize
+    requires { ⌜ at + 2 ≤ length (now input) ⌝ }
+    ensures { λ r. ⌜ (r ≡ little 2 (now (input .entry)) at) × (r < 65536) ⌝ }
+{
+    let f = wire::short_at(input, at);
+    match f {
+        Short::Value(x) => x as usize,
+        Short::Ends => 0,
+    }
+}
+
+fn four(input: &[u8], at: usize) -> u32
+    requires { ⌜ at + 4 ≤ length (now input) ⌝ }
+    ensures { λ r. ⌜ r ≡ little 4 (now (input .entry)) at ⌝ }
+{
+    let f = wire::long_at(input, at);
+    match f {
+        Long::Value(x) => x,
+        Long::Ends => 0,
+    }
+}
+
+fn eight(input: &[u8], at: usize) -> u64
+    requires { ⌜ at + 8 ≤ length (now input) ⌝ }
+    ensures { λ r. ⌜ r ≡ little 8 (now (input .entry)) at ⌝ }
+{
+    let f = wire::wide_at(input, at);
+    match f {
+        Wide::Value(x) => x,
+        Wide::Ends => 0,
+    }
+}
+
+pub fn wide(x: u8) -> usize
+    ensures { λ r. ⌜ (r ≡ x) × (r < 256) ⌝ }
+{
+    x as usize
+}
+
+// ---- the opening
+
+// The numbers of an opening that the input holds whole.
+pub fn head_of(input: &[u8]) -> HeadRead
+    ensures { λ r. ⌜ r ≡ headOf (now (input .entry)) ⌝ }
+{
+    let size = input.len();
+    if size < 19 {
+        return HeadRead::Ends;
+    }
+    let n = two(input, 0);
+    if size < n + 19 {
+        return HeadRead::Ends;
+    }
+    let place = n + 18;
+    let count = input[place];
+    let calls = n + 19 + 8 * wide(count);
+    if size < calls {
+        return HeadRead::Ends;
+    }
+    HeadRead::Whole(Head {
+        length: n,
+        psi: Clock(eight(input, n + 2)),
+        slack: eight(input, n + 10),
+        count,
+        calls,
+    })
+}
+
+// The availabilities, at most 255 of them, at the front of an array.
+pub fn availabilities(input: &[u8], at: usize, count: u8) -> [u64; 255]
+    requires { ⌜ at + 8 * count ≤ length (now input) ⌝ }
+    ensures { λ r. ⌜ take count r ≡ availabilitiesFrom (now (input .entry)) at count ⌝ }
+{
+    let mut times = [0u64; 255];
+    let mut i: usize = 0;
+    let mut off = at;
+    let n = wide(count);
+    while i < n {
+        times[i] = eight(input, off);
+        off += 8;
+        i += 1;
+    }
+    times
+}
+
+// ---- a call
+
+// Kind 0: an ask.
+fn ask_at(input: &[u8], at: usize) -> CallRead
+    requires { ⌜ at ≤ length (now input) ⌝ }
+    ensures { λ r. ⌜ r ≡ askAt (now (input .entry)) at ⌝ }
+{
+    if input.len() - at < 9 {
+        return CallRead::None;
+    }
+    let t = Clock(eight(input, at + 1));
+    CallRead::Some(Call::Ask(t), at + 9)
+}
+
+// Kind 1: the completion of an action.
+fn completion_at(input: &[u8], at: usize) -> CallRead
+    requires { ⌜ at ≤ length (now input) ⌝ }
+    ensures { λ r. ⌜ r ≡ completionAt (now (input .entry)) at ⌝ }
+{
+    if input.len() - at < 14 {
+        return CallRead::None;
+    }
+    let t = Clock(eight(input, at + 1));
+    let position = four(input, at + 9);
+    let place = at + 13;
+    let node = input[place];
+    CallRead::Some(Call::Completion(t, position, node), at + 14)
+}
+
+// Kind 2: the outcome of an event.
+fn outcome_at(input: &[u8], at: usize) -> CallRead
+    requires { ⌜ at ≤ length (now input) ⌝ }
+    ensures { λ r. ⌜ r ≡ outcomeAt (now (input .entry)) at ⌝ }
+{
+    if input.len() - at < 15 {
+        return CallRead::None;
+    }
+    let t = Clock(eight(input, at + 1));
+    let position = four(input, at + 9);
+    let place = at + 13;
+    let next = at + 14;
+    let node = input[place];
+    let outcome = input[next];
+    CallRead::Some(Call::Outcome(t, position, node, outcome), at + 15)
+}
+
+// The call at `at`, if there is one: any other kind ends the list.
+pub fn call_at(input: &[u8], at: usize) -> CallRead
+    requires { ⌜ at ≤ length (now input) ⌝ }
+    ensures { λ r. ⌜ r ≡ callAt (now (input .entry)) at ⌝ }
+{
+    if at == input.len() {
+        return CallRead::None;
+    }
+    let kind = input[at];
+    if kind == 0 {
+        return ask_at(input, at);
+    }
+    if kind == 1 {
+        return completion_at(input, at);
+    }
+    if kind == 2 {
+        return outcome_at(input, at);
+    }
+    CallRead::None
+}

@@ -1,0 +1,57 @@
+-- The record of each stop.
+use Rattle.drive_records.specs.Records.{bare, stopRecord}
+use borrow.Author.Needs.{needs}
+use Rattle.drive_records.proofs.stop_record.Statement.{statement}
+use Rattle.drive_records.proofs.stop_record.Tie as tie
+use Rattle.drive_records.proofs.stop_record.Reads as reads
+use Rattle.drive_records.proofs.stop_record.Lts as lts
+use Rattle.drive_records.proofs.bare.Reads as bare-reads
+
+enum-known-s : tie.Need-enum-known-s
+enum-known-s c = search needs
+
+enum-known-s-2 : tie.Need-enum-known-s-2
+enum-known-s-2 c = search needs
+
+enum-told : tie.Need-enum-told
+enum-told c = search needs
+
+bare-requires : tie.Need-bare-requires
+bare-requires c κs = search needs
+
+enum-told-2 : tie.Need-enum-told-2
+enum-told-2 c = search needs
+
+bare-requires-2 : tie.Need-bare-requires-2
+bare-requires-2 c κs = search needs
+
+returns : tie.Need-returns
+unfolding stopRecord
+returns c = rw (c .before .s .given .1)
+
+returns-2 : tie.Need-returns-2
+unfolding stopRecord
+returns-2 c = rw (c .before .s2 .given .1)
+
+returns-3 : tie.Need-returns-3
+unfolding stopRecord
+returns-3 c = rw (c .before .enum-told .given .1) (c .bare .ensures)
+
+returns-4 : tie.Need-returns-4
+unfolding stopRecord
+returns-4 c = rw (c .before .enum-told2 .given .1) (c .bare2 .ensures)
+
+pub stop-record-spec : {M : Type 1} → statement M
+stop-record-spec =
+    tie.close
+    (tie.spec
+    enum-known-s
+    enum-known-s-2
+    enum-told
+    bare-requires
+    enum-told-2
+    bare-requires-2
+    returns
+    returns-2
+    returns-3
+    returns-4)

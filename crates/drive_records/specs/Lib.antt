@@ -1,0 +1,3 @@
+-- The form of the records that answer a list of calls.
+pub mod Records
+pub mod Laws
