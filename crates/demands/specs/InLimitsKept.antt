@@ -20,7 +20,7 @@ use Rattle.plan.specs.declared.Automaton.{Automaton}
 use Rattle.automaton.specs.Next.{nextOf, chosenOf}
 use Rattle.automaton.specs.declared.Next.{Next}
 use Rattle.automaton.specs.declared.Chosen.{Chosen}
-use Rattle.times_combined.specs.Laws.Lists.{among-either}
+use Rattle.basis.specs.Laws.Lists.{among-either, among-at}
 use Rattle.times.specs.Engine.{lastPosition}
 use Rattle.times.specs.Queues.{noInstance, pendingOf, instanceOf}
 use Rattle.times.specs.Limits.{InstanceInLimits}
@@ -50,7 +50,7 @@ use Rattle.run.specs.Loading.{load, onWay, onLoading, further, mostPending}
 use Rattle.run.specs.Limits.{runInLimits}
 use Rattle.run.specs.Calls.{refuse, heard, asked, reported, completedBy, completed, afterLoading, cleared, learnsBy, learns, timely, called, askOf, completionOf, outcomeOf, callOf, kindOf}
 use Rattle.demands_theory.specs.Laws.Next.{chosen-found}
-use Rattle.demands_run.specs.Laws.Entries.{among-at, brought}
+use Rattle.demands_run.specs.Laws.Entries.{brought}
 use Rattle.demands_run.specs.Laws.Telling.{told-cases}
 use Rattle.demands_run.specs.Laws.Loaded.{not-beyond}
 use Rattle.demands_log.specs.ByCases.{by-halt}

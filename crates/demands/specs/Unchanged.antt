@@ -6,6 +6,7 @@ use mathlib.Core.List.{List}
 use Prim.Native.Nat.{ℕ}
 use lib.Dec.{ltb, eqb}
 use lib.ListN.{length}
+use Rattle.basis.specs.Laws.Bools.{by-cond}
 use Rattle.time.specs.Time.{horizon}
 use Rattle.time.specs.declared.Clock.{Clock}
 use Rattle.plan.specs.Plan.{outcomesOf}
@@ -37,7 +38,7 @@ use Rattle.run_opening.specs.declared.Short.{Short}
 use Rattle.run_opening.specs.Short.{onShort, shortFrom}
 use Rattle.run_opening.specs.Given.{anyAbove, atFirst, availabilities}
 use Rattle.run.specs.Opening.{openOf, openJudged, openPlan, afterFirst, zeroRun, fresh}
-use Rattle.demands_log.specs.ByCases.{by-cond, by-found, by-halt}
+use Rattle.demands_log.specs.ByCases.{by-found, by-halt}
 use Rattle.demands.specs.Promises.{StatementRefusedUnchanged, StatementStopKept, StatementStopsStay, StatementRefusedOpening, StatementZerosGet50}
 
 -- ---- by cases

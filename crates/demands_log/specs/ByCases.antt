@@ -12,10 +12,6 @@ use Rattle.run.specs.declared.Stop.{Stop}
 use Rattle.run.specs.Loading.{onWay}
 use Rattle.run.specs.Calls.{onHalt}
 
-pub by-cond : {A : Type 0} (P : A → Type 0) (b : Bool) (x y : A) → P x → P y → P (cond b x y)
-by-cond P true x y p q = p
-by-cond P false x y p q = q
-
 pub by-found : {A : Type 0} (P : A → Type 0) (r : Found) (f : ℕ → Entry → A) (z : A) → ((i : ℕ) (e : Entry) → P (f i e)) → P z → P (onFound r f z)
 by-found P Found.Nothing f z p q = q
 by-found P (Found.At i e) f z p q = p i e

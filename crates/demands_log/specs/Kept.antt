@@ -5,6 +5,7 @@ use mathlib.Core.List.{List}
 use Prim.Native.Nat.{ℕ}
 use lib.Dec.{ltb, eqb}
 use lib.ListN.{length}
+use Rattle.basis.specs.Laws.Bools.{by-cond}
 use Rattle.time.specs.Time.{horizon}
 use Rattle.time.specs.declared.Clock.{Clock}
 use Rattle.plan.specs.declared.Plan.{Plan}
@@ -25,7 +26,6 @@ use Rattle.run.specs.declared.Loading.{Loading}
 use Rattle.run.specs.Limits.{slackInLimits}
 use Rattle.run.specs.Loading.{load, loadPath}
 use Rattle.run.specs.Opening.{openOf, openJudged, openPlan, firstLoaded, fresh}
-use Rattle.demands_log.specs.ByCases.{by-cond}
 
 pub record Keeps (p : Plan) (psi : Clock) (slack : ℕ) (run : Run) : Type 0 where
   pub same-plan : run .plan ≡ p

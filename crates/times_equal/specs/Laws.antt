@@ -1,6 +1,5 @@
 -- The proofs of what Steps.antt says.
 
-pub mod Lists
 pub mod Order
 pub mod AllDone
 pub mod Events

@@ -8,6 +8,7 @@ use native.Mathlib.Omega.{arith}
 use lib.ListN.{length, getD}
 use lib.Seq.{ext-getD}
 use Rattle.basis.specs.Parts.{part, length-part, getD-part}
+use Rattle.basis.specs.Inner.Tells.{Tells}
 use Rattle.time.specs.Time.{horizon}
 use Rattle.time.specs.declared.Specified.{Specified}
 use Rattle.plan.specs.Plan.{pastNode, move, emittedBy, resourceOf}
@@ -34,7 +35,6 @@ use Rattle.timetable_lines.specs.Lines.{rows, free}
 use Rattle.timetable_text.specs.Text.{decimal, line, wordFree}
 use Rattle.demands_theory.specs.TheWord.{stateAfter, wholeOf}
 use Rattle.demands_run.specs.Laws.Taken.{next-position, next-state}
-use Rattle.activity.specs.Tells.{Tells}
 use Rattle.demands_theory.specs.Loading.{Beyond}
 use Rattle.demands_run.specs.Laws.Passing.{Leads, tells-leads}
 use Rattle.demands.specs.Timetables.{nodeRows, rowsOf, Frees}

@@ -4,6 +4,8 @@ use mathlib.Core.Bool.{Bool, true, false, _&&_, true≢false}
 use Prim.Native.Nat.{ℕ}
 use lib.Dec.{ltb}
 use borrow.Author.Tests.{ltb-true, ltb-false}
+use Rattle.basis.specs.Laws.Tells.{told-false}
+use Rattle.basis.specs.Laws.Bools.{and-left, and-right}
 use Rattle.time.specs.declared.Clock.{Clock}
 use Rattle.plan.specs.Plan.{isFinal, outcomesOf}
 use Rattle.plan.specs.declared.Kind.{Kind}
@@ -20,7 +22,6 @@ use Rattle.run.specs.declared.Answer.{Answer}
 use Rattle.run.specs.declared.Refusal.{Refusal}
 use Rattle.run.specs.declared.Failure.{Failure}
 use Rattle.run.specs.Limits.{runInLimits}
-use Rattle.activity.specs.Tells.{told-false}
 use Rattle.demands_log.specs.ByCases.{by-halt}
 use Rattle.demands.specs.InLimitsIff.{tells-run, in-limits}
 use Rattle.run.specs.Calls.{refuse, readingOf, isDone, asked, kindOf, completedBy, completed, afterLoading, learnsBy, learns, timely, called, askOf, completionOf, outcomeOf, callOf}
@@ -56,14 +57,6 @@ module _ (run : Run) (c : Call) (go : Answer) (next : Timely run (readingOf c) �
       (λ l. refused run c Refusal.OutOfLimits (Refuses.number50 (told-false (tells-run run) l)))
 
 -- ---- ask
-
-and-left : (a b : Bool) → a && b ≡ true → a ≡ true
-and-left true b e = refl
-and-left false b e = e
-
-and-right : (a b : Bool) → a && b ≡ true → b ≡ true
-and-right true b e = e
-and-right false b e = absurd (true≢false (sym e))
 
 unheld-free : (s : Phase) → (isHeld s ≡ true → ⊥) → s ≡ Phase.Free
 unheld-free Phase.Free n = refl

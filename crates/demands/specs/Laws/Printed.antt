@@ -8,12 +8,13 @@ use native.Mathlib.Decide.{decLt}
 use borrow.Author.Tests.{lt-ltb, le-ltb}
 use lib.ListN.{length, getD, drop, replicate, drop-of-length-le}
 use lib.Seq.{drop-cons}
+use Rattle.basis.specs.Inner.Tells.{Tells, holds, fails}
+use Rattle.basis.specs.Laws.Tells.{is-false}
 use Rattle.time.specs.Time.{horizon}
 use Rattle.plan.specs.Plan.{isFinal, outcomesOf}
 use Rattle.plan.specs.Limits.{InputNames}
 use Rattle.plan.specs.declared.Automaton.{Automaton}
 use Rattle.plan.specs.declared.Plan.{Plan}
-use Rattle.activity.specs.Tells.{Tells, holds, fails}
 use Rattle.automaton.specs.Rules.{Leaves, Processes, MeetsAutomaton}
 use Rattle.automaton.specs.Next.{nextOf, chosenOf}
 use Rattle.automaton.specs.States.{NextIs, ended, goes, waits, next-is}
@@ -39,7 +40,7 @@ use Rattle.demands_theory.specs.Laws.Longest.{within-more}
 use Rattle.demands_run.specs.Laws.Taken.{size-is}
 use Rattle.timetable_turns.specs.Timetable.{Move, Takes, moveBy, tableFrom, positions}
 use Rattle.timetable_turns.specs.Timetable as T
-use Rattle.demands.specs.Laws.OpeningTests.{is-true, is-false}
+use Rattle.demands.specs.Laws.OpeningTests.{is-true}
 use Rattle.demands.specs.TimesEqual.{zeros-at, no-lengths}
 use Rattle.demands.specs.Timetables.{Steps, Walk, Closes}
 use Rattle.demands.specs.Laws.Leaving.{goes-next, chosen-is}

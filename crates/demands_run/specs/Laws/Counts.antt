@@ -16,7 +16,7 @@ use Rattle.times_combined.specs.Word.{once, times, emittedIn, emissions}
 use Rattle.times_combined.specs.Combined.{Ident, Graph}
 use Rattle.times_combined.specs.Paths.{wordOf, Follows, Lawful}
 use Rattle.times_combined.specs.Laws.Instances.{Listing}
-use Rattle.times_combined.specs.Laws.Lists.{fewer}
+use Rattle.basis.specs.Laws.Lists.{fewer}
 use Rattle.times_combined.specs.Laws.Counts.{listed}
 use Rattle.times_combined.specs.Laws.Plans.{good-path}
 use Rattle.times.specs.Queues.{noInstance, pendingOf, queueOf}

@@ -10,6 +10,7 @@ use borrow.Author.Tests.{lt-ltb, eq-eqb, ne-eqb}
 use lib.Dec.{eqb}
 use lib.ListN.{length, getD}
 use Rattle.basis.specs.Parts.{part, length-part, getD-part}
+use Rattle.basis.specs.Laws.Parts.{part-same}
 use Rattle.plan.specs.Plan.{pastNode, nodesOf, sizeOf, activityOf, resourceOf, emittedBy, move}
 use Rattle.plan.specs.Limits.{KindNames, InputNames, OutputNames, NodeInLimits, nodeAt, InLimits}
 use Rattle.plan.specs.declared.Kind.{Kind}
@@ -37,7 +38,6 @@ use Rattle.times.specs.declared.Progress.{Progress}
 use Rattle.times_equal.specs.Seen.{Whole, Ready, emitted}
 use Rattle.times_equal.specs.Seen as Seen
 use Rattle.times_equal.specs.Steps.{steps, queue-grows, whole-after}
-use Rattle.times_equal.specs.Laws.Lists.{part-same}
 use Rattle.times_equal.specs.Laws.Queue.{apart, gone-length}
 use Rattle.run_path.specs.Path.{takenBy}
 use Rattle.demands_run.specs.Engine.{Sized, Within, rest, remaining, Pending, Possible, Advances, Settles, EngineLaws}

@@ -10,11 +10,12 @@ use native.Mathlib.Omega.{arith}
 use borrow.Author.Tests.{ltb-true, ltb-false, ne-eqb, eq-eqb}
 use lib.Dec.{ltb}
 use lib.ListN.{length}
+use Rattle.basis.specs.Inner.Tells.{Tells}
+use Rattle.basis.specs.Laws.Tells.{told-true, told-false}
 use Rattle.time.specs.declared.Clock.{Clock}
 use Rattle.plan.specs.Plan.{move}
 use Rattle.plan.specs.declared.Input.{Input}
 use Rattle.plan.specs.declared.Plan.{Plan}
-use Rattle.activity.specs.Tells.{Tells, told-true, told-false}
 use Rattle.automaton.specs.Next.{nextOf}
 use Rattle.automaton.specs.Rules.{MeetsAutomaton}
 use Rattle.automaton.specs.declared.Next.{Next}

@@ -16,7 +16,7 @@ use Rattle.automaton.specs.Rules.{MeetsAutomaton}
 use Rattle.times_combined.specs.Word.{times}
 use Rattle.times_combined.specs.Combined.{Ident, Is, identity}
 use Rattle.times_combined.specs.Paths.{wordOf, Lawful}
-use Rattle.times_combined.specs.Laws.Lists.{among-right, map-among, among-map}
+use Rattle.basis.specs.Laws.Lists.{among-right, map-among, among-map, distinct-right}
 use Rattle.times_combined.specs.Laws.Instances.{Listing}
 use Rattle.times_combined.specs.Laws.Shape.{event-same}
 use Rattle.times_combined.specs.Laws.Unique.{shape-of}
@@ -39,10 +39,6 @@ use Rattle.demands_run.specs.Stands.{identOf, idOf, ToldAs, Queued, Stan
 use Rattle.demands_run.specs.Laws.Later.{takes-more, told-later}
 use Rattle.demands_run.specs.Laws.Counts.{pending-few}
 use Rattle.demands_run.specs.Laws.Telling.{part-same, instance-tells, instance-is, informed, told-length, told-cases, told-outside, told-part}
-
-distinct-right : {X : Type 0} (xs ys : List X) → Distinct (xs ++ ys) → Distinct ys
-distinct-right [] ys d = d
-distinct-right (x ∷ xs) ys d = distinct-right xs ys (d .1)
 
 -- the outcome o of the event ev is reported of the entry's node, and accepted
 module _ (p : Plan) (lawful : Lawful p) (automaton : MeetsAutomaton p) (available : ℕ → ℕ) (log : Log) (is : List ℕ) (g : Progress) (s : Stands p available log is g)

@@ -12,6 +12,7 @@ use lib.Dec.{ltb}
 use lib.ListN.{length, getD}
 use Rattle.basis.specs.Lists.{Among}
 use Rattle.basis.specs.Parts.{length-part}
+use Rattle.basis.specs.Laws.Lists.{among-at, at-among}
 use Rattle.time.specs.Time.{horizon}
 use Rattle.time.specs.declared.Specified.{Specified}
 use Rattle.plan.specs.Plan.{move, emittedBy, pastNode, sizeOf}
@@ -53,7 +54,7 @@ use Rattle.demands_run.specs.Stands.{Stands}
 use Rattle.demands_run.specs.Laws.Bounds.{EntryWithin, entry-passes}
 use Rattle.demands_run.specs.Laws.Counts.{possible, pending-length}
 use Rattle.demands_run.specs.Laws.Taken.{size-is, stands-on, trace-start, trace-end}
-use Rattle.demands_run.specs.Laws.Entries.{among-at, at-among, Brought, brought, brings, different}
+use Rattle.demands_run.specs.Laws.Entries.{Brought, brought, brings, different}
 
 -- ---- kinds
 

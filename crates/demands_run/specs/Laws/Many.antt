@@ -8,7 +8,7 @@ use native.Mathlib.Omega.{arith}
 use lib.ListN.{length, length-append, length-map}
 use Rattle.basis.specs.Lists.{Among, Distinct}
 use Rattle.plan.specs.declared.Plan.{Plan}
-use Rattle.times_combined.specs.Laws.Lists.{among-left, among-right, among-either, map-among, distinct-both, fewer}
+use Rattle.basis.specs.Laws.Lists.{among-left, among-right, among-either, map-among, distinct-both, fewer}
 use Rattle.run_window.specs.Window.{isFree, vacancies}
 use Rattle.run_window.specs.Tests.{by-test, unfree-held, held-unfree}
 use Rattle.run_window.specs.Places.{Holds, Once}

@@ -11,6 +11,8 @@ use lib.Dec.{ltb, eqb}
 use lib.ListN.{length, getD, replicate, length-append, length-map, length-replicate}
 use Rattle.basis.specs.Lists.{Among}
 use Rattle.basis.specs.Parts.{part}
+use Rattle.basis.specs.Inner.Tells.{Tells}
+use Rattle.basis.specs.Laws.Tells.{told-false, tells-iff}
 use Rattle.time.specs.Time.{horizon}
 use Rattle.time.specs.declared.Clock.{Clock}
 use Rattle.time.specs.declared.Specified.{Specified}
@@ -60,7 +62,6 @@ use Rattle.demands_theory.specs.Laws.Longest.{silent-before, within-none}
 use Rattle.demands_theory.specs.Laws.Replies.{not-going}
 use Rattle.demands_theory.specs.Laws.World.{old-position}
 use Rattle.demands_theory.specs.OfRun.{machine}
-use Rattle.activity.specs.Tells.{Tells, told-false, tells-iff}
 use Rattle.plan_limits.specs.Tells.{tells-ltb}
 use Rattle.demands_theory.specs.Machine.{Held}
 use Rattle.demands_theory.specs.Nodes.{Work}

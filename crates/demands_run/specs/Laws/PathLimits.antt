@@ -4,8 +4,9 @@ use mathlib.Core.Bool.{Bool, true, false, cond}
 use mathlib.Core.List.{List, [], _∷_, _++_}
 use mathlib.Core.Logic.{_⊎_, inl, inr}
 use Prim.Native.Nat.{ℕ, zero, suc}
+use Rattle.basis.specs.Inner.Tells.{Tells, holds, fails}
+use Rattle.basis.specs.Laws.Tells.{tells-iff}
 use Rattle.plan.specs.declared.Plan.{Plan}
-use Rattle.activity.specs.Tells.{Tells, holds, fails, tells-iff}
 use Rattle.automaton.specs.Next.{nextOf}
 use Rattle.automaton.specs.Rules.{MeetsAutomaton}
 use Rattle.automaton.specs.declared.Next.{Next}

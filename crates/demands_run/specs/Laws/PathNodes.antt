@@ -18,7 +18,7 @@ use Rattle.automaton.specs.declared.Next.{Next}
 use Rattle.times_combined.specs.Word.{size}
 use Rattle.times_combined.specs.Combined.{NotRelease, NotClaim, Nodes, Joined}
 use Rattle.times_combined.specs.Paths.{wordOf, Lawful}
-use Rattle.times_combined.specs.Laws.Lists.{among-left, among-right, among-either, among-map, map-among, distinct-both}
+use Rattle.basis.specs.Laws.Lists.{among-left, among-right, among-either, among-map, map-among, distinct-both, at-among}
 use Rattle.times_combined.specs.Laws.Shape.{node-place, sort}
 use Rattle.times.specs.declared.Schedule.{Schedule}
 use Rattle.times.specs.declared.Progress.{Progress}
@@ -37,7 +37,7 @@ use Rattle.demands_run.specs.Engine.{Settles, EngineLaws}
 use Rattle.demands_run.specs.Stands.{Stands}
 use Rattle.demands_run.specs.Laws.Silent.{silent-first}
 use Rattle.demands_run.specs.Laws.Taken.{size-is, next-state}
-use Rattle.demands_run.specs.Laws.Entries.{at-among, brought, brings, different}
+use Rattle.demands_run.specs.Laws.Entries.{brought, brings, different}
 use Rattle.demands_run.specs.Laws.Loaded.{work-working, working-work}
 use Rattle.demands_run.specs.Laws.Paths.{waits-goes}
 use Rattle.demands_run.specs.Laws.PathLimits.{on}

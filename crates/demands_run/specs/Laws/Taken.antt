@@ -21,7 +21,7 @@ use Rattle.times_combined.specs.Exec.{put}
 use Rattle.times_combined.specs.Paths.{stepOf, wordOf, Follows, Lawful}
 use Rattle.times_combined.specs.Laws.Exists.{extended}
 use Rattle.times_combined.specs.Laws.Instances.{Listing, listing-grows}
-use Rattle.times_combined.specs.Laws.Lists.{among-either, map-among}
+use Rattle.basis.specs.Laws.Lists.{among-either, map-among}
 use Rattle.times_combined.specs.Laws.Unique.{shape-of}
 use Rattle.times_combined.specs.Laws.Plans.{good-path}
 use Rattle.times.specs.Times.{at}

@@ -12,12 +12,12 @@ use lib.Seq.{getD-set-same, getD-set-other}
 use Rattle.basis.specs.Lists.{Among, Distinct}
 use Rattle.basis.specs.Parts.{part}
 use Rattle.times_combined.specs.Combined.{Ident, identity}
-use Rattle.times_combined.specs.Laws.Lists.{among-map}
+use Rattle.basis.specs.Laws.Lists.{among-map}
+use Rattle.basis.specs.Laws.Bools.{and-left, and-right}
 use Rattle.times.specs.Queues.{noInstance}
 use Rattle.times.specs.declared.Instance.{Instance}
 use Rattle.run_window.specs.Tests.{by-test}
 use Rattle.run_outcomes.specs.Told.{tell, isInstance, toldFrom}
-use Rattle.demands_run.specs.Laws.Bools.{and-left, and-right}
 use Rattle.demands_run.specs.Stands.{identOf}
 
 -- ---- parts of a list

@@ -8,6 +8,7 @@ use native.Mathlib.Omega.{arith}
 use lib.Dec.{ltb}
 use lib.ListN.{length, getD, set, length-set}
 use borrow.Author.Tests.{ltb-false}
+use Rattle.basis.specs.Laws.Bools.{and-left, and-right, and-false}
 use Rattle.time.specs.declared.Clock.{Clock}
 use Rattle.plan.specs.Plan.{outcomesOf, isFinal}
 use Rattle.plan.specs.declared.Kind.{Kind}
@@ -41,7 +42,6 @@ use Rattle.demands_theory.specs.Laws.Accounts.{no-report}
 use Rattle.demands_theory.specs.Laws.Replies.{not-going}
 use Rattle.demands_theory.specs.OfRun.{machine}
 use Rattle.demands_run.specs.Stands.{Accepted, Good}
-use Rattle.demands_run.specs.Laws.Bools.{and-left, and-right, and-false}
 use Rattle.demands_run.specs.Laws.Later.{tells-not, stuck-later, beyond-later, full-later, stands-later}
 use Rattle.demands_run.specs.Laws.Bounds.{entry-passes, entry-within, vacant-passes, run-passes, late-passes}
 

@@ -26,7 +26,7 @@ use Rattle.times_combined.specs.Accepted.{GoodWord}
 use Rattle.times_combined.specs.Exec.{emitsOf}
 use Rattle.times_combined.specs.Paths.{wordOf, Lawful}
 use Rattle.times_combined.specs.Laws.Instances.{Listing, listing-grows, instance-cut, next-instance, only-instance}
-use Rattle.times_combined.specs.Laws.Lists.{among-either, map-among}
+use Rattle.basis.specs.Laws.Lists.{among-either, map-among}
 use Rattle.times_combined.specs.Laws.Unique.{shape-of}
 use Rattle.times_combined.specs.Laws.Computed.{emits}
 use Rattle.times_combined.specs.Laws.Plans.{good-path}

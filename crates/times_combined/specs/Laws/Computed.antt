@@ -20,7 +20,7 @@ use Rattle.times_combined.specs.Accepted.{Good}
 use Rattle.times_combined.specs.Combined.{NotClaim}
 use Rattle.times_combined.specs.Engine.{State, raised, Available, Emits, Timed, latest, held}
 use Rattle.times_combined.specs.Exec.{rankOf, beginBy, begin, endBy, endOf, startOf, insert, emitsBelow, emitsOf, isRelease, releasedBelow}
-use Rattle.times_combined.specs.Laws.Lists.{among-right, among-either}
+use Rattle.basis.specs.Laws.Lists.{among-right, among-either}
 use Rattle.times_combined.specs.Laws.Shape.{release-same, event-same}
 use Rattle.times_combined.specs.Laws.Ranks.{rises}
 

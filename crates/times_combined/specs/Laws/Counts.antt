@@ -15,7 +15,7 @@ use Rattle.times_combined.specs.Word.{isEvent, emittedIn, emissions, Wor
 use Rattle.times_combined.specs.Accepted.{GoodWord, Enough, Counted}
 use Rattle.times_combined.specs.Combined.{Ident, named, Instance, processing, combined}
 use Rattle.times_combined.specs.Exec.{insert, emitsBelow, emitsOf, rankOf}
-use Rattle.times_combined.specs.Laws.Lists.{cut-same}
+use Rattle.basis.specs.Laws.Lists.{cut-same}
 use Rattle.times_combined.specs.Laws.Instances.{Listing, instance-cut, next-instance, listing-grows}
 use Rattle.times_combined.specs.Laws.TimesEqual.{empty-listing}
 use Rattle.times_combined.specs.Laws.Unique.{shape-of}

@@ -26,7 +26,7 @@ use Rattle.times_combined.specs.Engine.{Available, Trace, Stepped, Floor
 use Rattle.times_combined.specs.Laws.Shape.{Shape, completed-shape, sequenced-shape, right-release, node-place, claim-same}
 use Rattle.times_combined.specs.Laws.Joining.{Attained, Known, Floored, whole}
 use Rattle.times_combined.specs.Laws.OneActivity.{OneOf, latest-bound, latest-reached, engine-fresh}
-use Rattle.times_combined.specs.Laws.Lists.{head-same, nil-cons}
+use Rattle.basis.specs.Laws.Lists.{head-same, nil-cons}
 use Rattle.times_combined.specs.Laws.Instances.{Listing, next-instance, only-instance, listing-grows}
 use Rattle.activity.specs.Rules as Rules
 
