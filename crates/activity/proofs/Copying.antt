@@ -1,8 +1,7 @@
 -- An activity copied node by node. Assumes nothing.
 use mathlib.Core.Path.{_≡_, sym, ap, _∙_}
-use mathlib.Core.List.{List, [], _∷_, _++_}
-use Prim.Native.Nat.{ℕ, zero, suc, _+_, _-_, _*_, _<_}
-use native.Mathlib.Numerals.{add-one}
+use mathlib.Core.List.{List, _++_}
+use Prim.Native.Nat.{ℕ, suc, _+_, _-_, _*_, _<_}
 use native.Mathlib.Omega.{arith}
 use lib.ListN.{getD, set, replicate}
 use lib.Seq.{set-at, append-snoc}
@@ -11,7 +10,7 @@ use Rattle.basis.specs.Laws.Parts.{part-more}
 use Rattle.plan.specs.Plan.{pastNode}
 use Rattle.plan.specs.declared.Node.{Node}
 use Rattle.plan.specs.declared.Plan.{Plan}
-use Rattle.activity.specs.Copied.{emptyNode, filled, copied}
+use Rattle.activity.specs.Copied.{emptyNode, filled}
 
 pub filled-more : (p : Plan) (a n : ℕ) → n < 64 → set (filled p a n) n (getD (p .nodes) (64 * a + n) pastNode) ≡ filled p a (n + 1)
 filled-more p a n h =

@@ -1,5 +1,5 @@
 -- A word that is made node by node: with the mark of node m it marks the nodes below m + 1. Assumes nothing.
-use mathlib.Core.Path.{_≡_, refl, sym, subst}
+use mathlib.Core.Path.{_≡_, sym, subst}
 use mathlib.Core.Bool.{Bool, true}
 use mathlib.Core.Logic.{_⊎_, inl, inr, _↔_, ⊎-elim}
 use Prim.Native.Nat.{ℕ, _+_, _<_, _≤_}
@@ -8,7 +8,7 @@ use native.Mathlib.Omega.{arith}
 use Rattle.basis.specs.Laws.Tells.{is-true}
 use Rattle.activity.specs.Bits.{Bit, no-bit}
 use Rattle.activity.specs.Sight.{Marks}
-use Rattle.activity.specs.Tells.{Tells, holds, fails, told-true}
+use Rattle.activity.specs.Tells.{Tells, told-true}
 
 pub nothing-marked : (Q : ℕ → Type 0) → Marks 0 (λ j. (j < 0) × Q j)
 nothing-marked Q j = (λ b. absurd (no-bit j b), λ h. absurd (omega (arith, h .0)))

@@ -1,19 +1,16 @@
 -- A test tells whether a statement holds, and the tests of `Tests` tell what their names say.
-use mathlib.Core.Path.{_≡_, refl, sym, ap, subst}
-use mathlib.Core.Bool.{Bool, true, false, not, _&&_, _||_}
+use mathlib.Core.Path.{_≡_, refl, ap, subst}
+use mathlib.Core.Bool.{Bool, not}
 use mathlib.Core.List.{List, [], _∷_}
-use mathlib.Core.Logic.{_⊎_, inl, inr, _↔_, ⊎-elim}
-use Prim.Native.Nat.{ℕ, zero, suc, _<_}
-use native.Mathlib.Nat.{eq-or-lt-of-le, le-of-suc-le-suc}
+use mathlib.Core.Logic.{inl}
+use Prim.Native.Nat.{ℕ}
 use native.Mathlib.Omega.{arith}
-use borrow.Author.Tests.{eqb-true, eqb-false, not-true, not-false}
-use lib.Dec.{eqb}
 use Rattle.basis.specs.Lists.{Among}
 pub use Rattle.basis.specs.Inner.Tells.{Answer, Tells, holds, fails}
 pub use Rattle.basis.specs.Laws.Tells.{told, denied, told-true, told-false, granted, refuted, tells-iff, tells-not, tells-and, tells-or, tells-eqb}
 pub use Rattle.basis.specs.Laws.Every.{tells-every, tells-some}
 use Rattle.plan.specs.declared.Kind.{Kind}
-use Rattle.activity.specs.Tests.{every, some, implies, none, isAction, isClaim, isRelease, isEvent, ofAction, ofClaim, ofRelease, ofEvent}
+use Rattle.activity.specs.Tests.{implies, none, isAction, isClaim, isRelease, isEvent, ofAction, ofClaim, ofRelease, ofEvent}
 
 pub tells-implies : {b c : Bool} {P Q : Type 0} → Tells b P → Tells c Q → Tells (implies b c) (P → Q)
 tells-implies (holds p) (holds q) = holds (λ x. q)

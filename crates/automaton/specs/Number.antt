@@ -5,6 +5,7 @@ use Prim.Native.Nat.{ℕ, zero, suc, _+_, _-_, _*_}
 use lib.Dec.{eqb, leb, ltb}
 use lib.ListN.{set, replicate}
 unfoldable pub use Rattle.basis.specs.Tests.{falses}
+use Rattle.basis.specs.Tests.{flag}
 use Rattle.plan.specs.declared.Input.{Input}
 use Rattle.plan.specs.declared.Output.{Output}
 use Rattle.plan.specs.declared.Transition.{Transition}
@@ -16,7 +17,7 @@ use Rattle.plan.specs.Plan.{move, movesOf, isFinal, outcomesOf}
 use Rattle.automaton.specs.declared.Next.{Next}
 use Rattle.automaton.specs.declared.Chosen.{Chosen}
 use Rattle.automaton.specs.declared.Explored.{Explored}
-use Rattle.automaton.specs.Tests.{at, flag, pick, both, all}
+use Rattle.automaton.specs.Tests.{at, pick, both, all}
 use Rattle.automaton.specs.Rules.{takes, emits}
 use Rattle.automaton.specs.Next.{nextOf, chosenOf}
 

@@ -1,22 +1,23 @@
 -- What a pass over the transitions keeps, transition by transition, back from the final states and on from the initial state.
 use mathlib.Core.Path.{_≡_, refl, sym, ap, _∙_, subst}
 use mathlib.Core.Bool.{Bool, true, false}
-use mathlib.Core.List.{List, [], _∷_}
-use Prim.Native.Nat.{ℕ, zero, suc, _+_, _-_, _*_, _≤_, _<_}
+use mathlib.Core.List.{List}
+use Prim.Native.Nat.{ℕ, suc, _+_, _-_, _*_, _≤_, _<_}
 use native.Mathlib.Omega.{arith}
 use native.Mathlib.Decide.{ℕ-discrete}
 use borrow.Author.Count.{below-more}
 use lib.ListN.{length, set, replicate, length-set}
 use lib.Seq.{getD-set-same, getD-set-other, ext-getD}
-use Rattle.basis.specs.Laws.Flags.{falses-set, falses-length, kept, grown, no-flag}
+use Rattle.basis.specs.Laws.Flags.{falses-set, kept, grown, no-flag}
 use Rattle.basis.specs.Laws.Tells.{tells-same}
+use Rattle.basis.specs.Tests.{flag, falses}
+use Rattle.basis.specs.Inner.Tells.{Tells, holds, fails}
 use Rattle.plan.specs.declared.Input.{Input}
 use Rattle.plan.specs.declared.Output.{Output}
 use Rattle.plan.specs.declared.Automaton.{Automaton}
 use Rattle.plan.specs.Plan.{move, isFinal}
-use Rattle.automaton.specs.Tests.{at, flag, Tells, holds, fails, true-false}
+use Rattle.automaton.specs.Tests.{at, true-false}
 use Rattle.automaton.specs.Rules.{Path, none, more, ToFinal, takes}
-use Rattle.automaton.specs.Number.{falses}
 use Rattle.automaton.specs.Counts.{InRange, Witness, Ready, Known}
 
 -- ---- back from the final states

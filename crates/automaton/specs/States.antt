@@ -7,27 +7,18 @@ use native.Mathlib.Decide.{ℕ-discrete, decLt}
 use borrow.Author.Tests.{eqb-true, eqb-false}
 use lib.Dec.{eqb}
 use Rattle.basis.specs.Parts.{part}
-use Rattle.basis.specs.Laws.Tells.{tells-not}
+use Rattle.basis.specs.Laws.Tells.{tells-not, told-true, told-false, tells, tells-eqb}
+use Rattle.basis.specs.Inner.Tells.{Tells, holds, fails}
 use Rattle.plan.specs.declared.Input.{Input}
 use Rattle.plan.specs.declared.Automaton.{Automaton}
 use Rattle.plan.specs.Plan.{pastMove, move, isFinal}
 use Rattle.automaton.specs.declared.Next.{Next}
 use Rattle.automaton.specs.declared.Chosen.{Chosen}
-use Rattle.automaton.specs.Tests.{pick, both, all, Tells, holds, fails, told-true, told-false, tells, tells-eqb, both-tells, both-left, both-right, all-tells, true-false}
+use Rattle.automaton.specs.Tests.{pick, both, all, both-tells, both-left, both-right, all-tells, true-false}
 use Rattle.automaton.specs.Rules.{Leaves, Processes, NoWayOut, Branch, Branches, Serves}
 use Rattle.automaton.specs.Next.{onInput, nextFrom, nextOf, carries, chosenFrom, chosenOf}
 use Rattle.automaton.specs.Number.{isEnded, noWayOut, apart, apartFrom, branchesIn, branches, isMove, servesNext, serves}
-
--- ---- inputs
-
-pub unlike : {A : Type 0} {e o : ℕ} → Input.Nothing ≡ Input.Outcome e o → A
-unlike h = absurd (let z : _≡_ {A = ℕ} 0 1 = cc in omega arith)
-
-pub same-event : {e o f q : ℕ} → Input.Outcome e o ≡ Input.Outcome f q → e ≡ f
-same-event h = cc
-
-same-outcome : {e o f q : ℕ} → Input.Outcome e o ≡ Input.Outcome f q → o ≡ q
-same-outcome h = cc
+use Rattle.automaton.specs.Laws.Cases.{unlike, same-event, same-outcome}
 
 -- ---- what a state does next
 

@@ -11,13 +11,16 @@ use lib.Seq.{set-getD}
 use Rattle.basis.specs.Parts.{part}
 use Rattle.basis.specs.Laws.Flags.{falses-length}
 use Rattle.basis.specs.Laws.Lists.{all-same}
+use Rattle.basis.specs.Tests.{flag, falses}
+use Rattle.basis.specs.Inner.Tells.{Tells, holds}
+use Rattle.basis.specs.Laws.Tells.{told-true, told-false, tells-ltb}
 use Rattle.plan.specs.declared.Input.{Input}
 use Rattle.plan.specs.declared.Output.{Output}
 use Rattle.plan.specs.declared.Automaton.{Automaton}
 use Rattle.plan.specs.Plan.{pastMove, move, movesOf, isFinal}
 use Rattle.automaton.specs.declared.Explored.{Explored}
-use Rattle.automaton.specs.Tests.{at, flag, pick, both, Tells, holds, told-true, told-false, tells-ltb, true-false}
-use Rattle.automaton.specs.Number.{falses, again, finalsOf, passBack, toFinal, isReady, advanced, isNew, passOn, outset, explored}
+use Rattle.automaton.specs.Tests.{at, pick, both, true-false}
+use Rattle.automaton.specs.Number.{again, finalsOf, passBack, toFinal, isReady, advanced, isNew, passOn, outset, explored}
 use Rattle.automaton.specs.Counts.{InRange, Ready, Known, ready-takes}
 use Rattle.automaton.specs.Passes.{Backing, BackTo, back-starts, back-stay, back-round, back-store, back-ends, Advanced, advance-starts, advance-steps, Going, going-starts, going-stays, going-round, going-stores, going-ends}
 

@@ -1,5 +1,5 @@
 -- `author-numbers`: each number that the plan's author can cause, as a number, in its condition and in no other.
-use mathlib.Core.Path.{_≡_, refl, subst}
+use mathlib.Core.Path.{refl, subst}
 use mathlib.Core.Logic.{_↔_}
 use mathlib.Core.List.{List}
 use Prim.Native.Nat.{ℕ}

@@ -10,6 +10,8 @@ use lib.Dec.{ltb}
 use lib.ListN.{length, getD, set}
 use Rattle.basis.specs.Lists.{Among}
 use Rattle.basis.specs.Parts.{length-part}
+use Rattle.basis.specs.Laws.Lists.{among-either, among-at}
+use Rattle.basis.specs.Laws.Bools.{by-test}
 use Rattle.time.specs.declared.Clock.{Clock}
 use Rattle.plan.specs.Plan.{pastNode, sizeOf, outcomesOf, emittedBy, move}
 use Rattle.plan.specs.Limits.{InLimits, KindNames, OutputNames}
@@ -20,14 +22,13 @@ use Rattle.plan.specs.declared.Automaton.{Automaton}
 use Rattle.automaton.specs.Next.{nextOf, chosenOf}
 use Rattle.automaton.specs.declared.Next.{Next}
 use Rattle.automaton.specs.declared.Chosen.{Chosen}
-use Rattle.basis.specs.Laws.Lists.{among-either, among-at}
 use Rattle.times.specs.Engine.{lastPosition}
 use Rattle.times.specs.Queues.{noInstance, pendingOf, instanceOf}
 use Rattle.times.specs.Limits.{InstanceInLimits}
 use Rattle.times.specs.declared.Told.{Told}
 use Rattle.times.specs.declared.Progress.{Progress}
 use Rattle.run_window.specs.Window.{vacant, startedOf, isHeld, isStarted, isOverdue, isLate, isDue, isNode, startsBefore, endsBefore, placed, vacancies}
-use Rattle.run_window.specs.Tests.{by-test, overdue-tells, late-tells, due-tells, node-tells}
+use Rattle.run_window.specs.Tests.{overdue-tells, late-tells, due-tells, node-tells}
 use Rattle.run_window.specs.Order.{starts-order, ends-order}
 use Rattle.run_window.specs.Firsts.{First, by-first}
 use Rattle.run_window.specs.Places.{Holds, stored-only, cleared-only}

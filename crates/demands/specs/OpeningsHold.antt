@@ -9,13 +9,13 @@ use lib.Dec.{ltb, eqb}
 use borrow.Author.Tests.{ne-eqb}
 use lib.ListN.{length}
 use Rattle.basis.specs.Laws.Tells.{told-true, told-false, tells-eqb, by-tells, is-false}
+use Rattle.basis.specs.Laws.Bools.{by-test}
 use Rattle.time.specs.Time.{horizon}
 use Rattle.time.specs.declared.Clock.{Clock}
 use Rattle.plan.specs.Fault.{numberOf}
 use Rattle.plan.specs.declared.Fault.{Fault}
 use Rattle.plan.specs.declared.Verdict.{Verdict}
 use Rattle.judge.specs.Judge.{judgeOf}
-use Rattle.run_window.specs.Tests.{by-test}
 use Rattle.run.specs.Limits.{slackInLimits}
 use Rattle.run.specs.Loading.{load}
 use Rattle.run.specs.Numbers.{openNumber, openPlace}

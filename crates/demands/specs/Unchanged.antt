@@ -7,6 +7,7 @@ use Prim.Native.Nat.{ℕ}
 use lib.Dec.{ltb, eqb}
 use lib.ListN.{length}
 use Rattle.basis.specs.Laws.Bools.{by-cond}
+use Rattle.basis.specs.Tests.{every}
 use Rattle.time.specs.Time.{horizon}
 use Rattle.time.specs.declared.Clock.{Clock}
 use Rattle.plan.specs.Plan.{outcomesOf}
@@ -29,7 +30,6 @@ use Rattle.run.specs.declared.Opened.{Opened}
 use Rattle.judge.specs.Judge.{judgeOf}
 use Rattle.run.specs.Limits.{runInLimits, slackInLimits}
 use Rattle.automaton.specs.Next.{nextOf}
-use Rattle.activity.specs.Tests.{every}
 use Rattle.plan_limits.specs.Limits.{inLimits, partsInLimits, within, nodesInLimits, automatonInLimits}
 use Rattle.run.specs.Loading.{load, further, mostPending}
 use Rattle.run_outcomes.specs.Told.{toldOf}

@@ -1,6 +1,5 @@
 -- What holds of each case of a choice of the definitions holds of the choice.
 use mathlib.Core.Path.{_≡_, refl}
-use mathlib.Core.Bool.{Bool, true, false, cond}
 use Prim.Native.Nat.{ℕ}
 use native.Mathlib.Omega.{arith}
 use Rattle.automaton.specs.declared.Next.{Next}

@@ -8,14 +8,14 @@ use native.Mathlib.Omega.{arith}
 use borrow.Author.Tests.{eq-eqb, ne-eqb}
 use lib.ListN.{length}
 use lib.Dec.{eqb}
-use Rattle.basis.specs.Parts.{length-part, getD-part}
+use Rattle.basis.specs.Parts.{length-part}
 use Rattle.plan.specs.declared.Kind.{Kind}
 use Rattle.plan.specs.declared.Node.{Node}
 use Rattle.plan.specs.declared.Output.{Output}
 use Rattle.plan.specs.declared.Plan.{Plan}
-use Rattle.plan.specs.Plan.{pastNode, sizeOf, activityOf, emittedBy, resourceOf, move}
-use Rattle.plan.specs.Limits.{KindNames, InLimits, OutputNames, nodeAt}
-use Rattle.activity.specs.Rules.{node, Is}
+use Rattle.plan.specs.Plan.{pastNode, sizeOf, emittedBy, resourceOf, move}
+use Rattle.plan.specs.Limits.{KindNames, InLimits, OutputNames}
+use Rattle.activity.specs.Rules.{Is}
 use Rattle.times_combined.specs.Word.{size, times, emissions}
 use Rattle.times_combined.specs.Combined.{Ident, identity, combined}
 use Rattle.times_combined.specs.Times.{Timing}
@@ -23,7 +23,7 @@ use Rattle.times_combined.specs.Engine.{Run, endAt}
 use Rattle.times_combined.specs.Paths.{wordOf, Follows, Lawful}
 use Rattle.times_combined.specs.Theorems.{one-solution}
 use Rattle.times_combined.specs.Laws.TimesEqual.{Equal}
-use Rattle.times_combined.specs.Laws.Plans.{good-path, counted-path}
+use Rattle.times_combined.specs.Laws.Plans.{good-path, counted-path, node-is}
 use Rattle.times.specs.declared.Progress.{Progress}
 use Rattle.times.specs.declared.Schedule.{Schedule}
 use Rattle.times.specs.Times.{at, unscheduled}
@@ -91,8 +91,6 @@ module _ (p : Plan) (g : Progress) where
 -- ---- what a plan's limits give
 
 module _ (p : Plan) (limits : InLimits p) where
-  node-is : (a n : ℕ) → n < length (activityOf p a) → node (activityOf p a) n ≡ nodeAt p a n
-  node-is a n l = getD-part pastNode (p .nodes) (64 * a) (sizeOf p a) n (let u = length-part pastNode (p .nodes) (64 * a) (sizeOf p a) in omega arith)
 
   output-fits : (o : Output) → OutputNames p o → (length (emittedBy p o) ≤ 64) × ((n e : ℕ) → Is (emittedBy p o) n (Kind.Event e) → e < 16)
   output-fits Output.Empty h = (omega arith, λ n e i. absurd (let u = i .within in omega arith))
@@ -101,7 +99,7 @@ module _ (p : Plan) (limits : InLimits p) where
     λ n e i.
         (let u = length-part pastNode (p .nodes) (64 * a) (sizeOf p a) in
         let l = i .within in
-        let k : e < p .events = subst (KindNames p) (ap (λ (x : Node). x .kind) (sym (node-is a n (i .within))) ∙ i .kind) (limits .nodes a n h (omega arith) .names) in
+        let k : e < p .events = subst (KindNames p) (ap (λ (x : Node). x .kind) (sym (node-is p a n (i .within))) ∙ i .kind) (limits .nodes a n h (omega arith) .names) in
         let m = limits .events in
         omega arith),
   )

@@ -1,6 +1,6 @@
 -- One transition of an accepted plan, as the engine computes it, is a step as the theorems about the combined activity
 -- ask for: the processed instance, the times of the nodes, the availabilities, and the order of the emitted instances.
-use mathlib.Core.Path.{_≡_, refl, sym, ap, _∙_}
+use mathlib.Core.Path.{_≡_, refl, ap, _∙_}
 use mathlib.Core.Logic.{_⊎_, inl, inr}
 use mathlib.Core.List.{List, [], _∷_, _++_, map}
 use Prim.Native.Nat.{ℕ, _+_, _<_, max}

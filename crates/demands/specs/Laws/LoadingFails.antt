@@ -11,10 +11,10 @@ use lib.ListN.{length}
 use borrow.Author.Tests.{ltb-true, ltb-false, lt-ltb, le-ltb}
 use Rattle.basis.specs.Inner.Tells.{Tells, holds, fails}
 use Rattle.basis.specs.Laws.Tells.{told-true, told-false, is-false}
+use Rattle.basis.specs.Laws.Bools.{by-test}
 use Rattle.automaton.specs.Next.{nextOf}
 use Rattle.automaton.specs.declared.Next.{Next}
 use Rattle.run_window.specs.Window.{vacancies}
-use Rattle.run_window.specs.Tests.{by-test}
 use Rattle.run_path.specs.Path.{Path, takenBy, entriesBy, pathFrom, longestPath}
 use Rattle.run.specs.declared.Run.{Run}
 use Rattle.run.specs.declared.Failure.{Failure}

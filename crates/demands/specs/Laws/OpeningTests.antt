@@ -9,14 +9,13 @@ use native.Mathlib.Decide.{ℕ-discrete, decLt}
 use lib.Dec.{ltb}
 use lib.ListN.{length, getD}
 use Rattle.basis.specs.Inner.Tells.{Tells, holds, fails}
-use Rattle.basis.specs.Laws.Tells.{tells-iff, tells-and, tells-or, by-tells, is-false}
+use Rattle.basis.specs.Laws.Tells.{tells-iff, tells-and, tells-or, tells-ltb, tells-leb}
 use Rattle.time.specs.Time.{horizon}
 use Rattle.time.specs.declared.Clock.{Clock}
 use Rattle.plan.specs.Plan.{pastNode, activityOf}
 use Rattle.plan.specs.declared.Kind.{Kind}
 use Rattle.plan.specs.declared.Node.{Node}
 use Rattle.plan.specs.declared.Plan.{Plan}
-use Rattle.plan_limits.specs.Tells.{tells-ltb, tells-leb}
 use Rattle.run_path.specs.Path.{isWork}
 use Rattle.run.specs.Limits.{slackInLimits}
 use Rattle.run_opening.specs.declared.Short.{Short}

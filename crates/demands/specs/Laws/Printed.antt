@@ -10,6 +10,7 @@ use lib.ListN.{length, getD, drop, replicate, drop-of-length-le}
 use lib.Seq.{drop-cons}
 use Rattle.basis.specs.Inner.Tells.{Tells, holds, fails}
 use Rattle.basis.specs.Laws.Tells.{is-false}
+use Rattle.basis.specs.Laws.Lists.{all-same}
 use Rattle.time.specs.Time.{horizon}
 use Rattle.plan.specs.Plan.{isFinal, outcomesOf}
 use Rattle.plan.specs.Limits.{InputNames}
@@ -41,7 +42,7 @@ use Rattle.demands_run.specs.Laws.Taken.{size-is}
 use Rattle.timetable_turns.specs.Timetable.{Move, Takes, moveBy, tableFrom, positions}
 use Rattle.timetable_turns.specs.Timetable as T
 use Rattle.demands.specs.Laws.OpeningTests.{is-true}
-use Rattle.demands.specs.TimesEqual.{zeros-at, no-lengths}
+use Rattle.demands.specs.TimesEqual.{none-at}
 use Rattle.demands.specs.Timetables.{Steps, Walk, Closes}
 use Rattle.demands.specs.Laws.Leaving.{goes-next, chosen-is}
 use Rattle.demands.specs.Laws.Along as Along
@@ -54,9 +55,9 @@ none r = 0
 pub zeros : (p : Plan) → Opening none (atFirst (replicate 16 (specified 0)) (p .automaton .initial))
 zeros p = record {
   whole = record { available = refl; latest = refl; lengths = refl; pending = refl };
-  free = zeros-at 16;
-  last = zeros-at 16;
-  none = no-lengths 16;
+  free = none-at 16;
+  last = none-at 16;
+  none = λ e. all-same {A = ℕ} 16 e 0;
 }
 
 pub early : (r : ℕ) → none r ≤ horizon

@@ -1,12 +1,12 @@
 -- A run that is as it should be is in limits: none gets number 50.
 use mathlib.Core.Path.{_≡_, refl}
-use mathlib.Core.Bool.{Bool, true, _&&_}
+use mathlib.Core.Bool.{true}
 use mathlib.Core.List.{List, [], _∷_}
 use Prim.Native.Nat.{ℕ, suc, _≤_, _<_}
 use native.Mathlib.Omega.{arith}
 use lib.ListN.{getD}
-use Rattle.basis.specs.Inner.Tells.{Tells, holds, fails}
-use Rattle.basis.specs.Laws.Tells.{tells-iff, tells-and, told-true, is-true}
+use Rattle.basis.specs.Inner.Tells.{Tells}
+use Rattle.basis.specs.Laws.Tells.{tells-iff, tells-and, told-true, is-true, tells-ltb, tells-leb}
 use Rattle.basis.specs.Laws.Bools.{and-both}
 use Rattle.time.specs.Time.{horizon}
 use Rattle.time.specs.declared.Clock.{Clock}
@@ -18,7 +18,6 @@ use Rattle.run_window.specs.Window.{vacant, isHeld}
 use Rattle.run_window.specs.Tests.{held-unfree}
 use Rattle.run_window.specs.declared.Entry.{Entry}
 use Rattle.plan_limits.specs.Window.{entryInLimits, windowInLimits}
-use Rattle.plan_limits.specs.Tells.{tells-ltb, tells-leb}
 use Rattle.plan_limits.specs.Plans.{tells-in-limits}
 use Rattle.plan_limits.specs.Stored.{tells-progress}
 use Rattle.run.specs.Limits.{runInLimits, haltInLimits, stopInLimits}

@@ -1,5 +1,5 @@
 -- The entries that one transition brings: one for each action and event of its activity, by rising node numbers.
-use mathlib.Core.Path.{_≡_, refl, sym, ap, _∙_, subst}
+use mathlib.Core.Path.{_≡_, refl, ap, _∙_, subst}
 use mathlib.Core.Bool.{Bool, true, false, cond}
 use mathlib.Core.Logic.{inl, inr}
 use mathlib.Core.List.{List, [], _∷_}
@@ -8,7 +8,7 @@ use native.Mathlib.Omega.{arith}
 use native.Mathlib.Decide.{decLt}
 use lib.ListN.{length, getD}
 use Rattle.basis.specs.Lists.{Among}
-use Rattle.basis.specs.Laws.Lists.{among-at, at-among}
+use Rattle.basis.specs.Laws.Lists.{among-at}
 use Rattle.plan.specs.Plan.{pastNode}
 use Rattle.plan.specs.declared.Node.{Node}
 use Rattle.times.specs.declared.Schedule.{Schedule}

@@ -12,6 +12,7 @@ use lib.Dec.{ltb}
 use lib.ListN.{length}
 use Rattle.basis.specs.Inner.Tells.{Tells}
 use Rattle.basis.specs.Laws.Tells.{told-true, told-false}
+use Rattle.basis.specs.Laws.Bools.{by-test}
 use Rattle.time.specs.declared.Clock.{Clock}
 use Rattle.plan.specs.Plan.{move}
 use Rattle.plan.specs.declared.Input.{Input}
@@ -24,7 +25,6 @@ use Rattle.times.specs.Queues.{queueOf}
 use Rattle.times.specs.declared.Progress.{Progress}
 use Rattle.run_path.specs.Path.{Path, takenBy, pathFrom, longestPath}
 use Rattle.run_window.specs.Window.{placed, vacancies}
-use Rattle.run_window.specs.Tests.{by-test}
 use Rattle.run_window.specs.Places.{Holds}
 use Rattle.run_window.specs.declared.Entry.{Entry}
 use Rattle.run_outcomes.specs.Way.{wayOn}

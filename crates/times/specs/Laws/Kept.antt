@@ -152,7 +152,7 @@ module _ (E : ℕ) (outcomes : List ℕ) where
 
 -- ---- one transition
 
-beyond-told : (R size : ℕ) (end : List Specified) (g : Progress) → beyondOf R size end g ≡ false → (g .position ≤ lastPosition) × (aboveOf end 0 size ≡ false) × (aboveOf (g .available) 0 R ≡ false)
+pub beyond-told : (R size : ℕ) (end : List Specified) (g : Progress) → beyondOf R size end g ≡ false → (g .position ≤ lastPosition) × (aboveOf end 0 size ≡ false) × (aboveOf (g .available) 0 R ≡ false)
 unfolding beyondOf
 beyond-told R size end g e = go (ltb lastPosition (g .position)) refl (aboveOf end 0 size) refl e
   where

@@ -4,10 +4,10 @@ use mathlib.Core.Logic.{inl, inr}
 use mathlib.Core.List.{List, [], _∷_}
 use Prim.Native.Nat.{ℕ, zero, suc, _<_, max}
 use native.Mathlib.Omega.{arith}
-use native.Mathlib.Nat.{eq-or-lt-of-le, le-of-suc-le-suc}
 use native.Mathlib.Decide.{ℕ-discrete}
 use lib.ListN.{length}
 use Rattle.basis.specs.Lists.{Among, Distinct, one, more}
+use Rattle.basis.specs.Laws.Lists.{fewer, upto, among-upto, length-upto}
 use Rattle.plan.specs.declared.Node.{Node}
 use Rattle.plan.specs.Plan.{predecessors}
 use Rattle.activity.specs.Rules.{node, Arrow, Before}
@@ -15,7 +15,6 @@ use Rattle.times_combined.specs.Accepted.{Good}
 use Rattle.times_combined.specs.Engine.{latest}
 use Rattle.times_combined.specs.Exec.{depth, rankOf}
 use Rattle.times_combined.specs.Laws.OneActivity.{latest-bound}
-use Rattle.basis.specs.Laws.Lists.{fewer, upto, among-upto, length-upto}
 
 differ-pred : (C D : ℕ → ℕ) (ms : List ℕ) → (latest C ms ≡ latest D ms → ⊥) → (m : ℕ) × Among m ms × (C m ≡ D m → ⊥)
 differ-pred C D [] h = absurd (h refl)
