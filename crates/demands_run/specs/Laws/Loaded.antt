@@ -1,13 +1,11 @@
 -- What loading does to the window and the word: old entries stay, new ones are the nodes of the longer word; one transition at a
 -- time.
 use mathlib.Core.Path.{_≡_, refl, sym, ap, _∙_, subst}
-use mathlib.Core.Bool.{true, false, cond, true≢false}
+use mathlib.Core.Bool.{true, false, true≢false}
 use mathlib.Core.Logic.{_⊎_, inl, inr, ⊎-elim}
 use mathlib.Core.List.{List, _∷_}
 use Prim.Native.Nat.{ℕ, suc, _+_, _*_, _≤_, _<_}
 use native.Mathlib.Omega.{arith}
-use borrow.Author.Tests.{ltb-false}
-use lib.Dec.{ltb}
 use lib.ListN.{length, getD}
 use Rattle.basis.specs.Lists.{Among}
 use Rattle.basis.specs.Parts.{length-part}
@@ -29,7 +27,7 @@ use Rattle.times_combined.specs.Theorems.{plan-times-only, plan-run-equal}
 use Rattle.times_combined.specs.Laws.Shape.{node-place, sort}
 use Rattle.times_combined.specs.Engine.{startAt, endAt}
 use Rattle.times.specs.Times.{at}
-use Rattle.times.specs.Engine.{lastPosition, aboveOf, beyondOf, heldOf, closedOf, emitsOf, timedOf}
+use Rattle.times.specs.Engine.{lastPosition, beyondOf, heldOf, closedOf, emitsOf, timedOf}
 use Rattle.times.specs.Laws.Fits.{processed-position, left-position}
 use Rattle.times.specs.declared.Progress.{Progress}
 use Rattle.times.specs.declared.Schedule.{Schedule}
