@@ -10,7 +10,7 @@ pub mod TimesEqual
 -- Demand 3
 pub mod Demand3
 pub mod Demand3Holds
--- Promise 1 and the strength of the contracts
+-- Demand 1 and the strength of the contracts
 pub mod Promises
 pub mod Unchanged
 -- Each answer of an opening, in its condition and in no other

@@ -13,7 +13,8 @@ use Rattle.times.specs.Times.{specified, at}
 use Rattle.times_combined.specs.Engine.{startAt, endAt}
 use Rattle.times_combined.specs.Paths.{wordOf, Follows, Lawful}
 use Rattle.times_equal.specs.Words.{Opening, traceBy}
-use Rattle.times_equal.specs.Plans.{AtMostEight, progressAt, scheduleAt, plan-equal, plan-times, plan-free}
+use Rattle.times_equal.specs.Plans.{scheduleAt}
+use Rattle.times_equal.specs.Laws.Plans.{AtMostEight, progressAt, plan-equal, plan-times, plan-free}
 use Rattle.demands_theory.specs.TheWord.{stateAfter}
 use Rattle.demands_theory.specs.Laws.Next.{lawful, few-pending}
 use Rattle.plan_file.specs.HoldPlan.{plan-rules}

@@ -1,4 +1,4 @@
--- `refused-unchanged`, `stop-kept`, `stops-stay`, `refused-opening`, `zeros-get-50`: promise 1 of a run, from the order of
+-- `refused-unchanged`, `stop-kept`, `stops-stay`, `refused-opening`, `zeros-get-50`: demand 1 of a run, from the order of
 -- checks at a call. Every answer is right: a refused one has the run that came in, a stopped one a run that has this stop.
 use mathlib.Core.Path.{_≡_, refl, subst}
 use mathlib.Core.Bool.{Bool, true, false, cond, _||_}

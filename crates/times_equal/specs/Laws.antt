@@ -5,3 +5,4 @@ pub mod AllDone
 pub mod Events
 pub mod Queue
 pub mod Left
+pub mod Plans

@@ -28,7 +28,8 @@ use Rattle.times_combined.specs.Paths.{wordOf, Follows, Lawful}
 use Rattle.times_combined.specs.Accepted.{GoodWord}
 use Rattle.times_combined.specs.Laws.Plans.{good-path}
 use Rattle.times_equal.specs.Words.{Opening, traceBy}
-use Rattle.times_equal.specs.Plans.{AtMostEight, progressAfter, First, whole, later, times-at, stored-at as kept-at, plan-equal, plan-run, plan-times, plan-free, progressAt, scheduleAt}
+use Rattle.times_equal.specs.Plans.{progressAfter, scheduleAt}
+use Rattle.times_equal.specs.Laws.Plans.{AtMostEight, First, whole, later, times-at, stored-at as kept-at, plan-equal, plan-run, plan-times, plan-free, progressAt}
 use Rattle.run_opening.specs.Given.{atFirst}
 use Rattle.run_path.specs.Path.{isWork, loaded, entriesFrom, entriesBy, activityNumber}
 use Rattle.timetable_lines.specs.Lines.{rows, free}

@@ -29,7 +29,8 @@ use Rattle.times_combined.specs.Combined.{Ident}
 use Rattle.times_combined.specs.Times.{Timing}
 use Rattle.times_combined.specs.Paths.{wordOf, Lawful}
 use Rattle.times_equal.specs.Words.{Opening}
-use Rattle.times_equal.specs.Plans.{AtMostEight, progressAfter}
+use Rattle.times_equal.specs.Plans.{progressAfter}
+use Rattle.times_equal.specs.Laws.Plans.{AtMostEight}
 use Rattle.run_opening.specs.Given.{atFirst}
 use Rattle.run_path.specs.Path.{entriesBy}
 use Rattle.timetable_lines.specs.Lines.{rows, waiting, refused}

@@ -35,8 +35,8 @@ use Rattle.run.specs.declared.Failure.{Failure}
 use Rattle.run.specs.declared.Loading.{Loading}
 use Rattle.demands_log.specs.Log.{Id, Log, Reported, Told}
 use Rattle.demands_log.specs.ByCases.{by-way}
-use Rattle.demands_theory.specs.Machine.{idOf, Held}
-use Rattle.demands_theory.specs.Nodes.{Work, lengthOf}
+use Rattle.demands_theory.specs.Machine.{Held}
+use Rattle.demands_theory.specs.Nodes.{Work, lengthOf, idOf}
 use Rattle.demands_theory.specs.TheWord.{wholeOf}
 use Rattle.demands_theory.specs.Loading.{NextPath, PathBeyond, Unreported, EndsAt, whole, beyond, full, Loads, ends}
 use Rattle.demands_theory.specs.Laws.Growth.{Tail}

@@ -39,13 +39,13 @@ use Rattle.run.specs.Limits.{haltInLimits}
 use Rattle.run.specs.declared.Loading.{Loading}
 use Rattle.demands_log.specs.Log.{Id, Log, Always, said, Accepts, Reports, Reported, StoppedIn}
 use Rattle.demands_log.specs.Log as Log
-use Rattle.demands_theory.specs.Machine.{World, idOf, Held}
+use Rattle.demands_theory.specs.Machine.{World, Held}
 use Rattle.demands_theory.specs.Way.{learns, Agrees, haltOf, replyOf}
 use Rattle.demands_theory.specs.Way as Way
 use Rattle.demands_theory.specs.Loading.{Unreported, EndsAt, whole, beyond, full, Loads}
 use Rattle.demands_theory.specs.Laws.Accounts.{always-map}
 use Rattle.demands_theory.specs.OfPlan.{worldOf}
-use Rattle.demands_theory.specs.Nodes.{whose, lengthOf}
+use Rattle.demands_theory.specs.Nodes.{whose, lengthOf, idOf}
 use Rattle.demands_theory.specs.TheWord.{stateAfter, nextAfter, wholeOf, Oldest, Stuck, ended, waits}
 use Rattle.demands_theory.specs.Laws.Invariant.{Invariant}
 use Rattle.demands_theory.specs.Laws.Growth.{here, extends-self}

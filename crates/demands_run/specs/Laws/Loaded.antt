@@ -39,9 +39,9 @@ use Rattle.run_window.specs.Placed.{Took, placed-length, placed-kept, placed-ho
 use Rattle.run_window.specs.declared.Entry.{Entry}
 use Rattle.plan_limits.specs.Window.{entryInLimits}
 use Rattle.demands_log.specs.Log.{Id, id, Log}
-use Rattle.demands_theory.specs.Machine.{World, idOf, Held}
+use Rattle.demands_theory.specs.Machine.{World, Held}
 use Rattle.demands_theory.specs.Way.{Agrees, Extends}
-use Rattle.demands_theory.specs.Nodes.{whose, Working, lengthOf, EmitsAt, here}
+use Rattle.demands_theory.specs.Nodes.{whose, Working, lengthOf, EmitsAt, here, idOf}
 use Rattle.demands_theory.specs.TheWord.{stateAfter, Takes}
 use Rattle.demands_theory.specs.OfPlan.{worldOf}
 use Rattle.demands_theory.specs.Laws.TheWord.{takes-follows}

@@ -15,8 +15,8 @@ use Rattle.run_window.specs.Tests.{unfree-held, held-unfree}
 use Rattle.run_window.specs.Places.{Holds, Once}
 use Rattle.run_window.specs.declared.Entry.{Entry}
 use Rattle.demands_log.specs.Log.{Id, Log, Reported}
-use Rattle.demands_theory.specs.Machine.{idOf, Held}
-use Rattle.demands_theory.specs.Nodes.{Work, lengthOf}
+use Rattle.demands_theory.specs.Machine.{Held}
+use Rattle.demands_theory.specs.Nodes.{Work, lengthOf, idOf}
 use Rattle.demands_theory.specs.TheWord.{wholeOf}
 use Rattle.demands_theory.specs.Loading.{Unreported, TooMany}
 use Rattle.demands_run.specs.Laws.PathNodes.{Brings}

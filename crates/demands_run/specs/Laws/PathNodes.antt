@@ -28,8 +28,7 @@ use Rattle.run_path.specs.Path.{Path, isWork, loaded, activityNumber, takenBy, 
 use Rattle.run_window.specs.Window.{vacant}
 use Rattle.run_window.specs.declared.Entry.{Entry}
 use Rattle.demands_log.specs.Log.{Id, id, Log}
-use Rattle.demands_theory.specs.Machine.{idOf}
-use Rattle.demands_theory.specs.Nodes.{whose, Working, Work, lengthOf}
+use Rattle.demands_theory.specs.Nodes.{whose, Working, Work, lengthOf, idOf}
 use Rattle.demands_theory.specs.TheWord.{stateAfter, nextAfter, wholeOf, Rests, Takes, goes}
 use Rattle.demands_theory.specs.Loading.{Silently, stays}
 use Rattle.demands_theory.specs.Laws.TheWord.{takes-follows}
