@@ -39,7 +39,7 @@ use Rattle.run_opening.specs.Short.{onShort, shortFrom}
 use Rattle.run_opening.specs.Given.{anyAbove, atFirst, availabilities}
 use Rattle.run.specs.Opening.{openOf, openJudged, openPlan, afterFirst, zeroRun, fresh}
 use Rattle.demands_log.specs.ByCases.{by-found, by-halt}
-use Rattle.demands.specs.Promises.{StatementRefusedUnchanged, StatementStopKept, StatementStopsStay, StatementRefusedOpening, StatementZerosGet50}
+use Rattle.demands.specs.Demand1.{StatementRefusedUnchanged, StatementStopKept, StatementStopsStay, StatementRefusedOpening, StatementZerosGet50}
 
 -- ---- by cases
 
