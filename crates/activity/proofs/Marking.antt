@@ -1,20 +1,17 @@
 -- A word that is made node by node: with the mark of node m it marks the nodes below m + 1. Assumes nothing.
-use mathlib.Core.Path.{_≡_, refl, sym, subst}
+use mathlib.Core.Path.{_≡_, sym, subst}
 use mathlib.Core.Bool.{Bool, true}
 use mathlib.Core.Logic.{_⊎_, inl, inr, _↔_, ⊎-elim}
 use Prim.Native.Nat.{ℕ, _+_, _<_, _≤_}
 use native.Mathlib.Nat.{eq-or-lt-of-le}
 use native.Mathlib.Omega.{arith}
+use Rattle.basis.specs.Laws.Tells.{is-true}
 use Rattle.activity.specs.Bits.{Bit, no-bit}
 use Rattle.activity.specs.Sight.{Marks}
-use Rattle.activity.specs.Tells.{Tells, holds, fails, told-true}
+use Rattle.activity.specs.Tells.{Tells, told-true}
 
 pub nothing-marked : (Q : ℕ → Type 0) → Marks 0 (λ j. (j < 0) × Q j)
 nothing-marked Q j = (λ b. absurd (no-bit j b), λ h. absurd (omega (arith, h .0)))
-
-is-true : {b : Bool} {P : Type 0} → Tells b P → P → b ≡ true
-is-true (holds p) q = refl
-is-true (fails n) q = absurd (n q)
 
 pub one-more-marked :
     (Q : ℕ → Type 0) (w v m : ℕ) {b : Bool} → Tells b (Q m) → Marks w (λ j. (j < m) × Q j)

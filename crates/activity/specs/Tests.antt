@@ -1,23 +1,14 @@
 -- Tests over numbers and over the kinds of nodes, and the word of the nodes before a node: the parts of `faultOf`.
 use mathlib.Core.List.{List, [], _∷_, map}
-use mathlib.Core.Bool.{Bool, true, false, cond, _&&_, _||_}
+use mathlib.Core.Bool.{Bool, true, false, cond}
 use Prim.Native.Nat.{ℕ, zero, suc, _+_, _/_, _%_, _^_}
 use lib.ListN.{length, getD}
 use lib.Dec.{eqb}
 use lib.Bits.{bitOr}
+unfoldable pub use Rattle.basis.specs.Tests.{every, some}
 use Rattle.plan.specs.Plan.{predecessors}
 use Rattle.plan.specs.declared.Kind.{Kind}
 use Rattle.plan.specs.declared.Node.{Node}
-
--- every number below n passes
-unfoldable pub every : ℕ → (ℕ → Bool) → Bool
-every zero f = true
-every (suc n) f = f n && every n f
-
--- some number below n passes
-unfoldable pub some : ℕ → (ℕ → Bool) → Bool
-some zero f = false
-some (suc n) f = f n || some n f
 
 -- where the first holds, the second does
 abbrev pub implies : Bool → Bool → Bool

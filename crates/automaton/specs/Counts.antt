@@ -8,12 +8,13 @@ use native.Mathlib.Omega.{arith}
 use native.Mathlib.Decide.{decLt}
 use borrow.Author.Tests.{eqb-true, eq-eqb}
 use lib.Dec.{eqb}
+use Rattle.basis.specs.Tests.{flag}
 use Rattle.plan.specs.declared.Input.{Input}
 use Rattle.plan.specs.declared.Output.{Output}
 use Rattle.plan.specs.declared.Transition.{Transition}
 use Rattle.plan.specs.declared.Automaton.{Automaton}
 use Rattle.plan.specs.Plan.{move, isFinal}
-use Rattle.automaton.specs.Tests.{at, flag}
+use Rattle.automaton.specs.Tests.{at}
 use Rattle.automaton.specs.Rules.{Leaves, Path, none, more, ToFinal, EveryState, one, takes, processed, emitted, Breaks25, unemitted, leftover, Breaks26}
 
 -- ---- what the limits of a plan say of its automaton

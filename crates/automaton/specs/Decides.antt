@@ -6,6 +6,8 @@ use native.Mathlib.Omega.{arith}
 use native.Mathlib.Decide.{decLt}
 use borrow.Author.Tests.{ltb-true, ltb-false}
 use lib.Dec.{ltb}
+use Rattle.basis.specs.Tests.{flag}
+use Rattle.basis.specs.Inner.Tells.{Tells}
 use Rattle.plan.specs.declared.Output.{Output}
 use Rattle.plan.specs.declared.Automaton.{Automaton}
 use Rattle.plan.specs.declared.Plan.{Plan}
@@ -13,7 +15,7 @@ use Rattle.plan.specs.declared.Fault.{Fault}
 use Rattle.plan.specs.declared.Verdict.{Verdict}
 use Rattle.plan.specs.Plan.{outcomesOf, move}
 use Rattle.plan.specs.Limits.{InLimits}
-use Rattle.automaton.specs.Tests.{flag, pick, Tells}
+use Rattle.automaton.specs.Tests.{pick}
 use Rattle.automaton.specs.Rules.{Rule21, Rule22, Rule23, Rule24, NoWayOut, Branches, Serves, ToFinal, EveryState, EmittedFirst, NoneLeft, AtMostEight, processed, emitted, emits, MeetsAutomaton, LowestAtFault, Breaks25, unemitted, leftover, Breaks26, Judges, number21, number22, number23, number24, number25, number26, accepted}
 use Rattle.automaton.specs.Number.{lowest, noWayOut, branches, serves, toFinal, pathVerdict, orElse, wayVerdict, stateVerdict, automatonVerdict}
 use Rattle.automaton.specs.Counts.{InRange, Bounded}

@@ -3,6 +3,7 @@ use mathlib.Core.Path.{_≡_, refl}
 use mathlib.Core.List.{List, [], _∷_, _++_, map}
 use Prim.Native.Nat.{ℕ, zero, suc, _+_, _^_}
 use lib.ListN.{length, replicate}
+use Rattle.basis.specs.Tests.{falses}
 use Rattle.plan.specs.declared.Kind.{Kind}
 use Rattle.plan.specs.declared.Node.{Node}
 use Rattle.plan.specs.declared.Input.{Input}
@@ -15,7 +16,7 @@ use Rattle.plan.specs.declared.Verdict.{Verdict}
 use Rattle.plan.specs.Plan.{pastNode}
 use Rattle.automaton.specs.Tests.{both, all}
 use Rattle.automaton.specs.Next.{nextFrom, chosenFrom}
-use Rattle.automaton.specs.Number.{automatonVerdict, stateVerdict, wayVerdict, pathVerdict, judgeCounts, lowest, noWayOut, apartFrom, branchesIn, serves, falses, finalsOf, passBack, again, advanced, passOn}
+use Rattle.automaton.specs.Number.{automatonVerdict, stateVerdict, wayVerdict, pathVerdict, judgeCounts, lowest, noWayOut, apartFrom, branchesIn, serves, finalsOf, passBack, again, advanced, passOn}
 
 nodesT : List Node
 nodesT =

@@ -6,16 +6,16 @@ use mathlib.Core.Logic.{_⊎_, inl, inr}
 use Prim.Native.Nat.{ℕ, suc, _+_, _≤_, _<_}
 use native.Mathlib.Omega.{arith}
 use lib.ListN.{length, set, replicate, length-set}
+use Rattle.basis.specs.Laws.Flags.{falses-set, grown, no-flag}
+use Rattle.basis.specs.Tests.{flag, falses}
 use Rattle.plan.specs.declared.Automaton.{Automaton}
 use Rattle.plan.specs.declared.Plan.{Plan}
 use Rattle.plan.specs.Plan.{move}
 use Rattle.plan.specs.Limits.{InLimits}
 use Rattle.automaton.specs.declared.Next.{Next}
-use Rattle.automaton.specs.Tests.{flag, true-false}
+use Rattle.automaton.specs.Tests.{true-false}
 use Rattle.automaton.specs.Rules.{Leaves, Path, none, more, MeetsAutomaton}
 use Rattle.automaton.specs.Next.{nextOf}
-use Rattle.automaton.specs.Number.{falses}
-use Rattle.automaton.specs.Passes.{falses-set, grown, no-flag}
 use Rattle.automaton.specs.Later.{Stops, ends, awaits, Goes, stay, go, final-ends, goes-only, no-further}
 
 -- a path of n transitions that meets no state twice; D flags those that it meets

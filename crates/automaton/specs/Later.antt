@@ -15,7 +15,8 @@ use Rattle.automaton.specs.declared.Next.{Next}
 use Rattle.automaton.specs.declared.Chosen.{Chosen}
 use Rattle.automaton.specs.Rules.{Leaves, Processes, Path, none, more, emits, pending, MeetsAutomaton}
 use Rattle.automaton.specs.Next.{nextOf, chosenOf}
-use Rattle.automaton.specs.States.{NextIs, ended, goes, waits, next-is, ChosenIs, nothing, moves, chosen-is, unlike, same-event}
+use Rattle.automaton.specs.States.{NextIs, ended, goes, waits, next-is, ChosenIs, nothing, moves, chosen-is}
+use Rattle.automaton.specs.Laws.Cases.{goes-same, ended-goes, waits-goes, unlike, same-event}
 
 -- "A waiting state is any state whose transitions carry an event."
 abbrev pub Waiting : Automaton → ℕ → ℕ → Type 0
@@ -30,15 +31,6 @@ pub data Stops (a : Automaton) (s : ℕ) : Type 0 where
 pub data Goes (a : Automaton) (s : ℕ) : ℕ → ℕ → Type 0 where
   stay : Goes a s 0 s
   go : {n q i r : ℕ} → Goes a s n q → nextOf a q ≡ Next.Goes i → move a i .to ≡ r → Goes a s (suc n) r
-
-goes-not-ended : {A : Type 0} {i : ℕ} → Next.Ended ≡ Next.Goes i → A
-goes-not-ended h = absurd (let z : _≡_ {A = ℕ} 0 1 = cc in omega arith)
-
-goes-not-waits : {A : Type 0} {e i : ℕ} → Next.Waits e ≡ Next.Goes i → A
-goes-not-waits h = absurd (let z : _≡_ {A = ℕ} 0 1 = cc in omega arith)
-
-same-goes : {i j : ℕ} → Next.Goes i ≡ Next.Goes j → i ≡ j
-same-goes h = cc
 
 -- a path ends where it starts, or its start has a way out
 way-out : {a : Automaton} {s q : ℕ} → Path a s q → (s ≡ q) ⊎ ((i : ℕ) × Leaves a s i)
@@ -127,12 +119,12 @@ module _ (p : Plan) (limits : InLimits p) (m : MeetsAutomaton p) where
       walk zero stay stay = refl
       walk (suc n) (go c h t) (go d k u) =
           let x = walk n c d in
-          let y = same-goes (sym h ∙ ap (nextOf a) x ∙ k) in
+          let y = goes-same (sym h ∙ ap (nextOf a) x ∙ k) in
           sym t ∙ ap (λ (z : ℕ). move a z .to) y ∙ u
 
   stuck : {s i : ℕ} {A : Type 0} → nextOf a s ≡ Next.Goes i → Stops a s → A
-  stuck h (ends e) = goes-not-ended (sym e ∙ h)
-  stuck h (awaits w) = goes-not-waits (sym w ∙ h)
+  stuck h (ends e) = ended-goes (sym e ∙ h)
+  stuck h (awaits w) = waits-goes (sym w ∙ h)
 
   -- and none past a waiting or final state
   pub no-further : {s n r : ℕ} → Goes a s n r → Stops a r → {k q : ℕ} → Goes a s k q → k ≤ n

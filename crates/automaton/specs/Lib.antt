@@ -15,3 +15,4 @@ pub mod Decides
 pub mod Scan
 pub mod Later
 pub mod Halts
+pub mod Laws

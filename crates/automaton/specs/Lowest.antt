@@ -4,8 +4,10 @@ use mathlib.Core.Bool.{Bool, true, false}
 use Prim.Native.Nat.{ℕ, zero, suc, _+_, _-_, _≤_, _<_}
 use native.Mathlib.Omega.{arith}
 use native.Mathlib.Decide.{ℕ-discrete, decLt}
+use Rattle.basis.specs.Inner.Tells.{Tells}
+use Rattle.basis.specs.Laws.Tells.{told-true, told-false}
 use Rattle.plan.specs.declared.Automaton.{Automaton}
-use Rattle.automaton.specs.Tests.{pick, Tells, told-true, told-false}
+use Rattle.automaton.specs.Tests.{pick}
 use Rattle.automaton.specs.Rules.{EveryState, LowestAtFault}
 use Rattle.automaton.specs.Number.{lowest}
 

@@ -4,6 +4,8 @@ use mathlib.Core.List.{List, [], _∷_}
 use Prim.Native.Nat.{ℕ, zero, suc, _+_, _-_, _*_}
 use lib.Dec.{eqb, leb, ltb}
 use lib.ListN.{set, replicate}
+unfoldable pub use Rattle.basis.specs.Tests.{falses}
+use Rattle.basis.specs.Tests.{flag}
 use Rattle.plan.specs.declared.Input.{Input}
 use Rattle.plan.specs.declared.Output.{Output}
 use Rattle.plan.specs.declared.Transition.{Transition}
@@ -15,7 +17,7 @@ use Rattle.plan.specs.Plan.{move, movesOf, isFinal, outcomesOf}
 use Rattle.automaton.specs.declared.Next.{Next}
 use Rattle.automaton.specs.declared.Chosen.{Chosen}
 use Rattle.automaton.specs.declared.Explored.{Explored}
-use Rattle.automaton.specs.Tests.{at, flag, pick, both, all}
+use Rattle.automaton.specs.Tests.{at, pick, both, all}
 use Rattle.automaton.specs.Rules.{takes, emits}
 use Rattle.automaton.specs.Next.{nextOf, chosenOf}
 
@@ -79,12 +81,6 @@ abbrev pub rounds : {X : Type 0} → (X → X) → (X → ℕ) → ℕ → X →
 rounds pass left n x = again pass left n x (pass x)
 
 -- ---- 24: back from the final states
-
--- how many flags do not stand
-unfoldable pub falses : List Bool → ℕ
-falses [] = 0
-falses (true ∷ D) = falses D
-falses (false ∷ D) = suc (falses D)
 
 -- which of the n states are final
 unfoldable pub finalsOf : Automaton → ℕ → ℕ → List Bool

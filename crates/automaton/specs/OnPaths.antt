@@ -5,6 +5,9 @@ use mathlib.Core.List.{List}
 use Prim.Native.Nat.{ℕ, _+_, _*_, _≤_, _<_}
 use native.Mathlib.Omega.{arith}
 use lib.Dec.{eqb, leb}
+use Rattle.basis.specs.Tests.{flag}
+use Rattle.basis.specs.Inner.Tells.{Tells}
+use Rattle.basis.specs.Laws.Tells.{told-true, told-false, tells, tells-eqb, tells-leb}
 use Rattle.plan.specs.declared.Output.{Output}
 use Rattle.plan.specs.declared.Transition.{Transition}
 use Rattle.plan.specs.declared.Automaton.{Automaton}
@@ -12,7 +15,7 @@ use Rattle.plan.specs.declared.Fault.{Fault}
 use Rattle.plan.specs.declared.Verdict.{Verdict}
 use Rattle.plan.specs.Plan.{move, isFinal}
 use Rattle.automaton.specs.declared.Explored.{Explored}
-use Rattle.automaton.specs.Tests.{at, flag, pick, both, all, Tells, told-true, told-false, tells, tells-eqb, tells-leb, both-tells, both-left, both-right, all-true, all-false, true-false}
+use Rattle.automaton.specs.Tests.{at, pick, both, all, both-tells, both-left, both-right, all-true, all-false, true-false}
 use Rattle.automaton.specs.Rules.{Path, none, more, ToFinal, EveryState, takes, emitted, Breaks25, unemitted, leftover, Breaks26}
 use Rattle.automaton.specs.Number.{explored, fits, keepsMove, keeps, clear, few, judgeCounts, pathVerdict}
 use Rattle.automaton.specs.Counts.{InRange, Bounded, Known, Keeps, Kept, Clash, Left, Crowd, not-25, crowd-of, crowd-26, left-25, clash-25}

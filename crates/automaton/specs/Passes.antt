@@ -1,50 +1,24 @@
 -- What a pass over the transitions keeps, transition by transition, back from the final states and on from the initial state.
 use mathlib.Core.Path.{_≡_, refl, sym, ap, _∙_, subst}
 use mathlib.Core.Bool.{Bool, true, false}
-use mathlib.Core.List.{List, [], _∷_}
-use Prim.Native.Nat.{ℕ, zero, suc, _+_, _-_, _*_, _≤_, _<_}
+use mathlib.Core.List.{List}
+use Prim.Native.Nat.{ℕ, suc, _+_, _-_, _*_, _≤_, _<_}
 use native.Mathlib.Omega.{arith}
 use native.Mathlib.Decide.{ℕ-discrete}
 use borrow.Author.Count.{below-more}
 use lib.ListN.{length, set, replicate, length-set}
 use lib.Seq.{getD-set-same, getD-set-other, ext-getD}
+use Rattle.basis.specs.Laws.Flags.{falses-set, kept, grown, no-flag}
+use Rattle.basis.specs.Laws.Tells.{tells-same}
+use Rattle.basis.specs.Tests.{flag, falses}
+use Rattle.basis.specs.Inner.Tells.{Tells, holds, fails}
 use Rattle.plan.specs.declared.Input.{Input}
 use Rattle.plan.specs.declared.Output.{Output}
 use Rattle.plan.specs.declared.Automaton.{Automaton}
 use Rattle.plan.specs.Plan.{move, isFinal}
-use Rattle.automaton.specs.Tests.{at, flag, Tells, true-false, tells-same}
+use Rattle.automaton.specs.Tests.{at, true-false}
 use Rattle.automaton.specs.Rules.{Path, none, more, ToFinal, takes}
-use Rattle.automaton.specs.Number.{falses}
 use Rattle.automaton.specs.Counts.{InRange, Witness, Ready, Known}
-
--- ---- one more flag
-
-pub falses-set : (D : List Bool) (i : ℕ) → i < length D → flag D i ≡ false → suc (falses (set D i true)) ≡ falses D
-unfolding falses
-falses-set [] i l f = absurd (omega arith)
-falses-set (true ∷ D) zero l f = absurd (true-false f)
-falses-set (false ∷ D) zero l f = refl
-falses-set (true ∷ D) (suc i) l f = falses-set D i (omega arith) f
-falses-set (false ∷ D) (suc i) l f = ap suc (falses-set D i (omega arith) f)
-
-pub falses-length : (D : List Bool) → falses D ≤ length D
-unfolding falses
-falses-length [] = omega arith
-falses-length (true ∷ D) = omega (arith, falses-length D)
-falses-length (false ∷ D) = omega (arith, falses-length D)
-
--- a flag that stands stays
-kept : (D : List Bool) (i p : ℕ) → flag D i ≡ false → flag D p ≡ true → flag (set D i true) p ≡ true
-kept D i p f h = getD-set-other D i p true false (λ e. true-false (sym h ∙ ap (flag D) e ∙ f)) ∙ h
-
--- what holds at i, and wherever a flag stood, holds wherever one stands
-pub grown : (P : ℕ → Type 0) (D : List Bool) (i : ℕ) → P i → ((s : ℕ) → flag D s ≡ true → P s) → (s : ℕ) → flag (set D i true) s ≡ true → P s
-grown P D i here old s h = elim (ℕ-discrete s i) [ yes e ↦ subst P (sym e) here | no ne ↦ old s (sym (getD-set-other D i s true false ne) ∙ h) ]
-
-pub no-flag : (n k : ℕ) → flag (replicate n false) k ≡ false
-no-flag zero k = refl
-no-flag (suc n) zero = refl
-no-flag (suc n) (suc k) = no-flag n k
 
 -- ---- back from the final states
 
@@ -63,7 +37,7 @@ pub record BackTo (a : Automaton) (E : List Bool) : Type 0 where
   pub tells : (s : ℕ) → s < 64 → Tells (flag E s) (ToFinal a s)
 
 pub same-back : (a : Automaton) (D E : List Bool) → BackTo a D → BackTo a E → D ≡ E
-same-back a D E b c = ext-getD false D E (b .long ∙ sym (c .long)) (λ s l. tells-same (ToFinal a s) (b .tells s (omega (arith, b .long))) (c .tells s (omega (arith, b .long))))
+same-back a D E b c = ext-getD false D E (b .long ∙ sym (c .long)) (λ s l. tells-same (b .tells s (omega (arith, b .long))) (c .tells s (omega (arith, b .long))))
 
 pub back-starts : (a : Automaton) (F : List Bool) → length F ≡ 64 → ((s : ℕ) → s < 64 → flag F s ≡ isFinal a s) → Backing a F 0 F false
 back-starts a F l h = record {
@@ -132,8 +106,8 @@ module _ (a : Automaton) (ok : InRange a) where
           back w (subst (λ (x : ℕ). flag E x ≡ true) (k .from) (b .closed refl i (k .low) (subst (λ (x : ℕ). flag E x ≡ true) (sym t) h)))
 
       go : (s : ℕ) → s < 64 → (x : Bool) → flag E s ≡ x → Tells x (ToFinal a s)
-      go s l true h = b .sound s l h
-      go s l false h = λ z. true-false (sym (back (z .way) (b .finals (z .end) (path-low (z .way) l) (z .final))) ∙ h)
+      go s l true h = holds (b .sound s l h)
+      go s l false h = fails (λ z. true-false (sym (back (z .way) (b .finals (z .end) (path-low (z .way) l) (z .final))) ∙ h))
 
 -- ---- the counts of one state
 

@@ -7,26 +7,18 @@ use native.Mathlib.Decide.{ℕ-discrete, decLt}
 use borrow.Author.Tests.{eqb-true, eqb-false}
 use lib.Dec.{eqb}
 use Rattle.basis.specs.Parts.{part}
+use Rattle.basis.specs.Laws.Tells.{tells-not, told-true, told-false, tells, tells-eqb}
+use Rattle.basis.specs.Inner.Tells.{Tells, holds, fails}
 use Rattle.plan.specs.declared.Input.{Input}
 use Rattle.plan.specs.declared.Automaton.{Automaton}
 use Rattle.plan.specs.Plan.{pastMove, move, isFinal}
 use Rattle.automaton.specs.declared.Next.{Next}
 use Rattle.automaton.specs.declared.Chosen.{Chosen}
-use Rattle.automaton.specs.Tests.{pick, both, all, Tells, told-true, told-false, tells, tells-eqb, both-tells, both-left, both-right, all-tells, true-false}
+use Rattle.automaton.specs.Tests.{pick, both, all, both-tells, both-left, both-right, all-tells, true-false}
 use Rattle.automaton.specs.Rules.{Leaves, Processes, NoWayOut, Branch, Branches, Serves}
 use Rattle.automaton.specs.Next.{onInput, nextFrom, nextOf, carries, chosenFrom, chosenOf}
 use Rattle.automaton.specs.Number.{isEnded, noWayOut, apart, apartFrom, branchesIn, branches, isMove, servesNext, serves}
-
--- ---- inputs
-
-pub unlike : {A : Type 0} {e o : ℕ} → Input.Nothing ≡ Input.Outcome e o → A
-unlike h = absurd (let z : _≡_ {A = ℕ} 0 1 = cc in omega arith)
-
-pub same-event : {e o f q : ℕ} → Input.Outcome e o ≡ Input.Outcome f q → e ≡ f
-same-event h = cc
-
-same-outcome : {e o f q : ℕ} → Input.Outcome e o ≡ Input.Outcome f q → o ≡ q
-same-outcome h = cc
+use Rattle.automaton.specs.Laws.Cases.{unlike, same-event, same-outcome}
 
 -- ---- what a state does next
 
@@ -67,7 +59,7 @@ pub data ChosenIs (a : Automaton) (s e o : ℕ) : Chosen → Type 0 where
   moves : {i : ℕ} → Leaves a s i → move a i .input ≡ Input.Outcome e o → ChosenIs a s e o (Chosen.Move i)
 
 pub tells-carries : (n : Input) (e o : ℕ) → Tells (carries n e o) (n ≡ Input.Outcome e o)
-tells-carries Input.Nothing e o = λ h. unlike h
+tells-carries Input.Nothing e o = fails unlike
 tells-carries (Input.Outcome f q) e o =
     tells (both (eqb f e) (eqb q o))
     (λ h. let x = eqb-true f e (both-left (eqb f e) (eqb q o) h) in let y = eqb-true q o (both-right (eqb f e) (eqb q o) h) in cc)
@@ -104,8 +96,8 @@ module _ (a : Automaton) (s e o : ℕ) where
   tells-move = go (chosenOf a s e o) chosen-is
     where
       go : (c : Chosen) → ChosenIs a s e o c → Tells (isMove c) (Processes a s e o)
-      go Chosen.Nothing (nothing h) = h
-      go (Chosen.Move i) (moves l h) = record { index = i; leaves = l; input = h }
+      go Chosen.Nothing (nothing h) = fails h
+      go (Chosen.Move i) (moves l h) = holds (record { index = i; leaves = l; input = h })
 
 -- ---- 21
 
@@ -114,27 +106,23 @@ unfolding noWayOut
 tells-21 a s = go (isFinal a s) refl (nextOf a s) (next-is a s)
   where
     go : (b : Bool) → isFinal a s ≡ b → (n : Next) → NextIs a s n → Tells (pick b (isEnded n) true) (NoWayOut a s)
-    go true f Next.Ended (ended h) = λ z. h
-    go true f (Next.Goes i) (goes l h) = λ z. z f i l
-    go true f (Next.Waits e) (waits o x) = λ z. z f (x .index) (x .leaves)
-    go false f n h = λ z. absurd (true-false (sym z ∙ f))
+    go true f Next.Ended (ended h) = holds (λ z. h)
+    go true f (Next.Goes i) (goes l h) = fails (λ z. z f i l)
+    go true f (Next.Waits e) (waits o x) = fails (λ z. z f (x .index) (x .leaves))
+    go false f n h = holds (λ z. true-false (sym z ∙ f))
 
 -- ---- 22
 
 pub tells-apart : (m n : Input) → Tells (apart m n) (Branch m n)
-tells-apart Input.Nothing n = λ b. unlike (b .first)
-tells-apart (Input.Outcome e o) Input.Nothing = λ b. unlike (b .second)
+tells-apart Input.Nothing n = fails (λ b. unlike (b .first))
+tells-apart (Input.Outcome e o) Input.Nothing = fails (λ b. unlike (b .second))
 tells-apart (Input.Outcome e o) (Input.Outcome f q) =
     tells (both (eqb e f) (not (eqb o q)))
     (λ h. let x = told-true test h in record { event = e; one = o; other = q; first = refl; second = ap (λ (g : ℕ). Input.Outcome g q) (sym (x .0)); differ = x .1 })
     (λ h b. told-false test h (same-event (b .first) ∙ sym (same-event (b .second)), λ z. b .differ (sym (same-outcome (b .first)) ∙ z ∙ same-outcome (b .second))))
   where
-    differ : (b : Bool) → eqb o q ≡ b → Tells (not b) (o ≡ q → ⊥)
-    differ true h = λ z. z (eqb-true o q h)
-    differ false h = eqb-false o q h
-
     test : Tells (both (eqb e f) (not (eqb o q))) ((e ≡ f) × (o ≡ q → ⊥))
-    test = both-tells (eqb e f) (not (eqb o q)) (e ≡ f) (o ≡ q → ⊥) (tells-eqb e f) (differ (eqb o q) refl)
+    test = both-tells (eqb e f) (not (eqb o q)) (e ≡ f) (o ≡ q → ⊥) (tells-eqb e f) (tells-not (tells-eqb o q))
 
 swapped : {m n : Input} → Branch m n → Branch n m
 swapped b = record { event = b .event; one = b .other; other = b .one; first = b .second; second = b .first; differ = λ z. b .differ (sym z) }
@@ -149,7 +137,7 @@ module _ (a : Automaton) (s : ℕ) where
 
   apart-from : (m : Input) (k i : ℕ) → i + k ≡ a .count → Tells (apartFrom m (part pastMove (a .moves) i k) s) (ApartFrom m i)
   unfolding apartFrom
-  apart-from m zero i h = λ v l x. absurd (omega (arith, x .low))
+  apart-from m zero i h = holds (λ v l x. absurd (omega (arith, x .low)))
   apart-from m (suc k) i h = go (eqb (move a i .from) s) refl (apart-from m k (i + 1) (omega arith))
     where
       rest : Bool
@@ -171,7 +159,7 @@ module _ (a : Automaton) (s : ℕ) where
 
   branches-from : (k i : ℕ) → i + k ≡ a .count → Tells (branchesIn (part pastMove (a .moves) i k) s) (BranchesFrom i)
   unfolding branchesIn
-  branches-from zero i h = λ u l x. absurd (omega (arith, x .low))
+  branches-from zero i h = holds (λ u l x. absurd (omega (arith, x .low)))
   branches-from (suc k) i h = go (eqb (move a i .from) s) refl (branches-from k (i + 1) (omega arith))
     where
       rest : Bool
@@ -223,8 +211,8 @@ tells-23 a outcomes s branches = go (nextOf a s) (next-is a s)
     ]
 
     go : (n : Next) → NextIs a s n → Tells (servesNext a outcomes s n) (Serves a outcomes s)
-    go Next.Ended (ended h) = λ e o x. absurd (h (x .index) (x .leaves))
-    go (Next.Goes i) (goes l h) = λ e o x. absurd (free i l h e o x)
+    go Next.Ended (ended h) = holds (λ e o x. absurd (h (x .index) (x .leaves)))
+    go (Next.Goes i) (goes l h) = holds (λ e o x. absurd (free i l h e o x))
     go (Next.Waits e) (waits o x) =
         let test = all-tells (outcomes e) (λ q. isMove (chosenOf a s e q)) (λ q. Processes a s e q) (λ q l. tells-move a s e q) in
         tells (all (outcomes e) (λ q. isMove (chosenOf a s e q)))

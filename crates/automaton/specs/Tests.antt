@@ -1,24 +1,18 @@
 -- Tests by Bool and what they tell; numbers and flags in a list.
-use mathlib.Core.Path.{_≡_, refl, sym, _∙_, subst}
+use mathlib.Core.Path.{_≡_, refl, sym, subst}
 use mathlib.Core.Bool.{Bool, true, false}
 use mathlib.Core.List.{List}
-use Prim.Native.Nat.{ℕ, zero, suc, _≤_, _<_}
+use Prim.Native.Nat.{ℕ, zero, suc, _<_}
 use native.Mathlib.Omega.{arith}
 use native.Mathlib.Decide.{ℕ-discrete}
-use borrow.Author.Tests.{eqb-true, eqb-false, leb-true, leb-false, ltb-true, ltb-false}
-use lib.Dec.{eqb, leb, ltb}
 use lib.ListN.{getD}
+pub use Rattle.basis.specs.Tests.{flag}
+pub use Rattle.basis.specs.Inner.Tells.{Tells, holds, fails}
+pub use Rattle.basis.specs.Laws.Bools.{clash as true-false}
+pub use Rattle.basis.specs.Laws.Tells.{told, denied, tells, told-true, told-false, tells-eqb, tells-leb, tells-ltb}
 
 abbrev pub at : List ℕ → ℕ → ℕ
 at xs n = getD xs n 0
-
-abbrev pub flag : List Bool → ℕ → Bool
-flag xs n = getD xs n false
-
--- the test says whether P holds
-abbrev pub Tells : Bool → Type 0 → Type 0
-Tells true P = P
-Tells false P = P → ⊥
 
 abbrev pub pick : {A : Type 0} → Bool → A → A → A
 pick true x y = x
@@ -35,68 +29,23 @@ all (suc n) f = both (all n f) (f n)
 
 -- ---- laws
 
-pub true-false : true ≡ false → ⊥
-true-false e = let z : _≡_ {A = ℕ} 0 1 = cc in omega arith
-
-pub told-true : {b : Bool} {P : Type 0} → Tells b P → b ≡ true → P
-told-true {b} {P} t e = subst (λ (x : Bool). Tells x P) e t
-
-pub told-false : {b : Bool} {P : Type 0} → Tells b P → b ≡ false → P → ⊥
-told-false {b} {P} t e = subst (λ (x : Bool). Tells x P) e t
-
-pub tells-true : {b : Bool} (P : Type 0) → Tells b P → P → b ≡ true
-tells-true {b} P t p = go b refl t
-  where
-    go : (x : Bool) → b ≡ x → Tells x P → b ≡ true
-    go true e u = e
-    go false e u = absurd (u p)
-
-pub tells-false : {b : Bool} (P : Type 0) → Tells b P → (P → ⊥) → b ≡ false
-tells-false {b} P t n = go b refl t
-  where
-    go : (x : Bool) → b ≡ x → Tells x P → b ≡ false
-    go true e u = absurd (n u)
-    go false e u = e
-
--- what a test tells, from what it means to be true and to be false
-pub tells : (b : Bool) {P : Type 0} → (b ≡ true → P) → (b ≡ false → P → ⊥) → Tells b P
-tells true t f = t refl
-tells false t f = f refl
-
--- two tests of one thing are equal
-pub tells-same : {b c : Bool} (P : Type 0) → Tells b P → Tells c P → b ≡ c
-tells-same {b} {c} P t u = go c refl u
-  where
-    go : (x : Bool) → c ≡ x → Tells x P → b ≡ c
-    go true e w = tells-true P t w ∙ sym e
-    go false e w = tells-false P t w ∙ sym e
-
-pub tells-eqb : (x y : ℕ) → Tells (eqb x y) (x ≡ y)
-tells-eqb x y = tells (eqb x y) (eqb-true x y) (eqb-false x y)
-
-pub tells-leb : (x y : ℕ) → Tells (leb x y) (x ≤ y)
-tells-leb x y = tells (leb x y) (leb-true x y) (λ e l. omega (arith, leb-false x y e))
-
-pub tells-ltb : (x y : ℕ) → Tells (ltb x y) (x < y)
-tells-ltb x y = tells (ltb x y) (ltb-true x y) (λ e l. omega (arith, ltb-false x y e))
-
 pub both-left : (b c : Bool) → both b c ≡ true → b ≡ true
 unfolding both
 both-left true c h = refl
-both-left false c h = absurd (true-false (sym h))
+both-left false c h = true-false (sym h)
 
 pub both-right : (b c : Bool) → both b c ≡ true → c ≡ true
 unfolding both
 both-right true c h = h
-both-right false c h = absurd (true-false (sym h))
+both-right false c h = true-false (sym h)
 
 pub both-tells : (b c : Bool) (P Q : Type 0) → Tells b P → Tells c Q → Tells (both b c) (P × Q)
 unfolding both
 both-tells b c P Q t u = go b t
   where
     go : (x : Bool) → Tells x P → Tells (both x c) (P × Q)
-    go true t = tells c (λ e. (t, told-true u e)) (λ e h. told-false u e (h .1))
-    go false t = λ h. t (h .0)
+    go true t = tells c (λ e. (told t, told-true u e)) (λ e h. told-false u e (h .1))
+    go false t = fails (λ h. denied t (h .0))
 
 pub all-true : (n : ℕ) (f : ℕ → Bool) → all n f ≡ true → (k : ℕ) → k < n → f k ≡ true
 unfolding all
@@ -106,7 +55,7 @@ all-true (suc n) f h k l = elim (ℕ-discrete k n) [ yes e ↦ subst (λ (j : �
 -- where not all pass, one does not
 pub all-false : (n : ℕ) (f : ℕ → Bool) → all n f ≡ false → (k : ℕ) × (k < n) × (f k ≡ false)
 unfolding all both
-all-false zero f h = absurd (true-false h)
+all-false zero f h = true-false h
 all-false (suc n) f h = go (all n f) refl h (λ e. all-false n f e)
   where
     go : (b : Bool) → all n f ≡ b → both b (f n) ≡ false → (all n f ≡ false → (k : ℕ) × (k < n) × (f k ≡ false)) → (k : ℕ) × (k < suc n) × (f k ≡ false)

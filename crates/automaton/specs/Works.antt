@@ -9,15 +9,20 @@ use lib.Dec.{eqb}
 use lib.ListN.{length, set, replicate}
 use lib.Seq.{set-getD}
 use Rattle.basis.specs.Parts.{part}
+use Rattle.basis.specs.Laws.Flags.{falses-length}
+use Rattle.basis.specs.Laws.Lists.{all-same}
+use Rattle.basis.specs.Tests.{flag, falses}
+use Rattle.basis.specs.Inner.Tells.{Tells, holds}
+use Rattle.basis.specs.Laws.Tells.{told-true, told-false, tells-ltb}
 use Rattle.plan.specs.declared.Input.{Input}
 use Rattle.plan.specs.declared.Output.{Output}
 use Rattle.plan.specs.declared.Automaton.{Automaton}
 use Rattle.plan.specs.Plan.{pastMove, move, movesOf, isFinal}
 use Rattle.automaton.specs.declared.Explored.{Explored}
-use Rattle.automaton.specs.Tests.{at, flag, pick, both, Tells, told-true, told-false, tells-ltb, true-false}
-use Rattle.automaton.specs.Number.{falses, again, finalsOf, passBack, toFinal, isReady, advanced, isNew, passOn, outset, explored}
+use Rattle.automaton.specs.Tests.{at, pick, both, true-false}
+use Rattle.automaton.specs.Number.{again, finalsOf, passBack, toFinal, isReady, advanced, isNew, passOn, outset, explored}
 use Rattle.automaton.specs.Counts.{InRange, Ready, Known, ready-takes}
-use Rattle.automaton.specs.Passes.{falses-length, Backing, BackTo, back-starts, back-stay, back-round, back-store, back-ends, Advanced, advance-starts, advance-steps, Going, going-starts, going-stays, going-round, going-stores, going-ends}
+use Rattle.automaton.specs.Passes.{Backing, BackTo, back-starts, back-stay, back-round, back-store, back-ends, Advanced, advance-starts, advance-steps, Going, going-starts, going-stays, going-round, going-stores, going-ends}
 
 -- ---- rounds
 
@@ -86,7 +91,7 @@ module _ (a : Automaton) (ok : InRange a) where
 -- ---- on from the initial state
 
 pub tells-ready : (C : List ℕ) (s : ℕ) (n : Input) → Tells (isReady C s n) (Ready C s n)
-tells-ready C s Input.Nothing = tt
+tells-ready C s Input.Nothing = holds tt
 tells-ready C s (Input.Outcome e o) = tells-ltb 0 (at C (16 * s + e))
 
 -- no transition emits more than 64 of an event
@@ -133,11 +138,6 @@ module _ (a : Automaton) (gives : Output → ℕ → ℕ) (ok : InRange a) (smal
   going-pass D zero i x h g = let z : i ≡ a .count = omega arith in subst (λ (n : ℕ). Went D n x) z g
   going-pass D (suc k) i x h g = going-pass D k (i + 1) _ (omega arith) (going-step D i x (omega arith) g)
 
-  zeros : (n k : ℕ) → at (replicate n 0) k ≡ 0
-  zeros zero k = refl
-  zeros (suc n) zero = refl
-  zeros (suc n) (suc k) = zeros n k
-
   pub explored-known : Known a gives (explored a gives .reached) (explored a gives .counts)
   explored-known =
       rounds-done (passOn gives (movesOf a)) (λ x. falses (x .reached)) (λ x y. Went (x .reached) (a .count) y) (λ x. Known a gives (x .reached) (x .counts))
@@ -150,7 +150,7 @@ module _ (a : Automaton) (gives : Output → ℕ → ℕ) (ok : InRange a) (smal
       x = outset a
 
       starts : Going a gives (x .reached) 0 (x .reached) (x .counts) false
-      starts = going-starts a gives ok (replicate 1024 0) refl (zeros 1024)
+      starts = going-starts a gives ok (replicate 1024 0) refl (λ k. all-same 1024 k 0)
 
       finish : (x y : Explored) → Went (x .reached) (a .count) y → falses (y .reached) ≡ falses (x .reached) → Known a gives (y .reached) (y .counts)
       finish x y (true, g) h = absurd (omega (arith, g .fewer refl))

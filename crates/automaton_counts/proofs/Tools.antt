@@ -27,11 +27,6 @@ sure p = record { yea = λ e. p; nay = λ e. absurd (true-false e) }
 pub fails : {P Q : Type 0} → Q → Either false P Q
 fails q = record { yea = λ e. absurd (true-false (sym e)); nay = λ e. q }
 
-pub zeros : (n k : ℕ) → at (replicate n 0) k ≡ 0
-zeros zero k = refl
-zeros (suc n) zero = refl
-zeros (suc n) (suc k) = zeros n k
-
 -- the flag at a place whose number is known
 pub moved : (D : List Bool) {x y : ℕ} {v : Bool} → x ≡ y → flag D x ≡ v → flag D y ≡ v
 moved D {x} {y} {v} e h = subst (λ (z : ℕ). flag D z ≡ v) e h

@@ -34,7 +34,8 @@ use Rattle.run.specs.declared.Answer.{Answer}
 use Rattle.run.specs.declared.Failure.{Failure}
 use Rattle.run.specs.declared.Opening.{Opening}
 use Rattle.demands_log.specs.Log.{Id, Log, said, Reported, Told, StoppedIn, StoppedBy, FailedIn}
-use Rattle.demands_log.specs.Kept.{Keeps, plan-kept}
+use Rattle.demands_log.specs.Kept.{Keeps}
+use Rattle.demands_log.specs.Laws.Kept.{plan-kept}
 use Rattle.demands_theory.specs.Way.{Clear}
 use Rattle.demands_theory.specs.Demand.{Demand3}
 use Rattle.demands_theory.specs.Loading.{Loads}

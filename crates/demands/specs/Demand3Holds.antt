@@ -1,7 +1,7 @@
 -- `demand-3`: after an accepted opening of a file of bytes and any list of calls, the single claim of demand 3 holds.
 use mathlib.Core.Path.{subst}
 use Rattle.plan.specs.declared.Plan.{Plan}
-use Rattle.demands_log.specs.Kept.{plan-kept}
+use Rattle.demands_log.specs.Laws.Kept.{plan-kept}
 use Rattle.demands_run.specs.Theorem.{kept, the-word, one, times, of-the-log}
 use Rattle.demands.specs.Demand3.{drivenBy, Demand3Of, StatementDemand3}
 

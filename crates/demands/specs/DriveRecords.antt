@@ -17,7 +17,3 @@ logOf b = drivenBy (planOf b (planLength b)) (clockAt b (planLength b + 2)) (lit
 
 abbrev pub StatementDriveRecords : Type 0
 StatementDriveRecords = (b : List ℕ) → isWhole b ≡ true → recordsOf b ≡ openingRecord (opened b .opening) ∷ answersOf (logOf b) []
-
-pub drive-records : StatementDriveRecords
-unfolding recordsOf
-drive-records b w = rw w

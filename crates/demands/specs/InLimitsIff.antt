@@ -5,12 +5,12 @@ use mathlib.Core.List.{List}
 use mathlib.Core.Logic.{_↔_, ⊎-elim}
 use Prim.Native.Nat.{ℕ, _<_}
 use lib.ListN.{length, getD}
+use Rattle.basis.specs.Inner.Tells.{Tells, holds}
+use Rattle.basis.specs.Laws.Tells.{told-true, tells-iff, tells-and, tells-ltb, tells-leb, tells-then}
 use Rattle.time.specs.Time.{horizon}
 use Rattle.plan.specs.declared.Plan.{Plan}
-use Rattle.activity.specs.Tells.{Tells, holds, told-true, tells-iff, tells-and}
 use Rattle.times.specs.Engine.{lastPosition}
 use Rattle.plan_limits.specs.Window.{entryInLimits}
-use Rattle.plan_limits.specs.Tells.{tells-ltb, tells-leb, tells-then}
 use Rattle.plan_limits.specs.Plans.{tells-in-limits}
 use Rattle.plan_limits.specs.Stored.{tells-progress}
 use Rattle.plan_limits.specs.Places.{tells-window}

@@ -10,6 +10,8 @@ use lib.Dec.{ltb}
 use lib.ListN.{length, getD, set}
 use Rattle.basis.specs.Lists.{Among}
 use Rattle.basis.specs.Parts.{length-part}
+use Rattle.basis.specs.Laws.Lists.{among-either, among-at}
+use Rattle.basis.specs.Laws.Bools.{by-test}
 use Rattle.time.specs.declared.Clock.{Clock}
 use Rattle.plan.specs.Plan.{pastNode, sizeOf, outcomesOf, emittedBy, move}
 use Rattle.plan.specs.Limits.{InLimits, KindNames, OutputNames}
@@ -20,14 +22,13 @@ use Rattle.plan.specs.declared.Automaton.{Automaton}
 use Rattle.automaton.specs.Next.{nextOf, chosenOf}
 use Rattle.automaton.specs.declared.Next.{Next}
 use Rattle.automaton.specs.declared.Chosen.{Chosen}
-use Rattle.times_combined.specs.Laws.Lists.{among-either}
 use Rattle.times.specs.Engine.{lastPosition}
 use Rattle.times.specs.Queues.{noInstance, pendingOf, instanceOf}
 use Rattle.times.specs.Limits.{InstanceInLimits}
 use Rattle.times.specs.declared.Told.{Told}
 use Rattle.times.specs.declared.Progress.{Progress}
 use Rattle.run_window.specs.Window.{vacant, startedOf, isHeld, isStarted, isOverdue, isLate, isDue, isNode, startsBefore, endsBefore, placed, vacancies}
-use Rattle.run_window.specs.Tests.{by-test, overdue-tells, late-tells, due-tells, node-tells}
+use Rattle.run_window.specs.Tests.{overdue-tells, late-tells, due-tells, node-tells}
 use Rattle.run_window.specs.Order.{starts-order, ends-order}
 use Rattle.run_window.specs.Firsts.{First, by-first}
 use Rattle.run_window.specs.Places.{Holds, stored-only, cleared-only}
@@ -50,7 +51,7 @@ use Rattle.run.specs.Loading.{load, onWay, onLoading, further, mostPending}
 use Rattle.run.specs.Limits.{runInLimits}
 use Rattle.run.specs.Calls.{refuse, heard, asked, reported, completedBy, completed, afterLoading, cleared, learnsBy, learns, timely, called, askOf, completionOf, outcomeOf, callOf, kindOf}
 use Rattle.demands_theory.specs.Laws.Next.{chosen-found}
-use Rattle.demands_run.specs.Laws.Entries.{among-at, brought}
+use Rattle.demands_run.specs.Laws.Entries.{brought}
 use Rattle.demands_run.specs.Laws.Telling.{told-cases}
 use Rattle.demands_run.specs.Laws.Loaded.{not-beyond}
 use Rattle.demands_log.specs.ByCases.{by-halt}

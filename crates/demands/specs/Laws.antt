@@ -21,3 +21,6 @@ pub mod LoadingFails
 pub mod AfterCalls
 pub mod ByLogPlaces
 pub mod ByLogConditions
+pub mod AuthorNumbers
+pub mod DriveRecords
+pub mod NumbersHold

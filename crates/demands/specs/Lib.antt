@@ -1,4 +1,4 @@
--- The promises, as statements about the definitions that the contracts cite, and the theorems that carry them.
+-- The demands, as statements about the definitions that the contracts cite, and the theorems that carry them.
 -- The proofs
 pub mod Laws
 -- Demand 2
@@ -10,8 +10,8 @@ pub mod TimesEqual
 -- Demand 3
 pub mod Demand3
 pub mod Demand3Holds
--- Promise 1 and the strength of the contracts
-pub mod Promises
+-- Demand 1, and the strength of the contracts
+pub mod Demand1
 pub mod Unchanged
 -- Each answer of an opening, in its condition and in no other
 pub mod Openings

@@ -8,14 +8,14 @@ use native.Mathlib.Omega.{arith}
 use lib.Dec.{ltb, eqb}
 use borrow.Author.Tests.{ne-eqb}
 use lib.ListN.{length}
+use Rattle.basis.specs.Laws.Tells.{told-true, told-false, tells-eqb, by-tells, is-false}
+use Rattle.basis.specs.Laws.Bools.{by-test}
 use Rattle.time.specs.Time.{horizon}
 use Rattle.time.specs.declared.Clock.{Clock}
 use Rattle.plan.specs.Fault.{numberOf}
 use Rattle.plan.specs.declared.Fault.{Fault}
 use Rattle.plan.specs.declared.Verdict.{Verdict}
 use Rattle.judge.specs.Judge.{judgeOf}
-use Rattle.activity.specs.Tells.{told-true, told-false, tells-eqb}
-use Rattle.run_window.specs.Tests.{by-test}
 use Rattle.run.specs.Limits.{slackInLimits}
 use Rattle.run.specs.Loading.{load}
 use Rattle.run.specs.Numbers.{openNumber, openPlace}
@@ -28,7 +28,7 @@ use Rattle.run.specs.declared.Unopened.{Unopened}
 use Rattle.run.specs.declared.Opening.{Opening}
 use Rattle.run.specs.declared.Opened.{Opened}
 use Rattle.demands.specs.Openings.{TimeAbove, planOf, Counted, InTime, WithSlack, Lasting, WithinHorizon, OpensBy, StatementOpeningBy, StatementOpeningNumbers}
-use Rattle.demands.specs.Laws.OpeningTests.{by-tells, is-true, is-false, tells-time, tells-slack, outside, inside, finds, by-finds, lowest-is, none-is}
+use Rattle.demands.specs.Laws.OpeningTests.{is-true, tells-time, tells-slack, outside, inside, finds, by-finds, lowest-is, none-is}
 use Rattle.demands.specs.Accepted.{Bytes}
 use Rattle.demands.specs.Verdicts.{Judged}
 use Rattle.demands.specs.VerdictsHold.{verdict}

@@ -17,7 +17,7 @@ use Rattle.run.specs.Opening.{zeroRun}
 use Rattle.run.specs.Calls.{answer, refuse, called, askOf, completionOf, outcomeOf, callOf}
 use Rattle.demands_log.specs.Log.{Log, said}
 use Rattle.demands_log.specs.Drive.{drive}
-use Rattle.demands.specs.Promises.{answered, StatementStopRepeated, StatementRefusedList}
+use Rattle.demands.specs.Demand1.{answered, StatementStopRepeated, StatementRefusedList}
 use Rattle.demands.specs.Unchanged.{stop-kept, stops-stay, refused-opening, zeros-get-50}
 use Rattle.demands.specs.InLimitsIff.{in-limits}
 use Rattle.demands.specs.InLimitsKept.{limits-kept}

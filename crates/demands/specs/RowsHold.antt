@@ -22,6 +22,7 @@ use Rattle.demands_log.specs.Log.{Id}
 use Rattle.demands_theory.specs.Nodes.{Working, Work, EmitsAt, here, earlier}
 use Rattle.demands_theory.specs.TheWord.{wholeOf}
 use Rattle.demands_run.specs.Laws.Taken.{size-is}
+use Rattle.demands_run.specs.Laws.Loaded.{work-working, working-work}
 use Rattle.demands.specs.Timetables.{nodeRows, rowsOf}
 use Rattle.demands.specs.Rows.{Row, lineOf, linesOf, Above, Sorted, StatementRows}
 
@@ -151,16 +152,6 @@ sorted p (t ∷ is) =
 
 -- ---- actions and events
 
-working : (k : Kind) → isWork k ≡ true → Working k
-working (Kind.Action a x) e = tt
-working (Kind.Claim r) e = absurd (let z : _≡_ {A = ℕ} 0 1 = cc in omega arith)
-working (Kind.Release r) e = absurd (let z : _≡_ {A = ℕ} 0 1 = cc in omega arith)
-working (Kind.Event x) e = tt
-
-is-work : (k : Kind) → Working k → isWork k ≡ true
-is-work (Kind.Action a x) w = refl
-is-work (Kind.Event x) w = refl
-
 not-claim : (k : Kind) → Working k → NotClaim k
 not-claim (Kind.Action a x) w = tt
 not-claim (Kind.Event x) w = tt
@@ -186,7 +177,7 @@ module _ (p : Plan) where
       here-at i h w y e =
           let k = node xs i .kind in
           subst (λ (z : Row). Work (wholeOf p (t ∷ is)) (z .id) × EmitsAt p (t ∷ is) (z .id .position) (z .activity)) (sym e)
-          ((k, (node xs i .duration, Joined.right (Nodes.own h refl refl) (not-claim k (working k w))), working k w), here (size-is p is) (output-is p (move (p .automaton) t .output) i h))
+          ((k, (node xs i .duration, Joined.right (Nodes.own h refl refl) (not-claim k (work-working k w))), work-working k w), here (size-is p is) (output-is p (move (p .automaton) t .output) i h))
 
       by : Among x (listOf p is) ⊎ Among x (nodeList (size (wordOf p is)) (activityNumber (move (p .automaton) t .output)) 0 xs)
           → (Among x (listOf p is) → Work (wholeOf p is) (x .id) × EmitsAt p is (x .id .position) (x .activity)) → Work (wholeOf p (t ∷ is)) (x .id) × EmitsAt p (t ∷ is) (x .id .position) (x .activity)
@@ -215,7 +206,7 @@ module _ (p : Plan) where
       let s = sort (p .resources) (suc q) xs (identity (x .position) (x .node)) k d h in
       let e : x .position ≡ q = omega arith in
       let z : 0 + x .node ≡ x .node = omega arith in
-      let m : Among (rowAt q a (x .node)) (nodeList q a 0 xs) = rw z at (node-in q a 0 xs (x .node) (s .0) (rw (s .1) (is-work k w))) in
+      let m : Among (rowAt q a (x .node)) (nodeList q a 0 xs) = rw z at (node-in q a 0 xs (x .node) (s .0) (rw (s .1) (working-work k w))) in
       (a, behind _ (listOf p is) (nodeList q a 0 xs) (subst (λ (j : ℕ). Among (rowAt j a (x .node)) (nodeList q a 0 xs)) (sym e) m))
 
 pub rows : StatementRows

@@ -1,34 +1,31 @@
 -- `times-equal`: the engine's times are those of Def. 11 on the combined activity of the whole word, for every accepted plan,
 -- availabilities and word. From acceptance (AcceptedIff), the engine over a word (specified) and the combined activity
 -- (behaviour).
-use mathlib.Core.Path.{_≡_, refl}
+use mathlib.Core.Path.{_≡_, refl, ap}
 use mathlib.Core.List.{List, [], _∷_, _++_, map}
 use Prim.Native.Nat.{ℕ, zero, suc, _+_, _-_, _≤_}
 use native.Mathlib.Omega.{arith}
 use lib.ListN.{length, getD, replicate}
+use Rattle.basis.specs.Laws.Lists.{all-same}
+use Rattle.time.specs.declared.Specified.{Specified}
 use Rattle.plan.specs.declared.Plan.{Plan}
 use Rattle.times.specs.Times.{specified, at}
 use Rattle.times_combined.specs.Engine.{startAt, endAt}
 use Rattle.times_combined.specs.Paths.{wordOf, Follows, Lawful}
 use Rattle.times_equal.specs.Words.{Opening, traceBy}
-use Rattle.times_equal.specs.Plans.{AtMostEight, progressAt, scheduleAt, plan-equal, plan-times, plan-free}
+use Rattle.times_equal.specs.Plans.{scheduleAt}
+use Rattle.times_equal.specs.Laws.Plans.{AtMostEight, progressAt, plan-equal, plan-times, plan-free}
 use Rattle.demands_theory.specs.TheWord.{stateAfter}
 use Rattle.demands_theory.specs.Laws.Next.{lawful, few-pending}
 use Rattle.plan_file.specs.HoldPlan.{plan-rules}
 use Rattle.demands.specs.AcceptedIff.{accepted-iff}
 use Rattle.demands.specs.Times.{opened, TimesEqual, StatementTimesEqual}
+use Rattle.run_opening.specs.Laws.{given-at}
 
 -- ---- what an opening stores
 
-pub zeros-at : (n r : ℕ) → at (replicate n (specified 0)) r ≡ 0
-zeros-at zero r = refl
-zeros-at (suc n) zero = refl
-zeros-at (suc n) (suc r) = zeros-at n r
-
-given-at : (ts : List ℕ) (n r : ℕ) → at (map specified ts ++ replicate n (specified 0)) r ≡ getD ts r 0
-given-at [] n r = zeros-at n r
-given-at (t ∷ ts) n zero = refl
-given-at (t ∷ ts) n (suc r) = given-at ts n r
+pub none-at : (n r : ℕ) → at (replicate n (specified 0)) r ≡ 0
+none-at n r = ap (λ (s : Specified). s .0) (all-same n r (specified 0))
 
 given-length : (ts : List ℕ) (n : ℕ) → length (map specified ts ++ replicate n (specified 0)) ≡ length ts + n
 given-length [] n = zeros-length n
@@ -38,17 +35,12 @@ given-length [] n = zeros-length n
     zeros-length (suc n) = let e = zeros-length n in omega arith
 given-length (t ∷ ts) n = let e = given-length ts n in omega arith
 
-pub no-lengths : (n e : ℕ) → _≡_ {A = ℕ} (getD (replicate n 0) e 0) 0
-no-lengths zero e = refl
-no-lengths (suc n) zero = refl
-no-lengths (suc n) (suc e) = no-lengths n e
-
 stored : (p : Plan) (ts : List ℕ) → length ts ≡ p .resources → p .resources ≤ 16 → Opening (λ r. getD ts r 0) (opened p ts)
 stored p ts e l = record {
   whole = record { available = (let h = given-length ts (16 - length ts) in omega arith); latest = refl; lengths = refl; pending = refl };
   free = given-at ts (16 - length ts);
-  last = zeros-at 16;
-  none = no-lengths 16;
+  last = none-at 16;
+  none = λ e. all-same {A = ℕ} 16 e 0;
 }
 
 -- ---- the theorem

@@ -1,4 +1,4 @@
--- `refused-unchanged`, `stop-kept`, `stops-stay`, `refused-opening`, `zeros-get-50`: promise 1 of a run, from the order of
+-- `refused-unchanged`, `stop-kept`, `stops-stay`, `refused-opening`, `zeros-get-50`: demand 1 of a run, from the order of
 -- checks at a call. Every answer is right: a refused one has the run that came in, a stopped one a run that has this stop.
 use mathlib.Core.Path.{_≡_, refl, subst}
 use mathlib.Core.Bool.{Bool, true, false, cond, _||_}
@@ -6,6 +6,8 @@ use mathlib.Core.List.{List}
 use Prim.Native.Nat.{ℕ}
 use lib.Dec.{ltb, eqb}
 use lib.ListN.{length}
+use Rattle.basis.specs.Laws.Bools.{by-cond}
+use Rattle.basis.specs.Tests.{every}
 use Rattle.time.specs.Time.{horizon}
 use Rattle.time.specs.declared.Clock.{Clock}
 use Rattle.plan.specs.Plan.{outcomesOf}
@@ -28,7 +30,6 @@ use Rattle.run.specs.declared.Opened.{Opened}
 use Rattle.judge.specs.Judge.{judgeOf}
 use Rattle.run.specs.Limits.{runInLimits, slackInLimits}
 use Rattle.automaton.specs.Next.{nextOf}
-use Rattle.activity.specs.Tests.{every}
 use Rattle.plan_limits.specs.Limits.{inLimits, partsInLimits, within, nodesInLimits, automatonInLimits}
 use Rattle.run.specs.Loading.{load, further, mostPending}
 use Rattle.run_outcomes.specs.Told.{toldOf}
@@ -37,8 +38,8 @@ use Rattle.run_opening.specs.declared.Short.{Short}
 use Rattle.run_opening.specs.Short.{onShort, shortFrom}
 use Rattle.run_opening.specs.Given.{anyAbove, atFirst, availabilities}
 use Rattle.run.specs.Opening.{openOf, openJudged, openPlan, afterFirst, zeroRun, fresh}
-use Rattle.demands_log.specs.ByCases.{by-cond, by-found, by-halt}
-use Rattle.demands.specs.Promises.{StatementRefusedUnchanged, StatementStopKept, StatementStopsStay, StatementRefusedOpening, StatementZerosGet50}
+use Rattle.demands_log.specs.ByCases.{by-found, by-halt}
+use Rattle.demands.specs.Demand1.{StatementRefusedUnchanged, StatementStopKept, StatementStopsStay, StatementRefusedOpening, StatementZerosGet50}
 
 -- ---- by cases
 

@@ -1,10 +1,12 @@
 -- `verdict`: a file gets each verdict in its condition and in no other. `refused-plan`: a refused file hands on a plan of zeros.
 -- `verdict-numbers`: the same by number and place. From the file's description (planfile), the activities and the automaton.
 use mathlib.Core.Path.{_≡_, refl, sym, ap, _∙_, subst}
-use mathlib.Core.List.{List, [], _∷_, _++_}
+use mathlib.Core.List.{List, _∷_}
 use mathlib.Core.Logic.{inl, inr}
 use Prim.Native.Nat.{ℕ, _≤_}
 use native.Mathlib.Omega.{arith}
+use Rattle.basis.specs.Lists.{Among}
+use Rattle.basis.specs.Laws.Lists.{among-right}
 use Rattle.plan.specs.Fault.{numberOf}
 use Rattle.plan.specs.Limits.{InLimits}
 use Rattle.plan.specs.Reading.{readPlan, zeroPlan}
@@ -14,7 +16,6 @@ use Rattle.plan.specs.declared.Node.{Node}
 use Rattle.plan.specs.declared.Plan.{Plan}
 use Rattle.plan.specs.declared.Verdict.{Verdict}
 use Rattle.plan.specs.declared.PlanRead.{PlanRead}
-use Rattle.basis.specs.Lists.{Among}
 use Rattle.format.specs.Format as F
 use Rattle.format.specs.Format.{faulty, more, Faulty, short, wrong, result}
 use Rattle.plan_file.specs.PlanFile.{faultOrder, planFile}
@@ -151,10 +152,6 @@ verdict-numbers b f place bytes = (
   λ h. record { fault = f; answered = verdict b (Verdict.Refused f place) bytes .1 h; numbered = refl },
 )
 
-stands-among : (before behind : List ℕ) (n : ℕ) → Among n (before ++ (n ∷ behind))
-stands-among [] behind n = inl refl
-stands-among (m ∷ before) behind n = inr (stands-among before behind n)
-
 of-order : (n : ℕ) → Among n faultOrder → (1 ≤ n) × (n ≤ 8) × (n ≡ 6 → ⊥)
 of-order n (inl e) = (omega arith, omega arith, λ z. omega arith)
 of-order n (inr (inl e)) = (omega arith, omega arith, λ z. omega arith)
@@ -167,7 +164,7 @@ of-order n (inr (inr (inr (inr (inr (inr z)))))) = absurd z
 -- a field's fault is 1 to 8, and not 6
 pub of-field : (b : List ℕ) (w p : ℕ) (rules : ℕ → List F.Rule) (n : ℕ) → Faulty 1 faultOrder b w p rules n → (1 ≤ n) × (n ≤ 8) × (n ≡ 6 → ⊥)
 of-field b w p rules n (short h) = (omega arith, omega arith, λ z. omega arith)
-of-field b w p rules n (wrong h o) = of-order n (subst (Among n) (sym (o .stands)) (stands-among (o .before) (o .behind) n))
+of-field b w p rules n (wrong h o) = of-order n (subst (Among n) (sym (o .stands)) (among-right n (o .before) (n ∷ o .behind) (inl refl)))
 
 pub reading-numbers : StatementReadingNumbers
 reading-numbers b n k (faulty r) = let h = of-field b (r .width) k (r .rules) n (r .faulty) in (h .0, h .1)

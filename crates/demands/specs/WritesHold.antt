@@ -9,11 +9,11 @@ use lib.ListN.{length, take, drop, length-append, length-drop}
 use lib.Seq.{take-append-seam, drop-append-seam}
 use lib.Dec.{leb}
 use borrow.Author.Tests.{leb-true, leb-false}
+use Rattle.basis.specs.Inner.Tells.{Tells, holds, fails}
 use Rattle.plan.specs.Limits.{FileRules}
 use Rattle.plan.specs.Encoding.{encode}
 use Rattle.plan.specs.declared.Plan.{Plan}
 use Rattle.plan.specs.declared.PlanRead.{PlanRead}
-use Rattle.activity.specs.Tells.{Tells, holds, fails}
 use Rattle.plan_limits.specs.Limits.{fileRules}
 use Rattle.plan_limits.specs.Files.{tells-file-rules}
 use Rattle.format.specs.Format.{print}

@@ -1,6 +1,5 @@
 -- What holds of each case of a choice of the definitions holds of the choice.
 use mathlib.Core.Path.{_≡_, refl}
-use mathlib.Core.Bool.{Bool, true, false, cond}
 use Prim.Native.Nat.{ℕ}
 use native.Mathlib.Omega.{arith}
 use Rattle.automaton.specs.declared.Next.{Next}
@@ -11,10 +10,6 @@ use Rattle.run.specs.declared.Halt.{Halt}
 use Rattle.run.specs.declared.Stop.{Stop}
 use Rattle.run.specs.Loading.{onWay}
 use Rattle.run.specs.Calls.{onHalt}
-
-pub by-cond : {A : Type 0} (P : A → Type 0) (b : Bool) (x y : A) → P x → P y → P (cond b x y)
-by-cond P true x y p q = p
-by-cond P false x y p q = q
 
 pub by-found : {A : Type 0} (P : A → Type 0) (r : Found) (f : ℕ → Entry → A) (z : A) → ((i : ℕ) (e : Entry) → P (f i e)) → P z → P (onFound r f z)
 by-found P Found.Nothing f z p q = q

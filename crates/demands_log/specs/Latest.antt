@@ -5,6 +5,7 @@ use mathlib.Core.Bool.{Bool, true, false, cond}
 use Prim.Native.Nat.{ℕ, zero, suc}
 use lib.Dec.{ltb}
 use lib.ListN.{length}
+use Rattle.basis.specs.Laws.Bools.{by-cond}
 use Rattle.time.specs.declared.Clock.{Clock}
 use Rattle.plan.specs.Plan.{outcomesOf}
 use Rattle.plan.specs.declared.Kind.{Kind}
@@ -26,7 +27,7 @@ use Rattle.run.specs.declared.Loading.{Loading}
 use Rattle.run.specs.Limits.{runInLimits}
 use Rattle.run.specs.Loading.{load, loadPath, onLoading, further, mostPending}
 use Rattle.run.specs.Calls.{answer, refuse, asked, reported, completedBy, completed, afterLoading, learnt, cleared, learnsBy, learns, onHalt, timely, called, askOf, completionOf, outcomeOf, callOf, isDone, kindOf, readingOf}
-use Rattle.demands_log.specs.ByCases.{by-cond, by-found, by-way}
+use Rattle.demands_log.specs.ByCases.{by-found, by-way}
 
 -- ---- loading leaves the last reading, and stops nothing
 

@@ -5,3 +5,4 @@ pub mod Host
 pub mod Drive
 pub mod Kept
 pub mod Latest
+pub mod Laws

@@ -1,5 +1,4 @@
 -- The proofs: the calls that load nothing; one transition, a path and further paths; an outcome; the opening; the engine's laws.
-pub mod Bools
 pub mod Later
 pub mod Bounds
 pub mod Ways

@@ -17,8 +17,7 @@ use Rattle.run.specs.declared.Stop.{Stop}
 use Rattle.demands_log.specs.Log.{Id, Said, Log, Always, reading, IsAsk, Starts, Started, StoppedBy, Reports, Reported, FailedIn, Finishes}
 use Rattle.demands_log.specs.Host.{Host, Mild}
 use Rattle.demands_log.specs.Drive.{Driven}
-use Rattle.demands_theory.specs.Machine.{idOf}
-use Rattle.demands_theory.specs.Nodes.{whose, Work, EmitsAt}
+use Rattle.demands_theory.specs.Nodes.{whose, Work, EmitsAt, idOf}
 use Rattle.demands_theory.specs.TheWord.{stateAfter, wholeOf, Tail}
 use Rattle.demands_theory.specs.Loading.{Unreported, PathBeyond, PathFull, Fits}
 

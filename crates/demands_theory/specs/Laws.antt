@@ -10,3 +10,4 @@ pub mod Next
 pub mod World
 pub mod TheWord
 pub mod Longest
+pub mod Nodes

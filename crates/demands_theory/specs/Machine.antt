@@ -7,7 +7,8 @@ use Rattle.run_window.specs.declared.Entry.{Entry}
 use Rattle.run.specs.declared.Call.{Call}
 use Rattle.run.specs.declared.Reply.{Reply}
 use Rattle.run.specs.declared.Halt.{Halt}
-use Rattle.demands_log.specs.Log.{Id, id, Log, Finishes}
+use Rattle.demands_log.specs.Log.{Id, Log, Finishes}
+use Rattle.demands_theory.specs.Nodes.{idOf}
 
 -- Words, and of each "Its combined activity, under the opening's availabilities": its actions and events, their specified
 -- times, and which stands before which; the activity at a position; and whether it ends in a final state.
@@ -30,9 +31,6 @@ pub record Machine : Type 1 where
   pub holds : Run → ℕ → Entry → Type 0
 
 -- ---- the window
-
-abbrev pub idOf : Entry → Id
-idOf e = id (e .position) (e .node)
 
 abbrev pub Window : Type 1
 Window = ℕ → Entry → Type 0

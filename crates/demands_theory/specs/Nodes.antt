@@ -6,11 +6,16 @@ use Rattle.plan.specs.Plan.{move}
 use Rattle.plan.specs.declared.Kind.{Kind}
 use Rattle.plan.specs.declared.Output.{Output}
 use Rattle.plan.specs.declared.Plan.{Plan}
+use Rattle.run_window.specs.declared.Entry.{Entry}
 use Rattle.times_combined.specs.Combined.{Ident, Graph, Is, identity}
-use Rattle.demands_log.specs.Log.{Id}
+use Rattle.demands_log.specs.Log.{Id, id}
 
 abbrev pub whose : Id → Ident
 whose x = identity (x .position) (x .node)
+
+-- the node of an entry of the window
+abbrev pub idOf : Entry → Id
+idOf e = id (e .position) (e .node)
 
 -- an action or an event of an activity over identities
 abbrev pub Working : Kind → Type 0

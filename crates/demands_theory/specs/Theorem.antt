@@ -3,7 +3,7 @@
 use mathlib.Core.Path.{_≡_, refl, sym, ap, _∙_, subst}
 use mathlib.Core.Bool.{Bool, true, false, true≢false}
 use mathlib.Core.List.{List, [], _∷_}
-use mathlib.Core.Logic.{_⊎_, inl, inr, ⊎-elim, _↔_}
+use mathlib.Core.Logic.{inl, inr, ⊎-elim, _↔_}
 use Prim.Native.Nat.{ℕ}
 use native.Mathlib.Omega.{arith}
 use Rattle.plan.specs.declared.Plan.{Plan}
@@ -22,9 +22,9 @@ use Rattle.run.specs.declared.Stop.{Stop}
 use Rattle.demands_log.specs.Log.{Id, Said, said, Log, Always, Started, StoppedBy, Reports, Reported, FailedIn, Finishes}
 use Rattle.demands_log.specs.Host.{Reading, None, At}
 use Rattle.demands_log.specs.Drive.{Driven, drive}
-use Rattle.demands_theory.specs.Machine.{World, idOf, Finished, Waiting, before}
+use Rattle.demands_theory.specs.Machine.{World, Finished, Waiting, before}
 use Rattle.demands_theory.specs.Machine as Machine
-use Rattle.demands_theory.specs.Nodes.{whose, Work}
+use Rattle.demands_theory.specs.Nodes.{whose, Work, idOf}
 use Rattle.demands_theory.specs.TheWord.{stateAfter, wholeOf, Tail}
 use Rattle.demands_theory.specs.Loading.{Unreported, PathBeyond, PathFull, Fits}
 use Rattle.demands_theory.specs.OfPlan.{worldOf}

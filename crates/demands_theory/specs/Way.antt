@@ -13,7 +13,8 @@ use Rattle.run.specs.declared.Stop.{Stop}
 use Rattle.run.specs.declared.Halt.{Halt}
 use Rattle.run.specs.declared.Failure.{Failure}
 use Rattle.demands_log.specs.Log.{Id, reading, Finishes}
-use Rattle.demands_theory.specs.Machine.{World, Machine, idOf, Window, Held, Waiting}
+use Rattle.demands_theory.specs.Machine.{World, Machine, Window, Held, Waiting}
+use Rattle.demands_theory.specs.Nodes.{idOf}
 
 -- ---- a word
 

@@ -10,9 +10,10 @@ use Rattle.run_window.specs.declared.Entry.{Entry}
 use Rattle.run.specs.declared.Call.{Call}
 use Rattle.run.specs.declared.Halt.{Halt}
 use Rattle.demands_log.specs.Log.{Id, Log, said}
-use Rattle.demands_theory.specs.Machine.{World, Machine, idOf, Held}
+use Rattle.demands_theory.specs.Machine.{World, Machine, Held}
 use Rattle.demands_theory.specs.Way.{Outlasts, InOrder, Agrees, Way}
 use Rattle.demands_theory.specs.Laws.Invariant.{Invariant}
+use Rattle.demands_theory.specs.Nodes.{idOf}
 
 pub record Works (W : World) (M : Machine) (psi slack : ℕ) (Good : Log → W .Word → M .Run → Type 0) : Type 0 where
   -- a place holds one entry

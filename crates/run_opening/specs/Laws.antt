@@ -7,6 +7,8 @@ use native.Mathlib.Omega.{arith}
 use borrow.Author.Tests.{ltb-false}
 use lib.Dec.{ltb}
 use lib.ListN.{length, getD, replicate}
+pub use Rattle.basis.specs.Laws.Lists.{all-same}
+pub use Rattle.basis.specs.Laws.Bools.{or-false}
 use Rattle.time.specs.Time.{horizon}
 use Rattle.time.specs.declared.Specified.{Specified}
 use Rattle.plan.specs.Limits.{InLimits}
@@ -15,20 +17,11 @@ use Rattle.times.specs.Times.{specified, at}
 use Rattle.run_path.specs.Pathed.{ProgressIn}
 use Rattle.run_opening.specs.Given.{atFirst, availabilities, anyAbove}
 
-pub all-same : {A : Type 0} (n j : ℕ) (x : A) → getD (replicate n x) j x ≡ x
-all-same zero j x = refl
-all-same (suc n) zero x = refl
-all-same (suc n) (suc j) x = all-same n j x
-
 -- availability r of those given, 0 past them
 pub given-at : (ts : List ℕ) (n r : ℕ) → at (map specified ts ++ replicate n (specified 0)) r ≡ getD ts r 0
 given-at [] n r = ap (λ (s : Specified). s .0) (all-same n r (specified 0))
 given-at (t ∷ ts) n zero = refl
 given-at (t ∷ ts) n (suc r) = given-at ts n r
-
-pub or-false : (a b : Bool) → a || b ≡ false → (a ≡ false) × (b ≡ false)
-or-false true b e = absurd (let z : _≡_ {A = ℕ} 0 1 = cc in omega arith)
-or-false false b e = (refl, e)
 
 pub none-above : (ts : List ℕ) → anyAbove ts ≡ false → (r : ℕ) → getD ts r 0 ≤ horizon
 unfolding anyAbove

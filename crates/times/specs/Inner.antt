@@ -4,6 +4,7 @@ use mathlib.Core.Bool.{Bool, true, false}
 use mathlib.Core.List.{List, [], _∷_}
 use Prim.Native.Nat.{ℕ, suc, _+_, _*_, _≤_, _<_}
 use lib.ListN.{length, getD}
+unfoldable pub use Rattle.basis.specs.Tests.{falses}
 use Rattle.time.specs.Time.{horizon}
 use Rattle.time.specs.declared.Specified.{Specified}
 use Rattle.plan.specs.Limits.{longest}
@@ -27,12 +28,6 @@ pub record Timeable (a : Activity) (free last : List Specified) : Type 0 where
   pub activity : ActivityFits resources events a
   pub available : (r : ℕ) → r < resources → at free r ≤ horizon
   pub latest : (e : ℕ) → e < events → at last e ≤ horizon
-
--- how many nodes are not done
-unfoldable pub falses : List Bool → ℕ
-falses [] = 0
-falses (true ∷ ds) = falses ds
-falses (false ∷ ds) = suc (falses ds)
 
 -- a schedule, in the making, of an activity of so many nodes: no completion lies further past 10^15 than the done nodes
 -- together can take

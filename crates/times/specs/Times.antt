@@ -7,6 +7,7 @@ use Prim.Native.Nat.{ℕ, zero, suc, _+_, max}
 use lib.ListN.{length, getD, set, replicate}
 use lib.Dec.{eqb}
 use Rattle.basis.specs.Parts.{part}
+pub use Rattle.basis.specs.Tests.{flag}
 use Rattle.time.specs.declared.Specified.{Specified}
 use Rattle.plan.specs.Plan.{predecessors}
 use Rattle.plan.specs.declared.Kind.{Kind}
@@ -19,10 +20,6 @@ specified t = record { 0 = t }
 -- time i of an array of times, 0 past its end
 abbrev pub at : List Specified → ℕ → ℕ
 at ts i = getD ts i (specified 0) .0
-
--- node n is done
-abbrev pub flag : List Bool → ℕ → Bool
-flag done n = getD done n false
 
 -- every predecessor is done
 unfoldable pub readyOf : List Bool → List ℕ → Bool

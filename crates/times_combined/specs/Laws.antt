@@ -1,5 +1,4 @@
 -- The proofs of what Theorems.antt says.
-pub mod Lists
 pub mod Shape
 pub mod Chains
 pub mod Joining

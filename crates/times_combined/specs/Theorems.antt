@@ -2,7 +2,7 @@
 -- than processed, and so for every word of an accepted plan:
 -- the engine's times, one transition at a time, are the times of the combined activity of the whole word (Def. 7, 8, 11),
 -- and there are no others.
-use mathlib.Core.Path.{_≡_, ap, _∙_, subst}
+use mathlib.Core.Path.{_≡_, ap, subst}
 use mathlib.Core.List.{List}
 use mathlib.Core.Logic.{_↔_}
 use Prim.Native.Nat.{ℕ, _+_, _≤_, _<_}

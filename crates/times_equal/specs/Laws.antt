@@ -1,8 +1,8 @@
 -- The proofs of what Steps.antt says.
 
-pub mod Lists
 pub mod Order
 pub mod AllDone
 pub mod Events
 pub mod Queue
 pub mod Left
+pub mod Plans

@@ -1,12 +1,13 @@
 -- One transition of an accepted plan, as the engine computes it, is a step as the theorems about the combined activity
 -- ask for: the processed instance, the times of the nodes, the availabilities, and the order of the emitted instances.
-use mathlib.Core.Path.{_≡_, refl, sym, ap, _∙_}
+use mathlib.Core.Path.{_≡_, refl, ap, _∙_}
 use mathlib.Core.Logic.{_⊎_, inl, inr}
 use mathlib.Core.List.{List, [], _∷_, _++_, map}
 use Prim.Native.Nat.{ℕ, _+_, _<_, max}
 use native.Mathlib.Omega.{arith}
 use lib.ListN.{length}
 use Rattle.basis.specs.Lists.{Among}
+use Rattle.basis.specs.Laws.Lists.{map-append}
 use Rattle.time.specs.declared.Specified.{Specified}
 use Rattle.plan.specs.Plan.{predecessors}
 use Rattle.plan.specs.declared.Kind.{Kind}
@@ -45,10 +46,6 @@ start-other available last m (Kind.Event e) h = refl
 completions : (end : List Specified) (p : ℕ) (ns : List ℕ) → map completion (instances end p ns) ≡ map (at end) ns
 completions end p [] = refl
 completions end p (n ∷ ns) = ap (λ ls. at end n ∷ ls) (completions end p ns)
-
-map-append : {X Y : Type 0} (f : X → Y) (xs ys : List X) → map f (xs ++ ys) ≡ map f xs ++ map f ys
-map-append f [] ys = refl
-map-append f (x ∷ xs) ys = ap (λ ls. f x ∷ ls) (map-append f xs ys)
 
 module _ (R : ℕ) (belongs : ℕ → ℕ) (a : List Node) (i : Input) (to : ℕ) (g : Progress) (ready : Ready R belongs a i g) where
   -- the numbers before the nodes are worked out, the nodes' times, and the numbers after them

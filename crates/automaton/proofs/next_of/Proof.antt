@@ -3,9 +3,9 @@ use mathlib.Core.Path.{_≡_, sym, ap, _∙_}
 use mathlib.Core.List.{List}
 use Prim.Native.Nat.{_-_, _≤_}
 use native.Mathlib.Omega.{arith}
+use Rattle.basis.specs.Parts.{part}
 use Rattle.plan.specs.declared.Transition.{Transition}
 use Rattle.plan.specs.Plan.{pastMove}
-use Rattle.basis.specs.Parts.{part}
 use Rattle.automaton.specs.Next.{nextFrom, nextOf}
 use Rattle.automaton.specs.Scan.{rest, rest-all, next-here, next-past, next-none}
 use borrow.Author.Needs.{needs}

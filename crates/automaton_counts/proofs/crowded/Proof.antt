@@ -1,4 +1,5 @@
 -- `crowded` looks at all counts: none before k is above 8 at a reached state.
+use Rattle.basis.specs.Inner.Tells.{holds, fails}
 use Rattle.automaton.specs.Tests.{true-false, flag, at}
 use Rattle.automaton_counts.proofs.Tools.{crowd-at, no-crowd}
 use borrow.Author.Count.{below-more}
@@ -38,7 +39,7 @@ array-read-if2 : tie.Need-array-read-if2 Inv-loop μ-loop
 array-read-if2 c = search needs
 
 returns : tie.Need-returns Inv-loop μ-loop
-returns c = crowd-at _ _ (c .before .before .before .loop .k) (omega arith) (c .if2 .taken) (c .before .if1 .left)
+returns c = holds (crowd-at _ _ (c .before .before .before .loop .k) (omega arith) (c .if2 .taken) (c .before .if1 .left))
 
 loop-less-2 : tie.Need-loop-less-2 Inv-loop μ-loop
 loop-less-2 c = search needs
@@ -47,7 +48,7 @@ loop-again-2 : tie.Need-loop-again-2 Inv-loop μ-loop
 loop-again-2 c = (omega arith, below-more _ _ (c .before .before .before .loop .inv .1) (λ h. absurd (true-false (sym h ∙ c .if2 .left))))
 
 returns-2 : tie.Need-returns-2 Inv-loop μ-loop
-returns-2 c = no-crowd _ _ (λ j l. c .before .loop .inv .1 j (omega arith))
+returns-2 c = fails (no-crowd _ _ (λ j l. c .before .loop .inv .1 j (omega arith)))
 
 pub crowded-spec : {M : Type 1} → statement M
 crowded-spec =

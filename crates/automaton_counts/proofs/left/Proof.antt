@@ -5,6 +5,7 @@ use Prim.Native.Nat.{ℕ, _-_, _/_, _≤_, _<_}
 use native.Mathlib.Omega.{arith}
 use borrow.Author.Count.{below-more}
 use borrow.Author.Tests.{not-true, not-false}
+use Rattle.basis.specs.Inner.Tells.{holds, fails}
 use Rattle.automaton.specs.Tests.{at, flag, true-false}
 use Rattle.automaton_counts.specs.Emits.{finalBit}
 use Rattle.automaton_counts.proofs.Tools.{left-at, no-left}
@@ -49,7 +50,7 @@ is-final-requires : tie.Need-is-final-requires Inv-loop μ-loop
 is-final-requires c κs = search needs
 
 returns : tie.Need-returns Inv-loop μ-loop
-returns c = left-at _ _ _ (c .before .before .before .before .before .loop .k) (omega arith) (not-false _ (c .before .before .if2 .left)) (sym (c .before .is-final .ensures) ∙ c .if3 .taken) (c .before .before .before .if1 .left)
+returns c = holds (left-at _ _ _ (c .before .before .before .before .before .loop .k) (omega arith) (not-false _ (c .before .before .if2 .left)) (sym (c .before .is-final .ensures) ∙ c .if3 .taken) (c .before .before .before .if1 .left))
 
 loop-less-3 : tie.Need-loop-less-3 Inv-loop μ-loop
 loop-less-3 c = search needs
@@ -58,7 +59,7 @@ loop-again-3 : tie.Need-loop-again-3 Inv-loop μ-loop
 loop-again-3 c = (omega arith, below-more _ _ (c .before .before .before .before .before .loop .inv .1) (λ _ h. absurd (true-false (sym h ∙ sym (c .before .is-final .ensures) ∙ c .if3 .left))))
 
 returns-2 : tie.Need-returns-2 Inv-loop μ-loop
-returns-2 c = no-left _ _ _ (λ j l. c .before .loop .inv .1 j (omega arith))
+returns-2 c = fails (no-left _ _ _ (λ j l. c .before .loop .inv .1 j (omega arith)))
 
 pub left-spec : {M : Type 1} → statement M
 left-spec =

@@ -34,7 +34,7 @@ going-stopped e = absurd (let z : _≡_ {A = ℕ} 0 1 = cc in omega arith)
 same-halt : {s u : Stop} → Halt.Stopped s ≡ Halt.Stopped u → s ≡ u
 same-halt e = cc
 
-reading-is : (c : Call) → readingOf c .0 ≡ reading c
+pub reading-is : (c : Call) → readingOf c .0 ≡ reading c
 reading-is (Call.Ask t) = refl
 reading-is (Call.Completion t p n) = refl
 reading-is (Call.Outcome t p n o) = refl

@@ -8,6 +8,7 @@ use native.Mathlib.Omega.{arith}
 use lib.ListN.{length, getD}
 use lib.Seq.{ext-getD}
 use Rattle.basis.specs.Parts.{part, length-part, getD-part}
+use Rattle.basis.specs.Inner.Tells.{Tells}
 use Rattle.time.specs.Time.{horizon}
 use Rattle.time.specs.declared.Specified.{Specified}
 use Rattle.plan.specs.Plan.{pastNode, move, emittedBy, resourceOf}
@@ -27,14 +28,14 @@ use Rattle.times_combined.specs.Paths.{wordOf, Follows, Lawful}
 use Rattle.times_combined.specs.Accepted.{GoodWord}
 use Rattle.times_combined.specs.Laws.Plans.{good-path}
 use Rattle.times_equal.specs.Words.{Opening, traceBy}
-use Rattle.times_equal.specs.Plans.{AtMostEight, progressAfter, First, whole, later, times-at, stored-at as kept-at, plan-equal, plan-run, plan-times, plan-free, progressAt, scheduleAt}
+use Rattle.times_equal.specs.Plans.{progressAfter, scheduleAt}
+use Rattle.times_equal.specs.Laws.Plans.{AtMostEight, First, whole, later, times-at, stored-at as kept-at, plan-equal, plan-run, plan-times, plan-free, progressAt}
 use Rattle.run_opening.specs.Given.{atFirst}
 use Rattle.run_path.specs.Path.{isWork, loaded, entriesFrom, entriesBy, activityNumber}
 use Rattle.timetable_lines.specs.Lines.{rows, free}
 use Rattle.timetable_text.specs.Text.{decimal, line, wordFree}
 use Rattle.demands_theory.specs.TheWord.{stateAfter, wholeOf}
 use Rattle.demands_run.specs.Laws.Taken.{next-position, next-state}
-use Rattle.activity.specs.Tells.{Tells}
 use Rattle.demands_theory.specs.Loading.{Beyond}
 use Rattle.demands_run.specs.Laws.Passing.{Leads, tells-leads}
 use Rattle.demands.specs.Timetables.{nodeRows, rowsOf, Frees}

@@ -3,7 +3,7 @@ use mathlib.Core.Path.{_≡_, refl, sym, ap, _∙_, subst}
 use mathlib.Core.Bool.{true, true≢false}
 use mathlib.Core.List.{List, _∷_}
 use mathlib.Core.Logic.{inl, inr, ⊎-elim, _↔_}
-use Prim.Native.Nat.{ℕ, _<_}
+use Prim.Native.Nat.{ℕ}
 use native.Mathlib.Omega.{arith}
 use Rattle.time.specs.declared.Clock.{Clock}
 use Rattle.plan.specs.Plan.{isFinal}
@@ -24,20 +24,16 @@ use Rattle.run.specs.declared.Refusal.{Refusal}
 use Rattle.run.specs.declared.Failure.{Failure}
 use Rattle.run.specs.Calls.{readingOf, kindOf}
 use Rattle.demands_log.specs.Log.{Id, id, Log, reading, Stops, StoppedIn, StoppedBy, Started, FailedIn}
-use Rattle.demands_theory.specs.Nodes.{whose, lengthOf, EmitsAt, here, earlier}
+use Rattle.demands_theory.specs.Nodes.{whose, EmitsAt, here, earlier}
 use Rattle.demands_theory.specs.TheWord.{stateAfter, wholeOf}
 use Rattle.demands_theory.specs.Demand.{Demand3}
-use Rattle.demands.specs.Laws.AfterCalls.{going-stopped}
+use Rattle.demands_theory.specs.Laws.Nodes.{emits-below}
+use Rattle.demands.specs.Laws.AfterCalls.{going-stopped, reading-is}
 use Rattle.demands.specs.InLimits.{RunInLimits}
 use Rattle.demands.specs.Conditions.{entryAt, DueAt, FirstOf, IsReport, IsAction, RightKind, Condition, NamedAt, loadingAfter}
 use Rattle.demands.specs.Conditions as Places
 use Rattle.demands.specs.ByLog.{Known, lastReading, Open, Overdue, Late, Earliest, Rises, NotOverdue, Timely, Names, Reports, Refuses, Learns, Ended, Asks, After, Halts, Takes, Answered}
 use Rattle.demands.specs.Laws.ByLogPlaces.{known, nodeOf, IsHeld, of-word, stands-at, at-stands, started-at, at-started, unstarted-at, at-unstarted, overdue-to, overdue-from, late-to, late-from, due-to, due-from, overdue-earliest, overdue-first, late-earliest, late-first, due-earliest, due-first, named-to, named-from, named-first, kind-same, kind-at}
-
-reading-is : (c : Call) → readingOf c .0 ≡ reading c
-reading-is (Call.Ask t) = refl
-reading-is (Call.Completion t p n) = refl
-reading-is (Call.Outcome t p n o) = refl
 
 is-stop : (r : Reply) → Stops r → (s : Stop) × (r ≡ Reply.Stopped s)
 is-stop (Reply.Stopped s) h = (s, refl)
@@ -49,11 +45,6 @@ stopped-by (y ∷ log) (inr q) = let r = stopped-by log q in (r .0, inr (r .1))
 pub stopped-in : (log : Log) (s : Stop) → StoppedBy log s → StoppedIn log
 stopped-in (y ∷ log) s (inl q) = inl (subst Stops (sym q) tt)
 stopped-in (y ∷ log) s (inr q) = inr (stopped-in log s q)
-
--- the activity at a position is one
-emits-below : (p : Plan) (is : List ℕ) (q a : ℕ) → EmitsAt p is q a → q < lengthOf is
-emits-below p (i ∷ is) q a (here e o) = omega arith
-emits-below p (i ∷ is) q a (earlier h) = let u = emits-below p is q a h in omega arith
 
 activity-same : {a b : ℕ} → Output.Activity a ≡ Output.Activity b → a ≡ b
 activity-same e = cc

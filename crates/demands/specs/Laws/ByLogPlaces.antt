@@ -19,8 +19,7 @@ use Rattle.run.specs.declared.Run.{Run}
 use Rattle.run.specs.declared.Call.{Call}
 use Rattle.run.specs.Calls.{kindOf}
 use Rattle.demands_log.specs.Log.{Id, Log, Started, FailedIn}
-use Rattle.demands_theory.specs.Machine.{idOf}
-use Rattle.demands_theory.specs.Nodes.{whose}
+use Rattle.demands_theory.specs.Nodes.{whose, idOf}
 use Rattle.demands_theory.specs.TheWord.{stateAfter, wholeOf}
 use Rattle.demands_theory.specs.Demand.{Demand3, OfTheWord}
 use Rattle.demands_run.specs.Laws.Kinds.{kind-is}

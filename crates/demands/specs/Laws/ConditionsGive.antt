@@ -3,6 +3,7 @@ use mathlib.Core.Path.{_≡_, refl, sym, _∙_, ap}
 use mathlib.Core.Bool.{Bool, true, false, cond, true≢false}
 use Prim.Native.Nat.{ℕ, _≤_, _<_}
 use borrow.Author.Tests.{lt-ltb, le-ltb}
+use Rattle.basis.specs.Laws.Tells.{is-false}
 use Rattle.time.specs.declared.Clock.{Clock}
 use Rattle.plan.specs.Plan.{outcomesOf}
 use Rattle.plan.specs.declared.Kind.{Kind}
@@ -23,7 +24,6 @@ use Rattle.run.specs.Calls.{answer, refuse, stops, readingOf, isDone, asked, ki
 use Rattle.demands.specs.Conditions.{entryAt, OverdueAt, LateAt, DueAt, NodeAt, NamedAt, IsReport, RightKind, IsAction, IsEvent, Nowhere, FirstOf, Going, Rises, NotOverdue, Timely, Reports, Learns, loadingAfter, Ended, Refuses, Halts, Asks, Takes, Condition}
 use Rattle.demands.specs.InLimits.{RunInLimits}
 use Rattle.demands.specs.InLimitsIff.{tells-run, in-limits}
-use Rattle.demands.specs.Laws.OpeningTests.{is-false}
 use Rattle.demands.specs.Laws.FirstPlaces.{first-place, none-place, overdue-places, late-places, due-places, node-places}
 use Rattle.demands.specs.Laws.ConditionsMet.{done-ended, ended-done}
 

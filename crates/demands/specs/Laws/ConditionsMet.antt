@@ -1,16 +1,18 @@
 -- `met`: the reply to a call comes in its condition, by cases of the checks in their order.
 use mathlib.Core.Path.{_≡_, refl, sym, _∙_, ap}
-use mathlib.Core.Bool.{Bool, true, false, _&&_, true≢false}
+use mathlib.Core.Bool.{true, true≢false}
 use Prim.Native.Nat.{ℕ}
 use lib.Dec.{ltb}
 use borrow.Author.Tests.{ltb-true, ltb-false}
+use Rattle.basis.specs.Laws.Tells.{told-false}
+use Rattle.basis.specs.Laws.Bools.{and-left, and-right, by-test}
 use Rattle.time.specs.declared.Clock.{Clock}
 use Rattle.plan.specs.Plan.{isFinal, outcomesOf}
 use Rattle.plan.specs.declared.Kind.{Kind}
 use Rattle.run_window.specs.declared.Entry.{Entry}
 use Rattle.run_window.specs.declared.Phase.{Phase}
 use Rattle.run_window.specs.Window.{isHeld, isStarted, isOverdue, isLate, isDue, isNode, startsBefore, endsBefore, isEmpty}
-use Rattle.run_window.specs.Tests.{by-test, started-true}
+use Rattle.run_window.specs.Tests.{started-true}
 use Rattle.run_window.specs.Order.{starts-order, ends-order}
 use Rattle.run_window.specs.Places.{empty-none, none-empty}
 use Rattle.run.specs.declared.Run.{Run}
@@ -20,12 +22,12 @@ use Rattle.run.specs.declared.Answer.{Answer}
 use Rattle.run.specs.declared.Refusal.{Refusal}
 use Rattle.run.specs.declared.Failure.{Failure}
 use Rattle.run.specs.Limits.{runInLimits}
-use Rattle.activity.specs.Tells.{told-false}
 use Rattle.demands_log.specs.ByCases.{by-halt}
 use Rattle.demands.specs.InLimitsIff.{tells-run, in-limits}
 use Rattle.run.specs.Calls.{refuse, readingOf, isDone, asked, kindOf, completedBy, completed, afterLoading, learnsBy, learns, timely, called, askOf, completionOf, outcomeOf, callOf}
 use Rattle.demands.specs.Conditions.{entryAt, OverdueAt, LateAt, DueAt, NodeAt, Going, Rises, NotOverdue, Timely, Reports, Learns, loadingAfter, Ended, Refuses, Halts, Asks, Takes, Condition}
 use Rattle.demands.specs.Laws.FirstPlaces.{by-place, overdue-places, late-places, due-places, node-places}
+use Rattle.demands_run.specs.Laws.Ways.{held-loaded}
 
 -- the reply of the answer comes in its condition
 pub record MetBy (run : Run) (c : Call) (a : Answer) : Type 0 where
@@ -57,14 +59,6 @@ module _ (run : Run) (c : Call) (go : Answer) (next : Timely run (readingOf c) �
 
 -- ---- ask
 
-and-left : (a b : Bool) → a && b ≡ true → a ≡ true
-and-left true b e = refl
-and-left false b e = e
-
-and-right : (a b : Bool) → a && b ≡ true → b ≡ true
-and-right true b e = e
-and-right false b e = absurd (true≢false (sym e))
-
 unheld-free : (s : Phase) → (isHeld s ≡ true → ⊥) → s ≡ Phase.Free
 unheld-free Phase.Free n = refl
 unheld-free Phase.Loaded n = absurd (n refl)
@@ -95,11 +89,6 @@ met-asked run t h =
 
 -- ---- reports
 
-held-unstarted : (s : Phase) → isHeld s ≡ true → isStarted s ≡ false → s ≡ Phase.Loaded
-held-unstarted Phase.Free h q = absurd (true≢false (sym h))
-held-unstarted Phase.Loaded h q = refl
-held-unstarted Phase.Started h q = absurd (true≢false q)
-
 module _ (run : Run) (t : Clock) (p n : ℕ) (h : Timely run t) where
   met-completed : MetBy run (Call.Completion t p n) (completed run t p n)
   unfolding completed
@@ -107,7 +96,7 @@ module _ (run : Run) (t : Clock) (p n : ℕ) (h : Timely run t) where
       by-place run (isNode p n) (NodeAt run p n) (node-places run p n) startsBefore starts-order (MetBy run c) _ _
       (λ i f. by-test (MetBy run c) (isStarted (entryAt run i .phase)) _ _
       (λ s. by-kind i (record { timely = h; named = f; started = started-true _ s }) (kindOf run (entryAt run i)) refl)
-      (λ s. refused run c Refusal.NotStarted (Refuses.number53 i h f (held-unstarted _ (f .has .held) s))))
+      (λ s. refused run c Refusal.NotStarted (Refuses.number53 i h f (held-loaded _ (f .has .held) s))))
       (λ m. refused run c Refusal.NoSuchNode (Refuses.number52 h tt m))
     where
       c : Call
@@ -131,7 +120,7 @@ module _ (run : Run) (t : Clock) (p n : ℕ) (h : Timely run t) where
         by-place run (isNode p n) (NodeAt run p n) (node-places run p n) startsBefore starts-order (MetBy run c) _ _
         (λ i f. by-test (MetBy run c) (isStarted (entryAt run i .phase)) _ _
         (λ s. by-kind i (record { timely = h; named = f; started = started-true _ s }) (kindOf run (entryAt run i)) refl)
-        (λ s. refused run c Refusal.NotStarted (Refuses.number53 i h f (held-unstarted _ (f .has .held) s))))
+        (λ s. refused run c Refusal.NotStarted (Refuses.number53 i h f (held-loaded _ (f .has .held) s))))
         (λ m. refused run c Refusal.NoSuchNode (Refuses.number52 h tt m))
       where
         c : Call

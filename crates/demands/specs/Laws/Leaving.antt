@@ -9,10 +9,11 @@ use Rattle.plan.specs.declared.Automaton.{Automaton}
 use Rattle.plan.specs.declared.Plan.{Plan}
 use Rattle.automaton.specs.Rules.{Leaves, MeetsAutomaton}
 use Rattle.automaton.specs.Next.{nextOf, chosenOf}
-use Rattle.automaton.specs.States.{NextIs, ended, goes, waits, next-is, unlike}
+use Rattle.automaton.specs.States.{NextIs, ended, goes, waits, next-is}
 use Rattle.automaton.specs.Later.{processes-waits, waits-chosen}
 use Rattle.automaton.specs.declared.Next.{Next}
 use Rattle.automaton.specs.declared.Chosen.{Chosen}
+use Rattle.automaton.specs.Laws.Cases.{unlike}
 
 module _ (p : Plan) (limits : InLimits p) (m : MeetsAutomaton p) where
   abbrev a : Automaton

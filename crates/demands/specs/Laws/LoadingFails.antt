@@ -9,19 +9,20 @@ use Prim.Native.Nat.{ℕ, zero, suc, _≤_, _<_}
 use lib.Dec.{ltb}
 use lib.ListN.{length}
 use borrow.Author.Tests.{ltb-true, ltb-false, lt-ltb, le-ltb}
+use Rattle.basis.specs.Inner.Tells.{Tells, holds, fails}
+use Rattle.basis.specs.Laws.Tells.{told-true, told-false, is-false}
+use Rattle.basis.specs.Laws.Bools.{by-test}
 use Rattle.automaton.specs.Next.{nextOf}
 use Rattle.automaton.specs.declared.Next.{Next}
 use Rattle.run_window.specs.Window.{vacancies}
-use Rattle.run_window.specs.Tests.{by-test}
 use Rattle.run_path.specs.Path.{Path, takenBy, entriesBy, pathFrom, longestPath}
 use Rattle.run.specs.declared.Run.{Run}
 use Rattle.run.specs.declared.Failure.{Failure}
 use Rattle.run.specs.declared.Loading.{Loading}
 use Rattle.run_outcomes.specs.Way.{wayOn}
-use Rattle.activity.specs.Tells.{Tells, holds, fails, told-true, told-false}
 use Rattle.demands_log.specs.ByCases.{by-way}
 use Rattle.demands_run.specs.Laws.Crosses.{Crosses, tells-crosses}
-use Rattle.demands.specs.Laws.OpeningTests.{is-true, is-false}
+use Rattle.demands.specs.Laws.OpeningTests.{is-true}
 use Rattle.plan.specs.declared.Plan.{Plan}
 use Rattle.times.specs.declared.Progress.{Progress}
 use Rattle.run_window.specs.declared.Entry.{Entry}

@@ -8,14 +8,14 @@ use native.Mathlib.Omega.{arith}
 use native.Mathlib.Decide.{ℕ-discrete, decLt}
 use lib.Dec.{ltb}
 use lib.ListN.{length, getD}
+use Rattle.basis.specs.Inner.Tells.{Tells, holds, fails}
+use Rattle.basis.specs.Laws.Tells.{tells-iff, tells-and, tells-or, tells-ltb, tells-leb}
 use Rattle.time.specs.Time.{horizon}
 use Rattle.time.specs.declared.Clock.{Clock}
 use Rattle.plan.specs.Plan.{pastNode, activityOf}
 use Rattle.plan.specs.declared.Kind.{Kind}
 use Rattle.plan.specs.declared.Node.{Node}
 use Rattle.plan.specs.declared.Plan.{Plan}
-use Rattle.activity.specs.Tells.{Tells, holds, fails, tells-iff, tells-and, tells-or}
-use Rattle.plan_limits.specs.Tells.{tells-ltb, tells-leb}
 use Rattle.run_path.specs.Path.{isWork}
 use Rattle.run.specs.Limits.{slackInLimits}
 use Rattle.run_opening.specs.declared.Short.{Short}
@@ -26,17 +26,9 @@ use Rattle.demands.specs.Openings.{TimeAbove, SlackOutside, HasShort, Lo
 
 -- ---- a test that tells P
 
-pub by-tells : {A : Type 0} {b : Bool} {P : Type 0} (Q : A → Type 0) (x y : A) → Tells b P → (P → Q x) → ((P → ⊥) → Q y) → Q (cond b x y)
-by-tells Q x y (holds p) f g = f p
-by-tells Q x y (fails n) f g = g n
-
 pub is-true : {b : Bool} {P : Type 0} → Tells b P → ((P → ⊥) → ⊥) → b ≡ true
 is-true (holds p) q = refl
 is-true (fails n) q = absurd (q n)
-
-pub is-false : {b : Bool} {P : Type 0} → Tells b P → (P → ⊥) → b ≡ false
-is-false (holds p) n = absurd (n p)
-is-false (fails m) n = refl
 
 -- ---- some element of a list
 

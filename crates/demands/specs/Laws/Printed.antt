@@ -8,12 +8,14 @@ use native.Mathlib.Decide.{decLt}
 use borrow.Author.Tests.{lt-ltb, le-ltb}
 use lib.ListN.{length, getD, drop, replicate, drop-of-length-le}
 use lib.Seq.{drop-cons}
+use Rattle.basis.specs.Inner.Tells.{Tells, holds, fails}
+use Rattle.basis.specs.Laws.Tells.{is-false}
+use Rattle.basis.specs.Laws.Lists.{all-same}
 use Rattle.time.specs.Time.{horizon}
 use Rattle.plan.specs.Plan.{isFinal, outcomesOf}
 use Rattle.plan.specs.Limits.{InputNames}
 use Rattle.plan.specs.declared.Automaton.{Automaton}
 use Rattle.plan.specs.declared.Plan.{Plan}
-use Rattle.activity.specs.Tells.{Tells, holds, fails}
 use Rattle.automaton.specs.Rules.{Leaves, Processes, MeetsAutomaton}
 use Rattle.automaton.specs.Next.{nextOf, chosenOf}
 use Rattle.automaton.specs.States.{NextIs, ended, goes, waits, next-is}
@@ -27,7 +29,8 @@ use Rattle.times_combined.specs.Combined.{Ident}
 use Rattle.times_combined.specs.Times.{Timing}
 use Rattle.times_combined.specs.Paths.{wordOf, Lawful}
 use Rattle.times_equal.specs.Words.{Opening}
-use Rattle.times_equal.specs.Plans.{AtMostEight, progressAfter}
+use Rattle.times_equal.specs.Plans.{progressAfter}
+use Rattle.times_equal.specs.Laws.Plans.{AtMostEight}
 use Rattle.run_opening.specs.Given.{atFirst}
 use Rattle.run_path.specs.Path.{entriesBy}
 use Rattle.timetable_lines.specs.Lines.{rows, waiting, refused}
@@ -39,8 +42,8 @@ use Rattle.demands_theory.specs.Laws.Longest.{within-more}
 use Rattle.demands_run.specs.Laws.Taken.{size-is}
 use Rattle.timetable_turns.specs.Timetable.{Move, Takes, moveBy, tableFrom, positions}
 use Rattle.timetable_turns.specs.Timetable as T
-use Rattle.demands.specs.Laws.OpeningTests.{is-true, is-false}
-use Rattle.demands.specs.TimesEqual.{zeros-at, no-lengths}
+use Rattle.demands.specs.Laws.OpeningTests.{is-true}
+use Rattle.demands.specs.TimesEqual.{none-at}
 use Rattle.demands.specs.Timetables.{Steps, Walk, Closes}
 use Rattle.demands.specs.Laws.Leaving.{goes-next, chosen-is}
 use Rattle.demands.specs.Laws.Along as Along
@@ -53,9 +56,9 @@ none r = 0
 pub zeros : (p : Plan) → Opening none (atFirst (replicate 16 (specified 0)) (p .automaton .initial))
 zeros p = record {
   whole = record { available = refl; latest = refl; lengths = refl; pending = refl };
-  free = zeros-at 16;
-  last = zeros-at 16;
-  none = no-lengths 16;
+  free = none-at 16;
+  last = none-at 16;
+  none = λ e. all-same {A = ℕ} 16 e 0;
 }
 
 pub early : (r : ℕ) → none r ≤ horizon

@@ -1,22 +1,23 @@
 -- A run that is as it should be is in limits: none gets number 50.
 use mathlib.Core.Path.{_≡_, refl}
-use mathlib.Core.Bool.{Bool, true, _&&_}
+use mathlib.Core.Bool.{true}
 use mathlib.Core.List.{List, [], _∷_}
 use Prim.Native.Nat.{ℕ, suc, _≤_, _<_}
 use native.Mathlib.Omega.{arith}
 use lib.ListN.{getD}
+use Rattle.basis.specs.Inner.Tells.{Tells}
+use Rattle.basis.specs.Laws.Tells.{tells-iff, tells-and, told-true, is-true, tells-ltb, tells-leb}
+use Rattle.basis.specs.Laws.Bools.{and-both}
 use Rattle.time.specs.Time.{horizon}
 use Rattle.time.specs.declared.Clock.{Clock}
 use Rattle.plan.specs.Limits.{InLimits}
 use Rattle.plan.specs.declared.Plan.{Plan}
-use Rattle.activity.specs.Tells.{Tells, holds, fails, tells-iff, tells-and, told-true}
 use Rattle.times.specs.Engine.{lastPosition}
 use Rattle.times.specs.declared.Progress.{Progress}
 use Rattle.run_window.specs.Window.{vacant, isHeld}
 use Rattle.run_window.specs.Tests.{held-unfree}
 use Rattle.run_window.specs.declared.Entry.{Entry}
 use Rattle.plan_limits.specs.Window.{entryInLimits, windowInLimits}
-use Rattle.plan_limits.specs.Tells.{tells-ltb, tells-leb}
 use Rattle.plan_limits.specs.Plans.{tells-in-limits}
 use Rattle.plan_limits.specs.Stored.{tells-progress}
 use Rattle.run.specs.Limits.{runInLimits, haltInLimits, stopInLimits}
@@ -24,13 +25,6 @@ use Rattle.run.specs.declared.Halt.{Halt}
 use Rattle.run.specs.declared.Stop.{Stop}
 use Rattle.demands_run.specs.Engine.{Within}
 use Rattle.demands_run.specs.Stands.{Accepted}
-
-pub both : (a b : Bool) → a ≡ true → b ≡ true → a && b ≡ true
-both a b e f = rw (e, f)
-
-pub passes : {b : Bool} {P : Type 0} → Tells b P → P → b ≡ true
-passes (holds p) q = refl
-passes (fails n) q = absurd (n q)
 
 -- ---- the window
 
@@ -55,7 +49,7 @@ tells-entry activities sizes e h =
     (tells-and (tells-leb (e .start .0) horizon) (tells-leb (e .end .0) horizon)))))
 
 pub entry-passes : (activities : ℕ) (sizes : List ℕ) (e : Entry) → isHeld (e .phase) ≡ true → EntryWithin activities sizes e → entryInLimits activities sizes e ≡ true
-entry-passes activities sizes e h r = passes (tells-entry activities sizes e h) r
+entry-passes activities sizes e h r = is-true (tells-entry activities sizes e h) r
 
 pub entry-within : (activities : ℕ) (sizes : List ℕ) (e : Entry) → isHeld (e .phase) ≡ true → entryInLimits activities sizes e ≡ true → EntryWithin activities sizes e
 entry-within activities sizes e h q = told-true (tells-entry activities sizes e h) q
@@ -67,7 +61,7 @@ vacant-passes activities sizes = refl
 window-passes : (activities : ℕ) (sizes : List ℕ) (w : List Entry) → ((j : ℕ) → entryInLimits activities sizes (getD w j vacant) ≡ true) → windowInLimits activities sizes w ≡ true
 unfolding windowInLimits
 window-passes activities sizes [] h = refl
-window-passes activities sizes (e ∷ w) h = both (entryInLimits activities sizes e) (windowInLimits activities sizes w) (h 0) (window-passes activities sizes w (λ j. h (suc j)))
+window-passes activities sizes (e ∷ w) h = and-both (entryInLimits activities sizes e) (windowInLimits activities sizes w) (h 0) (window-passes activities sizes w (λ j. h (suc j)))
 
 -- ---- the run
 
@@ -79,11 +73,11 @@ module _ (p : Plan) (psi : Clock) (slack : ℕ) (given : Accepted p psi slack) w
       → runInLimits (record { plan = p; psi = psi; slack = slack; progress = g; window = w; last = last; halt = halt }) ≡ true
   unfolding runInLimits
   run-passes g w last halt inside entries stop =
-      both _ _ (passes (tells-in-limits p) limits)
-      (both _ _ (passes (tells-leb (psi .0) horizon) (given .start))
-      (both _ _ (given .host)
-      (both _ _ (passes (tells-progress p (limits .resources) (limits .events) g) inside)
-      (both _ _ (window-passes (p .activities) (p .sizes) w entries) stop))))
+      and-both _ _ (is-true (tells-in-limits p) limits)
+      (and-both _ _ (is-true (tells-leb (psi .0) horizon) (given .start))
+      (and-both _ _ (given .host)
+      (and-both _ _ (is-true (tells-progress p (limits .resources) (limits .events) g) inside)
+      (and-both _ _ (window-passes (p .activities) (p .sizes) w entries) stop))))
 
   -- a stop that names an entry of the window
   entry-named : (e : Entry) → isHeld (e .phase) ≡ true → entryInLimits (p .activities) (p .sizes) e ≡ true → (e .position ≤ lastPosition) × (e .node < 64)
@@ -92,4 +86,4 @@ module _ (p : Plan) (psi : Clock) (slack : ℕ) (given : Accepted p psi slack) w
       (r .position, (let u = limits .sizes (e .activity) (r .activity) .1 in let v = r .node in omega arith))
 
   pub late-passes : (e : Entry) → isHeld (e .phase) ≡ true → entryInLimits (p .activities) (p .sizes) e ≡ true → stopInLimits (Stop.Late (e .position) (e .node)) ≡ true
-  late-passes e h q = let r = entry-named e h q in both _ _ (passes (tells-leb _ _) (r .0)) (passes (tells-ltb _ _) (r .1))
+  late-passes e h q = let r = entry-named e h q in and-both _ _ (is-true (tells-leb _ _) (r .0)) (is-true (tells-ltb _ _) (r .1))

@@ -8,6 +8,7 @@ use native.Mathlib.Omega.{arith}
 use lib.Dec.{eqb}
 use lib.ListN.{length, length-append, length-map}
 use Rattle.basis.specs.Parts.{length-part}
+use Rattle.basis.specs.Laws.Lists.{fewer}
 use Rattle.plan.specs.Plan.{move, emittedBy, resourceOf}
 use Rattle.plan.specs.declared.Input.{Input}
 use Rattle.plan.specs.declared.Plan.{Plan}
@@ -16,7 +17,6 @@ use Rattle.times_combined.specs.Word.{once, times, emittedIn, emissions}
 use Rattle.times_combined.specs.Combined.{Ident, Graph}
 use Rattle.times_combined.specs.Paths.{wordOf, Follows, Lawful}
 use Rattle.times_combined.specs.Laws.Instances.{Listing}
-use Rattle.times_combined.specs.Laws.Lists.{fewer}
 use Rattle.times_combined.specs.Laws.Counts.{listed}
 use Rattle.times_combined.specs.Laws.Plans.{good-path}
 use Rattle.times.specs.Queues.{noInstance, pendingOf, queueOf}

@@ -7,12 +7,12 @@ use native.Mathlib.Omega.{arith}
 use native.Mathlib.Decide.{ℕ-discrete}
 use lib.Dec.{ltb}
 use lib.ListN.{length}
+use Rattle.basis.specs.Inner.Tells.{Tells, holds, fails}
+use Rattle.basis.specs.Laws.Tells.{tells-iff, tells-ltb}
 use Rattle.time.specs.Time.{horizon}
 use Rattle.time.specs.declared.Specified.{Specified}
 use Rattle.plan.specs.Plan.{move, emittedBy}
 use Rattle.plan.specs.declared.Plan.{Plan}
-use Rattle.activity.specs.Tells.{Tells, holds, fails, tells-iff}
-use Rattle.plan_limits.specs.Tells.{tells-ltb}
 use Rattle.times.specs.Times.{at}
 use Rattle.times.specs.Engine.{lastPosition, heldOf, aboveOf, beyondOf, closedOf, emitsOf, timedOf}
 use Rattle.times.specs.declared.Progress.{Progress}

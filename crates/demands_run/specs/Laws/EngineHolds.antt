@@ -9,9 +9,10 @@ use native.Mathlib.Decide.{ℕ-discrete}
 use borrow.Author.Tests.{lt-ltb, eq-eqb, ne-eqb}
 use lib.Dec.{eqb}
 use lib.ListN.{length, getD}
-use Rattle.basis.specs.Parts.{part, length-part, getD-part}
+use Rattle.basis.specs.Parts.{part, length-part}
+use Rattle.basis.specs.Laws.Parts.{part-same}
 use Rattle.plan.specs.Plan.{pastNode, nodesOf, sizeOf, activityOf, resourceOf, emittedBy, move}
-use Rattle.plan.specs.Limits.{KindNames, InputNames, OutputNames, NodeInLimits, nodeAt, InLimits}
+use Rattle.plan.specs.Limits.{KindNames, InputNames, OutputNames, NodeInLimits, InLimits}
 use Rattle.plan.specs.declared.Kind.{Kind}
 use Rattle.plan.specs.declared.Node.{Node}
 use Rattle.plan.specs.declared.Activity.{Activity}
@@ -25,7 +26,7 @@ use Rattle.automaton.specs.Halts.{goes-few}
 use Rattle.times_combined.specs.Accepted.{Good}
 use Rattle.times_combined.specs.Paths.{Lawful}
 use Rattle.times_combined.specs.Laws.TimesEqual.{good-empty}
-use Rattle.times_combined.specs.Laws.Plans.{good-activity}
+use Rattle.times_combined.specs.Laws.Plans.{good-activity, node-is}
 use Rattle.times.specs.Times.{at}
 use Rattle.times.specs.Queues.{noInstance, pendingOf, queueOf, shiftedOf, oldestGone, processedOf, emission}
 use Rattle.times.specs.Engine.{advanceOf}
@@ -37,7 +38,6 @@ use Rattle.times.specs.declared.Progress.{Progress}
 use Rattle.times_equal.specs.Seen.{Whole, Ready, emitted}
 use Rattle.times_equal.specs.Seen as Seen
 use Rattle.times_equal.specs.Steps.{steps, queue-grows, whole-after}
-use Rattle.times_equal.specs.Laws.Lists.{part-same}
 use Rattle.times_equal.specs.Laws.Queue.{apart, gone-length}
 use Rattle.run_path.specs.Path.{takenBy}
 use Rattle.demands_run.specs.Engine.{Sized, Within, rest, remaining, Pending, Possible, Advances, Settles, EngineLaws}
@@ -109,15 +109,13 @@ kind-fits p (Kind.Release r) h = h
 kind-fits p (Kind.Event e) h = h
 
 module _ (p : Plan) (limits : InLimits p) where
-  node-is : (a n : ℕ) → n < length (activityOf p a) → node (activityOf p a) n ≡ nodeAt p a n
-  node-is a n l = getD-part pastNode (p .nodes) (64 * a) (sizeOf p a) n (let u = length-part pastNode (p .nodes) (64 * a) (sizeOf p a) in omega arith)
 
   -- each of its nodes is within the limits
   node-within : (o : Output) → OutputNames p o → (n : ℕ) → n < length (emittedBy p o) → NodeInLimits p (length (emittedBy p o)) (node (emittedBy p o) n)
   node-within Output.Empty h n l = absurd (omega arith)
   node-within (Output.Activity a) h n l =
       let u = length-part pastNode (p .nodes) (64 * a) (sizeOf p a) in
-      subst (λ (k : ℕ). NodeInLimits p k (node (activityOf p a) n)) (sym u) (subst (NodeInLimits p (sizeOf p a)) (sym (node-is a n l)) (limits .nodes a n h (omega arith)))
+      subst (λ (k : ℕ). NodeInLimits p k (node (activityOf p a) n)) (sym u) (subst (NodeInLimits p (sizeOf p a)) (sym (node-is p a n l)) (limits .nodes a n h (omega arith)))
 
   short : (o : Output) → OutputNames p o → length (emittedBy p o) ≤ 64
   short Output.Empty h = omega arith

@@ -1,5 +1,5 @@
 -- The entries that one transition brings: one for each action and event of its activity, by rising node numbers.
-use mathlib.Core.Path.{_≡_, refl, sym, ap, _∙_, subst}
+use mathlib.Core.Path.{_≡_, refl, ap, _∙_, subst}
 use mathlib.Core.Bool.{Bool, true, false, cond}
 use mathlib.Core.Logic.{inl, inr}
 use mathlib.Core.List.{List, [], _∷_}
@@ -8,22 +8,13 @@ use native.Mathlib.Omega.{arith}
 use native.Mathlib.Decide.{decLt}
 use lib.ListN.{length, getD}
 use Rattle.basis.specs.Lists.{Among}
+use Rattle.basis.specs.Laws.Lists.{among-at}
 use Rattle.plan.specs.Plan.{pastNode}
 use Rattle.plan.specs.declared.Node.{Node}
 use Rattle.times.specs.declared.Schedule.{Schedule}
 use Rattle.run_path.specs.Path.{isWork, loaded, entriesFrom}
 use Rattle.run_window.specs.Window.{vacant}
 use Rattle.run_window.specs.declared.Entry.{Entry}
-
--- what stands at a place of a list is one of it, and one of it stands at a place
-pub among-at : {A : Type 0} (d : A) (xs : List A) (k : ℕ) → k < length xs → Among (getD xs k d) xs
-among-at d [] k l = absurd (omega arith)
-among-at d (x ∷ xs) zero l = inl refl
-among-at d (x ∷ xs) (suc k) l = inr (among-at d xs k (omega arith))
-
-pub at-among : {A : Type 0} (d : A) (x : A) (xs : List A) → Among x xs → (k : ℕ) × (k < length xs) × (getD xs k d ≡ x)
-at-among d x (y ∷ ys) (inl e) = (0, omega arith, sym e)
-at-among d x (y ∷ ys) (inr h) = let r = at-among d x ys h in (suc (r .0), (let u = r .1 in omega arith), r .2)
 
 module _ (position a : ℕ) (s : Schedule) where
   -- entry e is that of node n + i, an action or an event

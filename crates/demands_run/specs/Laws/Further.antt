@@ -10,11 +10,13 @@ use native.Mathlib.Omega.{arith}
 use borrow.Author.Tests.{ltb-true, ltb-false, ne-eqb, eq-eqb}
 use lib.Dec.{ltb}
 use lib.ListN.{length}
+use Rattle.basis.specs.Inner.Tells.{Tells}
+use Rattle.basis.specs.Laws.Tells.{told-true, told-false}
+use Rattle.basis.specs.Laws.Bools.{by-test}
 use Rattle.time.specs.declared.Clock.{Clock}
 use Rattle.plan.specs.Plan.{move}
 use Rattle.plan.specs.declared.Input.{Input}
 use Rattle.plan.specs.declared.Plan.{Plan}
-use Rattle.activity.specs.Tells.{Tells, told-true, told-false}
 use Rattle.automaton.specs.Next.{nextOf}
 use Rattle.automaton.specs.Rules.{MeetsAutomaton}
 use Rattle.automaton.specs.declared.Next.{Next}
@@ -23,7 +25,6 @@ use Rattle.times.specs.Queues.{queueOf}
 use Rattle.times.specs.declared.Progress.{Progress}
 use Rattle.run_path.specs.Path.{Path, takenBy, pathFrom, longestPath}
 use Rattle.run_window.specs.Window.{placed, vacancies}
-use Rattle.run_window.specs.Tests.{by-test}
 use Rattle.run_window.specs.Places.{Holds}
 use Rattle.run_window.specs.declared.Entry.{Entry}
 use Rattle.run_outcomes.specs.Way.{wayOn}
@@ -34,8 +35,8 @@ use Rattle.run.specs.declared.Failure.{Failure}
 use Rattle.run.specs.declared.Loading.{Loading}
 use Rattle.demands_log.specs.Log.{Id, Log, Reported, Told}
 use Rattle.demands_log.specs.ByCases.{by-way}
-use Rattle.demands_theory.specs.Machine.{idOf, Held}
-use Rattle.demands_theory.specs.Nodes.{Work, lengthOf}
+use Rattle.demands_theory.specs.Machine.{Held}
+use Rattle.demands_theory.specs.Nodes.{Work, lengthOf, idOf}
 use Rattle.demands_theory.specs.TheWord.{wholeOf}
 use Rattle.demands_theory.specs.Loading.{NextPath, PathBeyond, Unreported, EndsAt, whole, beyond, full, Loads, ends}
 use Rattle.demands_theory.specs.Laws.Growth.{Tail}

@@ -7,7 +7,10 @@ use Prim.Native.Nat.{ℕ, _+_, _*_, _≤_, _<_}
 use native.Mathlib.Omega.{arith}
 use native.Mathlib.Decide.{ℕ-discrete, decLt}
 use lib.ListN.{getD}
-use Rattle.basis.specs.Lists.{Among, Distinct}
+use Rattle.basis.specs.Lists.{Among}
+use Rattle.basis.specs.Laws.Lists.{among-right, map-among, among-map, distinct-right}
+use Rattle.basis.specs.Laws.Parts.{part-same}
+use Rattle.basis.specs.Laws.Bools.{by-test}
 use Rattle.time.specs.declared.Clock.{Clock}
 use Rattle.plan.specs.Plan.{outcomesOf, resourceOf}
 use Rattle.plan.specs.declared.Kind.{Kind}
@@ -16,7 +19,6 @@ use Rattle.automaton.specs.Rules.{MeetsAutomaton}
 use Rattle.times_combined.specs.Word.{times}
 use Rattle.times_combined.specs.Combined.{Ident, Is, identity}
 use Rattle.times_combined.specs.Paths.{wordOf, Lawful}
-use Rattle.times_combined.specs.Laws.Lists.{among-right, map-among, among-map}
 use Rattle.times_combined.specs.Laws.Instances.{Listing}
 use Rattle.times_combined.specs.Laws.Shape.{event-same}
 use Rattle.times_combined.specs.Laws.Unique.{shape-of}
@@ -26,7 +28,6 @@ use Rattle.times.specs.Queues.{noInstance, pendingOf, instanceOf, queueOf}
 use Rattle.times.specs.Limits.{InstanceInLimits}
 use Rattle.times.specs.declared.Instance.{Instance}
 use Rattle.times.specs.declared.Progress.{Progress}
-use Rattle.run_window.specs.Tests.{by-test}
 use Rattle.run_window.specs.declared.Entry.{Entry}
 use Rattle.run_outcomes.specs.Told.{tell, isInstance, toldOf}
 use Rattle.run.specs.declared.Call.{Call}
@@ -38,11 +39,7 @@ use Rattle.demands_theory.specs.Laws.TheWord.{takes-follows}
 use Rattle.demands_run.specs.Stands.{identOf, idOf, ToldAs, Queued, Stands}
 use Rattle.demands_run.specs.Laws.Later.{takes-more, told-later}
 use Rattle.demands_run.specs.Laws.Counts.{pending-few}
-use Rattle.demands_run.specs.Laws.Telling.{part-same, instance-tells, instance-is, informed, told-length, told-cases, told-outside, told-part}
-
-distinct-right : {X : Type 0} (xs ys : List X) → Distinct (xs ++ ys) → Distinct ys
-distinct-right [] ys d = d
-distinct-right (x ∷ xs) ys d = distinct-right xs ys (d .1)
+use Rattle.demands_run.specs.Laws.Telling.{instance-tells, instance-is, informed, told-length, told-cases, told-outside, told-part}
 
 -- the outcome o of the event ev is reported of the entry's node, and accepted
 module _ (p : Plan) (lawful : Lawful p) (automaton : MeetsAutomaton p) (available : ℕ → ℕ) (log : Log) (is : List ℕ) (g : Progress) (s : Stands p available log is g)
@@ -64,7 +61,7 @@ module _ (p : Plan) (lawful : Lawful p) (automaton : MeetsAutomaton p) (availabl
       (distinct-right (s .queues ev .past) (map identOf (queueOf g ev)) (s .queues ev .listing .distinct))
 
   other-queue : (f : ℕ) → (f ≡ ev → ⊥) → queueOf after f ≡ queueOf g f
-  other-queue f n = part-same noInstance _ (g .pending) (8 * f) (pendingOf g f) (λ j a b. told-outside (x .position) (x .node) o (pendingOf g ev) (8 * ev) (g .pending) j (apart j a b (decLt f ev)))
+  other-queue f n = part-same noInstance _ (g .pending) (pendingOf g f) (8 * f) (8 * f) (λ k l. told-outside (x .position) (x .node) o (pendingOf g ev) (8 * ev) (g .pending) (8 * f + k) (apart (8 * f + k) (omega arith) (omega arith) (decLt f ev)))
     where
       apart : (j : ℕ) → 8 * f ≤ j → j < 8 * f + pendingOf g f → Dec (f < ev) → (j < 8 * ev) ⊎ (8 * ev + pendingOf g ev ≤ j)
       apart j a b (yes l) = inl (let u = few f in omega arith)

@@ -1,7 +1,7 @@
 -- The kind of a node of the word is the one that the plan stores for it in the activity at its position.
 use mathlib.Core.Path.{_≡_, sym, ap, _∙_, subst}
 use mathlib.Core.List.{List, _∷_}
-use Prim.Native.Nat.{ℕ, suc, _*_, _<_}
+use Prim.Native.Nat.{ℕ, suc, _*_}
 use native.Mathlib.Omega.{arith}
 use Rattle.basis.specs.Parts.{length-part, getD-part}
 use Rattle.plan.specs.Plan.{pastNode, move, emittedBy, activityOf, sizeOf, resourceOf}
@@ -16,13 +16,10 @@ use Rattle.times_combined.specs.Combined.{Joined, Nodes, identity}
 use Rattle.times_combined.specs.Paths.{wordOf}
 use Rattle.times_combined.specs.Laws.Shape.{node-place, sort}
 use Rattle.times_combined.specs.Laws.Unique.{shape-of}
-use Rattle.demands_theory.specs.Nodes.{lengthOf, EmitsAt, here, earlier}
+use Rattle.demands_theory.specs.Nodes.{EmitsAt, here, earlier}
 use Rattle.demands_theory.specs.TheWord.{wholeOf}
+use Rattle.demands_theory.specs.Laws.Nodes.{emits-below}
 use Rattle.demands_run.specs.Laws.Taken.{size-is}
-
-emits-low : (p : Plan) (is : List ℕ) (q a : ℕ) → EmitsAt p is q a → q < lengthOf is
-emits-low p (i ∷ is) q a (here e o) = omega arith
-emits-low p (i ∷ is) q a (earlier h) = let u = emits-low p is q a h in omega arith
 
 module _ (p : Plan) where
   own-kind : (q n : ℕ) (k : Kind) (d w a : ℕ) (o : Output) → o ≡ Output.Activity a → Nodes (p .resources) w (emittedBy p o) (identity q n) k d → nodeAt p a n .kind ≡ k
@@ -39,4 +36,4 @@ module _ (p : Plan) where
   kind-is (i ∷ is) ok q a (here e o) n k d (Joined.right h nc) = own-kind q n k d (suc (size (wordOf p is))) a (move (p .automaton) i .output) o h
   kind-is (i ∷ is) ok q a (earlier m) n k d (Joined.left h nr) = kind-is is (ok .0) q a m n k d h
   kind-is (i ∷ is) ok q a (earlier m) n k d (Joined.right h nc) =
-      absurd (let u = node-place (p .resources) (suc (size (wordOf p is))) (emittedBy p (move (p .automaton) i .output)) (identity q n) k d h in let v = size-is p is in let x = emits-low p is q a m in omega arith)
+      absurd (let u = node-place (p .resources) (suc (size (wordOf p is))) (emittedBy p (move (p .automaton) i .output)) (identity q n) k d h in let v = size-is p is in let x = emits-below p is q a m in omega arith)

@@ -15,6 +15,7 @@ use Rattle.plan.specs.Limits.{KindNames}
 use Rattle.plan.specs.declared.Kind.{Kind}
 use Rattle.plan.specs.declared.Plan.{Plan}
 use Rattle.automaton.specs.declared.Next.{Next}
+use Rattle.automaton.specs.Laws.Cases.{waits-same, ended-waits}
 use Rattle.times_combined.specs.Combined.{Is}
 use Rattle.times_combined.specs.Paths.{Follows}
 use Rattle.times_combined.specs.Laws.Plans.{good-path}
@@ -38,19 +39,19 @@ use Rattle.run.specs.Limits.{haltInLimits}
 use Rattle.run.specs.declared.Loading.{Loading}
 use Rattle.demands_log.specs.Log.{Id, Log, Always, said, Accepts, Reports, Reported, StoppedIn}
 use Rattle.demands_log.specs.Log as Log
-use Rattle.demands_theory.specs.Machine.{World, idOf, Held}
+use Rattle.demands_theory.specs.Machine.{World, Held}
 use Rattle.demands_theory.specs.Way.{learns, Agrees, haltOf, replyOf}
 use Rattle.demands_theory.specs.Way as Way
 use Rattle.demands_theory.specs.Loading.{Unreported, EndsAt, whole, beyond, full, Loads}
 use Rattle.demands_theory.specs.Laws.Accounts.{always-map}
 use Rattle.demands_theory.specs.OfPlan.{worldOf}
-use Rattle.demands_theory.specs.Nodes.{whose, lengthOf}
+use Rattle.demands_theory.specs.Nodes.{whose, lengthOf, idOf}
 use Rattle.demands_theory.specs.TheWord.{stateAfter, nextAfter, wholeOf, Oldest, Stuck, ended, waits}
 use Rattle.demands_theory.specs.Laws.Invariant.{Invariant}
 use Rattle.demands_theory.specs.Laws.Growth.{here, extends-self}
 use Rattle.demands_theory.specs.Laws.Replies.{failed-stopped}
 use Rattle.demands_theory.specs.Laws.Longest.{within-loads, loads-end, ends-whole, ends-beyond, ends-full}
-use Rattle.demands_theory.specs.Laws.TheWord.{told-once, takes-follows, waits-same, ended-waits}
+use Rattle.demands_theory.specs.Laws.TheWord.{told-once, takes-follows}
 use Rattle.demands_theory.specs.Laws.World.{old-position, new-start}
 use Rattle.demands_theory.specs.OfRun.{machine}
 use Rattle.demands_run.specs.Engine.{EngineLaws}

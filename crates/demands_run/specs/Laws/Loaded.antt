@@ -1,17 +1,15 @@
 -- What loading does to the window and the word: old entries stay, new ones are the nodes of the longer word; one transition at a
 -- time.
 use mathlib.Core.Path.{_≡_, refl, sym, ap, _∙_, subst}
-use mathlib.Core.Bool.{Bool, true, false, cond, true≢false}
+use mathlib.Core.Bool.{true, false, true≢false}
 use mathlib.Core.Logic.{_⊎_, inl, inr, ⊎-elim}
 use mathlib.Core.List.{List, _∷_}
-use Prim.Native.Nat.{ℕ, zero, suc, _+_, _*_, _≤_, _<_}
+use Prim.Native.Nat.{ℕ, suc, _+_, _*_, _≤_, _<_}
 use native.Mathlib.Omega.{arith}
-use native.Mathlib.Decide.{ℕ-discrete}
-use borrow.Author.Tests.{ltb-false}
-use lib.Dec.{ltb}
 use lib.ListN.{length, getD}
 use Rattle.basis.specs.Lists.{Among}
 use Rattle.basis.specs.Parts.{length-part}
+use Rattle.basis.specs.Laws.Lists.{among-at, at-among}
 use Rattle.time.specs.Time.{horizon}
 use Rattle.time.specs.declared.Specified.{Specified}
 use Rattle.plan.specs.Plan.{move, emittedBy, pastNode, sizeOf}
@@ -29,10 +27,11 @@ use Rattle.times_combined.specs.Theorems.{plan-times-only, plan-run-equal}
 use Rattle.times_combined.specs.Laws.Shape.{node-place, sort}
 use Rattle.times_combined.specs.Engine.{startAt, endAt}
 use Rattle.times.specs.Times.{at}
-use Rattle.times.specs.Engine.{lastPosition, aboveOf, beyondOf, heldOf, closedOf, emitsOf, timedOf}
+use Rattle.times.specs.Engine.{lastPosition, beyondOf, heldOf, closedOf, emitsOf, timedOf}
 use Rattle.times.specs.Laws.Fits.{processed-position, left-position}
 use Rattle.times.specs.declared.Progress.{Progress}
 use Rattle.times.specs.declared.Schedule.{Schedule}
+use Rattle.times.specs.Laws.Kept.{above-none, beyond-told}
 use Rattle.run_path.specs.Path.{isWork, loaded, activityNumber, takenBy, entriesBy}
 use Rattle.run_window.specs.Window.{vacant, isHeld, isStarted, placed, vacancies}
 use Rattle.run_window.specs.Places.{Holds, SameNode, Once}
@@ -40,9 +39,9 @@ use Rattle.run_window.specs.Placed.{Took, placed-length, placed-kept, placed-ho
 use Rattle.run_window.specs.declared.Entry.{Entry}
 use Rattle.plan_limits.specs.Window.{entryInLimits}
 use Rattle.demands_log.specs.Log.{Id, id, Log}
-use Rattle.demands_theory.specs.Machine.{World, idOf, Held}
+use Rattle.demands_theory.specs.Machine.{World, Held}
 use Rattle.demands_theory.specs.Way.{Agrees, Extends}
-use Rattle.demands_theory.specs.Nodes.{whose, Working, lengthOf, EmitsAt, here}
+use Rattle.demands_theory.specs.Nodes.{whose, Working, lengthOf, EmitsAt, here, idOf}
 use Rattle.demands_theory.specs.TheWord.{stateAfter, Takes}
 use Rattle.demands_theory.specs.OfPlan.{worldOf}
 use Rattle.demands_theory.specs.Laws.TheWord.{takes-follows}
@@ -53,7 +52,7 @@ use Rattle.demands_run.specs.Stands.{Stands}
 use Rattle.demands_run.specs.Laws.Bounds.{EntryWithin, entry-passes}
 use Rattle.demands_run.specs.Laws.Counts.{possible, pending-length}
 use Rattle.demands_run.specs.Laws.Taken.{size-is, stands-on, trace-start, trace-end}
-use Rattle.demands_run.specs.Laws.Entries.{among-at, at-among, Brought, brought, brings, different}
+use Rattle.demands_run.specs.Laws.Entries.{Brought, brought, brings, different}
 
 -- ---- kinds
 
@@ -77,25 +76,8 @@ working-not-claim (Kind.Event v) h = tt
 
 -- ---- a transition that does not pass the limits of number 44
 
-or-false : (b c : Bool) → cond b true c ≡ false → (b ≡ false) × (c ≡ false)
-or-false true c e = absurd (true≢false e)
-or-false false c e = (refl, e)
-
-above-none : (k i : ℕ) (ts : List Specified) → aboveOf ts i k ≡ false → (j : ℕ) → i ≤ j → j < i + k → at ts j ≤ horizon
-unfolding aboveOf
-above-none zero i ts e j h l = absurd (omega arith)
-above-none (suc k) i ts e j h l = go (or-false (ltb horizon (at ts i)) (aboveOf ts (i + 1) k) e) (ℕ-discrete j i) (λ f m. above-none k (i + 1) ts f j m (omega arith))
-  where
-    go : (ltb horizon (at ts i) ≡ false) × (aboveOf ts (i + 1) k ≡ false) → Dec (j ≡ i) → (aboveOf ts (i + 1) k ≡ false → i + 1 ≤ j → at ts j ≤ horizon) → at ts j ≤ horizon
-    go f (yes q) more = subst (λ (n : ℕ). at ts n ≤ horizon) (sym q) (ltb-false horizon (at ts i) (f .0))
-    go f (no q) more = more (f .1) (omega arith)
-
 pub beyond-parts : (R size : ℕ) (end : List Specified) (g : Progress) → beyondOf R size end g ≡ false → (g .position ≤ lastPosition) × ((n : ℕ) → n < size → at end n ≤ horizon)
-unfolding beyondOf
-beyond-parts R size end g b =
-    let u = or-false (ltb lastPosition (g .position)) (cond (aboveOf end 0 size) true (aboveOf (g .available) 0 R)) b in
-    let v = or-false (aboveOf end 0 size) (aboveOf (g .available) 0 R) (u .1) in
-    (ltb-false lastPosition (g .position) (u .0), λ n l. above-none size 0 end (v .0) n (omega arith) (omega arith))
+beyond-parts R size end g b = let u = beyond-told R size end g b in (u .0, λ n l. above-none size 0 end (u .1) n (omega arith) (omega arith))
 
 pub not-beyond : (p : Plan) (t : ℕ) (g : Progress) → takenBy p t g .beyond ≡ false
     → (g .position ≤ lastPosition) × ((n : ℕ) → n < length (emittedBy p (move (p .automaton) t .output)) → at (takenBy p t g .schedule .end) n ≤ horizon)

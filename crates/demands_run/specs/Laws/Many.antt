@@ -2,20 +2,21 @@
 use mathlib.Core.Path.{_≡_, refl, sym, ap, _∙_, subst}
 use mathlib.Core.Bool.{Bool, true, false, cond}
 use mathlib.Core.List.{List, [], _∷_, _++_, map}
-use mathlib.Core.Logic.{_⊎_, inl, inr, ⊎-elim}
+use mathlib.Core.Logic.{inl, inr, ⊎-elim}
 use Prim.Native.Nat.{ℕ, zero, suc, _+_, _≤_, _<_}
 use native.Mathlib.Omega.{arith}
 use lib.ListN.{length, length-append, length-map}
 use Rattle.basis.specs.Lists.{Among, Distinct}
+use Rattle.basis.specs.Laws.Lists.{among-left, among-right, among-either, map-among, distinct-both, fewer}
+use Rattle.basis.specs.Laws.Bools.{clash, by-test}
 use Rattle.plan.specs.declared.Plan.{Plan}
-use Rattle.times_combined.specs.Laws.Lists.{among-left, among-right, among-either, map-among, distinct-both, fewer}
 use Rattle.run_window.specs.Window.{isFree, vacancies}
-use Rattle.run_window.specs.Tests.{by-test, unfree-held, held-unfree}
+use Rattle.run_window.specs.Tests.{unfree-held, held-unfree}
 use Rattle.run_window.specs.Places.{Holds, Once}
 use Rattle.run_window.specs.declared.Entry.{Entry}
 use Rattle.demands_log.specs.Log.{Id, Log, Reported}
-use Rattle.demands_theory.specs.Machine.{idOf, Held}
-use Rattle.demands_theory.specs.Nodes.{Work, lengthOf}
+use Rattle.demands_theory.specs.Machine.{Held}
+use Rattle.demands_theory.specs.Nodes.{Work, lengthOf, idOf}
 use Rattle.demands_theory.specs.TheWord.{wholeOf}
 use Rattle.demands_theory.specs.Loading.{Unreported, TooMany}
 use Rattle.demands_run.specs.Laws.PathNodes.{Brings}
@@ -51,13 +52,7 @@ ids-at (e ∷ w) x = by-test (λ (l : List Id). Among x l → (i : ℕ) × (f : 
 at-ids : (w : List Entry) (i : ℕ) (e : Entry) → Holds w i e → Among (idOf e) (ids w)
 unfolding ids
 at-ids [] i e h = absurd (let z = held-unfree (e .phase) (h .held) in let y = ap (λ (f : Entry). isFree (f .phase)) (h .entry) in clash (y ∙ z))
-  where
-    clash : true ≡ false → ⊥
-    clash q = let z : _≡_ {A = ℕ} 0 1 = cc in omega arith
-at-ids (f ∷ w) zero e h = by-test (λ (l : List Id). Among (idOf e) l) (isFree (f .phase)) _ _ (λ b. absurd (clash (sym b ∙ (ap (λ (y : Entry). isFree (y .phase)) (h .entry) ∙ held-unfree (e .phase) (h .held))))) (λ b. inl (ap idOf (sym (h .entry))))
-  where
-    clash : true ≡ false → ⊥
-    clash q = let z : _≡_ {A = ℕ} 0 1 = cc in omega arith
+at-ids (f ∷ w) zero e h = by-test (λ (l : List Id). Among (idOf e) l) (isFree (f .phase)) _ _ (λ b. clash (sym b ∙ (ap (λ (y : Entry). isFree (y .phase)) (h .entry) ∙ held-unfree (e .phase) (h .held)))) (λ b. inl (ap idOf (sym (h .entry))))
 at-ids (f ∷ w) (suc i) e h = by-test (λ (l : List Id). Among (idOf e) l) (isFree (f .phase)) _ _ (λ b. at-ids w i e (record { entry = h .entry; held = h .held })) (λ b. inr (at-ids w i e (record { entry = h .entry; held = h .held })))
 
 ids-once : (w : List Entry) → Once w → Distinct (ids w)

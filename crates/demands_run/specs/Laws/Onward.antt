@@ -21,8 +21,9 @@ use Rattle.automaton.specs.Tests.{pick}
 use Rattle.automaton.specs.Rules.{MeetsAutomaton}
 use Rattle.automaton.specs.declared.Next.{Next}
 use Rattle.automaton.specs.declared.Chosen.{Chosen}
+use Rattle.automaton.specs.Laws.Cases.{goes-same, ended-goes, waits-goes}
 use Rattle.times_combined.specs.Word.{times}
-use Rattle.times_combined.specs.Combined.{named, Instance}
+use Rattle.times_combined.specs.Combined.{Instance}
 use Rattle.times_combined.specs.Paths.{wordOf, Lawful}
 use Rattle.times_combined.specs.Laws.Instances.{instance-cut, next-instance, only-instance}
 use Rattle.times.specs.Queues.{noInstance, pendingOf, instanceOf, queueOf}
@@ -36,10 +37,10 @@ use Rattle.demands_log.specs.Log as Log
 use Rattle.demands_theory.specs.Nodes.{whose}
 use Rattle.demands_theory.specs.TheWord.{stateAfter, nextAfter, wholeOf, Oldest, Takes, hears, Stuck, ended, waits}
 use Rattle.demands_theory.specs.Laws.Next.{Found, chosen-found}
-use Rattle.demands_theory.specs.Laws.TheWord.{goes-same, ended-goes}
+use Rattle.demands_theory.specs.Laws.Nodes.{whose-same}
 use Rattle.demands_run.specs.Engine.{rest, EngineLaws}
 use Rattle.demands_run.specs.Stands.{identOf, idOf, ToldAs, Queued, Stands}
-use Rattle.demands_run.specs.Laws.Paths.{isTold, tolds, Rests, waits-goes}
+use Rattle.demands_run.specs.Laws.Paths.{isTold, tolds, Rests}
 
 -- ---- a state that awaits an event has a transition that processes it
 
@@ -78,18 +79,6 @@ queue-head g e l = go (pendingOf g e) l
     go : (n : ℕ) → 0 < n → part noInstance (g .pending) (8 * e) n ≡ getD (g .pending) (8 * e + 0) noInstance ∷ rest (part noInstance (g .pending) (8 * e) n)
     go zero l = absurd (omega arith)
     go (suc n) l = let z : 8 * e ≡ 8 * e + 0 = omega arith in ap (λ (k : ℕ). getD (g .pending) k noInstance ∷ part noInstance (g .pending) (8 * e + 1) n) z
-
-position-same : {q m r n : ℕ} → named q m ≡ named r n → q ≡ r
-position-same e = cc
-
-number-same : {q m r n : ℕ} → named q m ≡ named r n → m ≡ n
-number-same e = cc
-
-pub whose-same : (x y : Id) → whose x ≡ whose y → x ≡ y
-whose-same x y e =
-    let p : x .position ≡ y .position = (let u = position-same e in omega arith) in
-    let n : x .node ≡ y .node = number-same e in
-    λ i. record { position = p i; node = n i }
 
 module _ (p : Plan) (lawful : Lawful p) (automaton : MeetsAutomaton p) (available : ℕ → ℕ) (log : Log) (us : List ℕ) (g : Progress) (s : Stands p available log us g) where
   -- transition t processes the oldest instance of the awaited event, which is told

@@ -11,6 +11,10 @@ use lib.Dec.{ltb, eqb}
 use lib.ListN.{length, getD, replicate, length-append, length-map, length-replicate}
 use Rattle.basis.specs.Lists.{Among}
 use Rattle.basis.specs.Parts.{part}
+use Rattle.basis.specs.Inner.Tells.{Tells}
+use Rattle.basis.specs.Laws.Tells.{told-false, tells-iff, tells-ltb}
+use Rattle.basis.specs.Laws.Bools.{by-test, or-false}
+use Rattle.basis.specs.Laws.Lists.{all-same}
 use Rattle.time.specs.Time.{horizon}
 use Rattle.time.specs.declared.Clock.{Clock}
 use Rattle.time.specs.declared.Specified.{Specified}
@@ -33,7 +37,6 @@ use Rattle.times.specs.declared.Instance.{Instance}
 use Rattle.times.specs.declared.Progress.{Progress}
 use Rattle.run_path.specs.Path.{pathFrom, longestPath, Path}
 use Rattle.run_window.specs.Window.{vacant, isHeld, vacancies}
-use Rattle.run_window.specs.Tests.{by-test}
 use Rattle.run_window.specs.Places.{Holds, Once}
 use Rattle.run_window.specs.declared.Entry.{Entry}
 use Rattle.plan_limits.specs.Window.{entryInLimits}
@@ -42,7 +45,7 @@ use Rattle.run.specs.Loading.{load}
 use Rattle.run_opening.specs.Given.{atFirst, availabilities, anyAbove}
 use Rattle.run_opening.specs.Short.{shortFrom}
 use Rattle.run_opening.specs.declared.Short.{Short}
-use Rattle.run_opening.specs.Laws.{all-same, given-at, or-false, none-above}
+use Rattle.run_opening.specs.Laws.{given-at, none-above}
 use Rattle.run.specs.Opening.{fresh, firstLoaded, begin, openPlan, openJudged, openOf}
 use Rattle.run.specs.Opening as Opening
 use Rattle.run.specs.declared.Stop.{Stop}
@@ -60,8 +63,6 @@ use Rattle.demands_theory.specs.Laws.Longest.{silent-before, within-none}
 use Rattle.demands_theory.specs.Laws.Replies.{not-going}
 use Rattle.demands_theory.specs.Laws.World.{old-position}
 use Rattle.demands_theory.specs.OfRun.{machine}
-use Rattle.activity.specs.Tells.{Tells, told-false, tells-iff}
-use Rattle.plan_limits.specs.Tells.{tells-ltb}
 use Rattle.demands_theory.specs.Machine.{Held}
 use Rattle.demands_theory.specs.Nodes.{Work}
 use Rattle.demands_theory.specs.Loading.{Silently, stays, goes-on, Beyond, Within, Unreported, TooMany, FirstBeyond, FirstMany}

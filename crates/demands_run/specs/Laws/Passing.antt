@@ -6,6 +6,8 @@ use Prim.Native.Nat.{ℕ, suc, _≤_, _<_}
 use native.Mathlib.Omega.{arith}
 use lib.ListN.{length}
 use Rattle.basis.specs.Lists.{one, more}
+use Rattle.basis.specs.Inner.Tells.{Tells}
+use Rattle.basis.specs.Laws.Tells.{tells-iff}
 use Rattle.time.specs.Time.{horizon}
 use Rattle.plan.specs.Plan.{move, emittedBy, resourceOf, predecessors}
 use Rattle.plan.specs.declared.Kind.{Kind}
@@ -13,7 +15,6 @@ use Rattle.plan.specs.declared.Node.{Node}
 use Rattle.plan.specs.declared.Plan.{Plan}
 use Rattle.activity.specs.Rules as A
 use Rattle.activity.specs.Rules.{node, Meets}
-use Rattle.activity.specs.Tells.{Tells, tells-iff}
 use Rattle.times.specs.Times.{at}
 use Rattle.times.specs.Engine.{takenBy}
 use Rattle.times.specs.declared.Progress.{Progress}

@@ -4,25 +4,26 @@ use mathlib.Core.Bool.{Bool, true, false, cond}
 use mathlib.Core.List.{List, [], _∷_, _++_}
 use mathlib.Core.Logic.{_⊎_, inl, inr}
 use Prim.Native.Nat.{ℕ, zero, suc}
+use Rattle.basis.specs.Inner.Tells.{Tells, holds, fails}
+use Rattle.basis.specs.Laws.Tells.{tells-iff}
 use Rattle.plan.specs.declared.Plan.{Plan}
-use Rattle.activity.specs.Tells.{Tells, holds, fails, tells-iff}
 use Rattle.automaton.specs.Next.{nextOf}
 use Rattle.automaton.specs.Rules.{MeetsAutomaton}
 use Rattle.automaton.specs.declared.Next.{Next}
+use Rattle.automaton.specs.Laws.Cases.{goes-same, ended-goes, waits-goes}
 use Rattle.times_combined.specs.Paths.{Lawful}
 use Rattle.times.specs.declared.Progress.{Progress}
 use Rattle.run_path.specs.Path.{Path, takenBy, entriesBy, pathFrom}
 use Rattle.demands_log.specs.Log.{Id, Log, Told}
 use Rattle.demands_theory.specs.TheWord.{nextAfter, Takes, goes}
 use Rattle.demands_theory.specs.Loading.{Silently, stays, goes-on, Beyond, PathBeyond}
-use Rattle.demands_theory.specs.Laws.TheWord.{last, goes-same, step-same, ended-goes}
+use Rattle.demands_theory.specs.Laws.TheWord.{last, step-same}
 use Rattle.demands_run.specs.Engine.{Settles, EngineLaws}
 use Rattle.demands_run.specs.Stands.{Stands}
 use Rattle.demands_run.specs.Laws.Silent.{silent-first, silent-next}
 use Rattle.demands_run.specs.Laws.Taken.{next-state, stands-on}
 use Rattle.demands_run.specs.Laws.Counts.{possible, pending-length}
 use Rattle.demands_run.specs.Laws.Passing.{tells-beyond}
-use Rattle.demands_run.specs.Laws.Paths.{waits-goes}
 
 module _ (p : Plan) (lawful : Lawful p) (automaton : MeetsAutomaton p) (available : ℕ → ℕ) (log : Log) (laws : EngineLaws) where
   -- where the run stands after one transition more

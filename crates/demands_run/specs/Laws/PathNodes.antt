@@ -7,6 +7,8 @@ use Prim.Native.Nat.{ℕ, zero, suc, _+_, _≤_, _<_}
 use native.Mathlib.Omega.{arith}
 use lib.ListN.{length, getD}
 use Rattle.basis.specs.Lists.{Among, Distinct}
+use Rattle.basis.specs.Laws.Lists.{among-left, among-right, among-either, among-map, map-among, distinct-both, at-among}
+use Rattle.basis.specs.Laws.Bools.{by-test}
 use Rattle.plan.specs.Plan.{move, emittedBy}
 use Rattle.plan.specs.declared.Kind.{Kind}
 use Rattle.plan.specs.declared.Node.{Node}
@@ -15,31 +17,28 @@ use Rattle.activity.specs.Rules.{node}
 use Rattle.automaton.specs.Next.{nextOf}
 use Rattle.automaton.specs.Rules.{MeetsAutomaton}
 use Rattle.automaton.specs.declared.Next.{Next}
+use Rattle.automaton.specs.Laws.Cases.{ended-goes, waits-goes}
 use Rattle.times_combined.specs.Word.{size}
 use Rattle.times_combined.specs.Combined.{NotRelease, NotClaim, Nodes, Joined}
 use Rattle.times_combined.specs.Paths.{wordOf, Lawful}
-use Rattle.times_combined.specs.Laws.Lists.{among-left, among-right, among-either, among-map, map-among, distinct-both}
 use Rattle.times_combined.specs.Laws.Shape.{node-place, sort}
 use Rattle.times.specs.declared.Schedule.{Schedule}
 use Rattle.times.specs.declared.Progress.{Progress}
 use Rattle.run_path.specs.Path.{Path, isWork, loaded, activityNumber, takenBy, entriesBy, pathFrom}
 use Rattle.run_window.specs.Window.{vacant}
-use Rattle.run_window.specs.Tests.{by-test}
 use Rattle.run_window.specs.declared.Entry.{Entry}
 use Rattle.demands_log.specs.Log.{Id, id, Log}
-use Rattle.demands_theory.specs.Machine.{idOf}
-use Rattle.demands_theory.specs.Nodes.{whose, Working, Work, lengthOf}
+use Rattle.demands_theory.specs.Nodes.{whose, Working, Work, lengthOf, idOf}
 use Rattle.demands_theory.specs.TheWord.{stateAfter, nextAfter, wholeOf, Rests, Takes, goes}
 use Rattle.demands_theory.specs.Loading.{Silently, stays}
-use Rattle.demands_theory.specs.Laws.TheWord.{takes-follows, ended-goes}
+use Rattle.demands_theory.specs.Laws.TheWord.{takes-follows}
 use Rattle.demands_theory.specs.Laws.World.{old-position}
 use Rattle.demands_run.specs.Engine.{Settles, EngineLaws}
 use Rattle.demands_run.specs.Stands.{Stands}
 use Rattle.demands_run.specs.Laws.Silent.{silent-first}
 use Rattle.demands_run.specs.Laws.Taken.{size-is, next-state}
-use Rattle.demands_run.specs.Laws.Entries.{at-among, brought, brings, different}
+use Rattle.demands_run.specs.Laws.Entries.{brought, brings, different}
 use Rattle.demands_run.specs.Laws.Loaded.{work-working, working-work}
-use Rattle.demands_run.specs.Laws.Paths.{waits-goes}
 use Rattle.demands_run.specs.Laws.PathLimits.{on}
 
 not-release : (k : Kind) → Working k → NotRelease k

@@ -5,12 +5,14 @@ use mathlib.Core.List.{List, [], _∷_, _++_, map}
 use Prim.Native.Nat.{ℕ, zero, suc, _+_, _≤_}
 use native.Mathlib.Omega.{arith}
 use lib.ListN.{length, length-append}
+use Rattle.basis.specs.Laws.Bools.{by-test}
 use Rattle.plan.specs.Plan.{move}
 use Rattle.plan.specs.declared.Input.{Input}
 use Rattle.plan.specs.declared.Plan.{Plan}
 use Rattle.automaton.specs.Next.{nextOf}
 use Rattle.automaton.specs.Rules.{MeetsAutomaton}
 use Rattle.automaton.specs.declared.Next.{Next}
+use Rattle.automaton.specs.Laws.Cases.{waits-goes, ended-goes}
 use Rattle.times_combined.specs.Paths.{Lawful}
 use Rattle.times.specs.Times.{at}
 use Rattle.times.specs.Queues.{queueOf, emission}
@@ -19,13 +21,11 @@ use Rattle.times.specs.declared.Instance.{Instance}
 use Rattle.times.specs.declared.Progress.{Progress}
 use Rattle.run_path.specs.Path.{Path, takenBy, entriesBy, pathFrom, ends, after}
 use Rattle.run_window.specs.Window.{placed, vacancies}
-use Rattle.run_window.specs.Tests.{by-test}
 use Rattle.run_window.specs.Placed.{placed-none, placed-append, placed-vacancies}
 use Rattle.run_window.specs.declared.Entry.{Entry}
 use Rattle.demands_log.specs.Log.{Log}
 use Rattle.demands_theory.specs.TheWord.{nextAfter, Takes, goes}
 use Rattle.demands_theory.specs.Loading.{Silently, stays}
-use Rattle.demands_theory.specs.Laws.TheWord.{ended-goes}
 use Rattle.demands_run.specs.Laws.Silent.{silent-first}
 pub use Rattle.demands_theory.specs.TheWord.{Rests}
 use Rattle.demands_theory.specs.Laws.Next.{next-found}
@@ -56,9 +56,6 @@ tolds-new position C (n ∷ ns) = let u = tolds-new position C ns in omega arith
 pub tail-on : (is us vs : List ℕ) → Tail is us → Tail us vs → Tail is vs
 tail-on is us vs a here = a
 tail-on is us vs a (later b) = later (tail-on is us _ a b)
-
-pub waits-goes : {A : Type 0} {e t : ℕ} → Next.Waits e ≡ Next.Goes t → A
-waits-goes e = absurd (let z : _≡_ {A = ℕ} 0 1 = cc in omega arith)
 
 module _ (p : Plan) (lawful : Lawful p) (automaton : MeetsAutomaton p) (available : ℕ → ℕ) (log : Log) (base : List ℕ) (v : List Entry) (laws : EngineLaws) where
   abbrev In : List ℕ → Progress → List Entry → Type 0

@@ -2,21 +2,19 @@
 use mathlib.Core.Path.{_≡_, refl, sym, subst}
 use mathlib.Core.Bool.{Bool, true, false, cond, _&&_}
 use mathlib.Core.List.{List, [], _∷_}
-use Prim.Native.Nat.{ℕ, zero, suc, _+_, _-_, _≤_, _<_}
+use Prim.Native.Nat.{ℕ, zero, suc, _+_, _≤_, _<_}
 use native.Mathlib.Omega.{arith}
 use native.Mathlib.Decide.{ℕ-discrete}
 use borrow.Author.Tests.{leb-false}
 use lib.Dec.{leb}
+use Rattle.basis.specs.Laws.Bools.{and-false, or-false}
 use Rattle.plan.specs.Plan.{activityOf}
 use Rattle.plan.specs.declared.Node.{Node}
 use Rattle.plan.specs.declared.Plan.{Plan}
 use Rattle.run_path.specs.Path.{isWork}
 use Rattle.run_opening.specs.Short.{anyShort, shortFrom, onShort}
 use Rattle.run_opening.specs.declared.Short.{Short}
-use Rattle.run_opening.specs.Laws.{or-false}
-use Rattle.run.specs.Opening as Opening
 use Rattle.demands_theory.specs.OfPlan.{Outlast}
-use Rattle.demands_run.specs.Laws.Bools.{and-false}
 use Rattle.demands_run.specs.Laws.Loaded.{working-work}
 
 none-short : (slack : ℕ) (ns : List Node) → anyShort slack ns ≡ false → Outlast slack ns

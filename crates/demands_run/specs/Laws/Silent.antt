@@ -5,9 +5,9 @@ use mathlib.Core.Logic.{_⊎_, inl, inr}
 use Prim.Native.Nat.{ℕ}
 use Rattle.plan.specs.declared.Plan.{Plan}
 use Rattle.automaton.specs.declared.Next.{Next}
+use Rattle.automaton.specs.Laws.Cases.{goes-same}
 use Rattle.demands_theory.specs.Loading.{Silently, stays, goes-on}
 use Rattle.demands_theory.specs.TheWord.{nextAfter, Rests}
-use Rattle.demands_theory.specs.Laws.TheWord.{goes-same}
 
 module _ (p : Plan) where
   pub silent-first : (us : List ℕ) (t : ℕ) → nextAfter p us ≡ Next.Goes t → (vs : List ℕ) → Silently p (t ∷ us) vs → Silently p us vs

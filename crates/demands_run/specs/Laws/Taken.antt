@@ -10,6 +10,7 @@ use borrow.Author.Tests.{lt-leb, eqb-true, eq-eqb}
 use lib.Dec.{eqb}
 use lib.ListN.{length, length-append}
 use Rattle.basis.specs.Lists.{Among}
+use Rattle.basis.specs.Laws.Lists.{among-either, map-among}
 use Rattle.plan.specs.Plan.{move, resourceOf}
 use Rattle.plan.specs.declared.Input.{Input}
 use Rattle.plan.specs.declared.Plan.{Plan}
@@ -21,7 +22,6 @@ use Rattle.times_combined.specs.Exec.{put}
 use Rattle.times_combined.specs.Paths.{stepOf, wordOf, Follows, Lawful}
 use Rattle.times_combined.specs.Laws.Exists.{extended}
 use Rattle.times_combined.specs.Laws.Instances.{Listing, listing-grows}
-use Rattle.times_combined.specs.Laws.Lists.{among-either, map-among}
 use Rattle.times_combined.specs.Laws.Unique.{shape-of}
 use Rattle.times_combined.specs.Laws.Plans.{good-path}
 use Rattle.times.specs.Times.{at}

@@ -1,6 +1,6 @@
 -- An outcome is stored with its instance: the queues change in nothing else.
 use mathlib.Core.Path.{_≡_, refl, sym, ap, ap₂, _∙_, subst}
-use mathlib.Core.Bool.{Bool, true, false, cond, _&&_, true≢false}
+use mathlib.Core.Bool.{Bool, true, false, cond}
 use mathlib.Core.Logic.{_⊎_, inl, inr, ⊎-elim}
 use mathlib.Core.List.{List, [], _∷_, map}
 use Prim.Native.Nat.{ℕ, zero, suc, _+_, _≤_, _<_}
@@ -11,20 +11,16 @@ use lib.ListN.{length, getD, set, length-set}
 use lib.Seq.{getD-set-same, getD-set-other}
 use Rattle.basis.specs.Lists.{Among, Distinct}
 use Rattle.basis.specs.Parts.{part}
+use Rattle.basis.specs.Laws.Lists.{among-map}
+use Rattle.basis.specs.Laws.Bools.{and-left, and-right, by-test}
+use Rattle.basis.specs.Laws.Parts.{part-same}
 use Rattle.times_combined.specs.Combined.{Ident, identity}
-use Rattle.times_combined.specs.Laws.Lists.{among-map}
 use Rattle.times.specs.Queues.{noInstance}
 use Rattle.times.specs.declared.Instance.{Instance}
-use Rattle.run_window.specs.Tests.{by-test}
 use Rattle.run_outcomes.specs.Told.{tell, isInstance, toldFrom}
-use Rattle.demands_run.specs.Laws.Bools.{and-left, and-right}
 use Rattle.demands_run.specs.Stands.{identOf}
 
 -- ---- parts of a list
-
-pub part-same : {A : Type 0} (d : A) (l m : List A) (i k : ℕ) → ((j : ℕ) → i ≤ j → j < i + k → getD l j d ≡ getD m j d) → part d l i k ≡ part d m i k
-part-same d l m i zero h = refl
-part-same d l m i (suc k) h = ap₂ (λ x xs. x ∷ xs) (h i (omega arith) (omega arith)) (part-same d l m (i + 1) k (λ j a b. h j (omega arith) (omega arith)))
 
 set-cases : {A : Type 0} (xs : List A) (i : ℕ) (v : A) (j : ℕ) (d : A) → (getD (set xs i v) j d ≡ getD xs j d) ⊎ ((j ≡ i) × (getD (set xs i v) j d ≡ v))
 set-cases [] i v j d = inl refl
@@ -94,6 +90,6 @@ module _ (position node o : ℕ) where
   told-part (suc k) i xs l d =
       by-test (λ (m : List Instance). part noInstance m i (suc k) ≡ map informed (part noInstance xs i (suc k))) (isInstance position node (getD xs i noInstance)) _ _
       (λ b. ap₂ (λ x ys. x ∷ ys) (getD-set-same xs i (tell (getD xs i noInstance) o) noInstance (omega arith) ∙ rw b)
-      (part-same noInstance (set xs i (tell (getD xs i noInstance) o)) xs (i + 1) k (λ j a c. getD-set-other xs i j (tell (getD xs i noInstance) o) noInstance (λ z. omega arith))
+      (part-same noInstance (set xs i (tell (getD xs i noInstance) o)) xs k (i + 1) (i + 1) (λ n q. getD-set-other xs i (i + 1 + n) (tell (getD xs i noInstance) o) noInstance (λ z. omega arith))
       ∙ sym (none-informed (part noInstance xs (i + 1) k) (alone (getD xs i noInstance) (part noInstance xs (i + 1) k) b (d .0)))))
       (λ b. ap₂ (λ x ys. x ∷ ys) (told-outside k (i + 1) xs i (inl (omega arith)) ∙ rw b) (told-part k (i + 1) xs (omega arith) (d .1)))

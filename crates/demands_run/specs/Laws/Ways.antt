@@ -8,13 +8,14 @@ use native.Mathlib.Omega.{arith}
 use lib.Dec.{ltb}
 use lib.ListN.{length, getD, set, length-set}
 use borrow.Author.Tests.{ltb-false}
+use Rattle.basis.specs.Laws.Bools.{and-left, and-right, and-false, by-test}
 use Rattle.time.specs.declared.Clock.{Clock}
 use Rattle.plan.specs.Plan.{outcomesOf, isFinal}
 use Rattle.plan.specs.declared.Kind.{Kind}
 use Rattle.plan.specs.declared.Plan.{Plan}
 use Rattle.times.specs.declared.Progress.{Progress}
 use Rattle.run_window.specs.Window.{vacant, isFree, isHeld, isStarted, startedOf, isOverdue, isLate, isDue, isNode, startsBefore, endsBefore, isEmpty}
-use Rattle.run_window.specs.Tests.{by-test, overdue-tells, overdue-false, due-tells, due-false, late-tells, late-false, node-tells, started-true, unfree-held}
+use Rattle.run_window.specs.Tests.{overdue-tells, overdue-false, due-tells, due-false, late-tells, late-false, node-tells, started-true, unfree-held}
 use Rattle.run_window.specs.Order.{starts-order, ends-order}
 use Rattle.run_window.specs.Firsts.{First, NonePass, by-first}
 use Rattle.run_window.specs.Places.{Holds, holds-within, empty-none, stored-here, stored-kept, stored-only, stored-each, cleared-only}
@@ -41,13 +42,12 @@ use Rattle.demands_theory.specs.Laws.Accounts.{no-report}
 use Rattle.demands_theory.specs.Laws.Replies.{not-going}
 use Rattle.demands_theory.specs.OfRun.{machine}
 use Rattle.demands_run.specs.Stands.{Accepted, Good}
-use Rattle.demands_run.specs.Laws.Bools.{and-left, and-right, and-false}
 use Rattle.demands_run.specs.Laws.Later.{tells-not, stuck-later, beyond-later, full-later, stands-later}
 use Rattle.demands_run.specs.Laws.Bounds.{entry-passes, entry-within, vacant-passes, run-passes, late-passes}
 
 -- ---- the window
 
-held-loaded : (s : Phase) → isHeld s ≡ true → isStarted s ≡ false → s ≡ Phase.Loaded
+pub held-loaded : (s : Phase) → isHeld s ≡ true → isStarted s ≡ false → s ≡ Phase.Loaded
 held-loaded Phase.Free h q = absurd (true≢false (sym h))
 held-loaded Phase.Loaded h q = refl
 held-loaded Phase.Started h q = absurd (true≢false q)

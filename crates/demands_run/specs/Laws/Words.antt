@@ -12,6 +12,7 @@ use lib.Dec.{eqb}
 use lib.ListN.{length, length-append}
 use Rattle.basis.specs.Lists.{Among}
 use Rattle.basis.specs.Parts.{among-part}
+use Rattle.basis.specs.Laws.Lists.{among-either, map-among}
 use Rattle.plan.specs.Plan.{move, emittedBy, outcomesOf, resourceOf}
 use Rattle.plan.specs.Limits.{InputNames}
 use Rattle.plan.specs.declared.Input.{Input}
@@ -20,13 +21,13 @@ use Rattle.automaton.specs.Next.{chosenOf}
 use Rattle.automaton.specs.Rules.{MeetsAutomaton}
 use Rattle.automaton.specs.declared.Next.{Next}
 use Rattle.automaton.specs.declared.Chosen.{Chosen}
+use Rattle.automaton.specs.Laws.Cases.{ended-goes, waits-goes}
 use Rattle.times_combined.specs.Word.{size, once, times}
 use Rattle.times_combined.specs.Combined.{Ident, named, Instance, processing}
 use Rattle.times_combined.specs.Accepted.{GoodWord}
 use Rattle.times_combined.specs.Exec.{emitsOf}
 use Rattle.times_combined.specs.Paths.{wordOf, Lawful}
 use Rattle.times_combined.specs.Laws.Instances.{Listing, listing-grows, instance-cut, next-instance, only-instance}
-use Rattle.times_combined.specs.Laws.Lists.{among-either, map-among}
 use Rattle.times_combined.specs.Laws.Unique.{shape-of}
 use Rattle.times_combined.specs.Laws.Computed.{emits}
 use Rattle.times_combined.specs.Laws.Plans.{good-path}
@@ -40,13 +41,14 @@ use Rattle.demands_log.specs.Log as Log
 use Rattle.demands_theory.specs.Nodes.{whose, lengthOf}
 use Rattle.demands_theory.specs.TheWord.{stateAfter, nextAfter, wholeOf, Oldest, Takes, goes, hears, Stuck, ended, waits, TheWord}
 use Rattle.demands_theory.specs.Laws.Next.{next-found, chosen-found}
-use Rattle.demands_theory.specs.Laws.TheWord.{takes-follows, ended-goes}
+use Rattle.demands_theory.specs.Laws.TheWord.{takes-follows}
+use Rattle.demands_theory.specs.Laws.Nodes.{whose-same}
 use Rattle.demands_run.specs.Engine.{rest, Settles, EngineLaws}
 use Rattle.demands_run.specs.Stands.{identOf, idOf, ToldAs, Queued, Stands}
 use Rattle.demands_run.specs.Laws.Taken.{size-is, popped, emissions-are}
-use Rattle.demands_run.specs.Laws.Paths.{isTold, tolds, tolds-append, tolds-new, Rests, waits-goes}
+use Rattle.demands_run.specs.Laws.Paths.{isTold, tolds, tolds-append, tolds-new, Rests}
 use Rattle.demands_run.specs.Laws.Sums.{sum, sum-same, sum-falls}
-use Rattle.demands_run.specs.Laws.Onward.{awaited, whose-same}
+use Rattle.demands_run.specs.Laws.Onward.{awaited}
 
 -- the instances of each event, less the one that is processed
 abbrev left : Input → (ℕ → List Pending) → ℕ → List Pending

@@ -15,13 +15,14 @@ use Rattle.run.specs.declared.Halt.{Halt}
 use Rattle.run.specs.declared.Failure.{Failure}
 use Rattle.demands_log.specs.Log.{Id, Said, said, Log, reading, Started, Stops, StoppedBy, Accepts, Finishes}
 use Rattle.demands_log.specs.Host.{HostAt, Mild}
-use Rattle.demands_theory.specs.Machine.{World, Machine, idOf, Window, Waiting}
+use Rattle.demands_theory.specs.Machine.{World, Machine, Window, Waiting}
 use Rattle.demands_theory.specs.Way.{Stays, Loads, Turns, haltOf, replyOf, Answers, Way, keeps, refuses, overdues, lates, begins, idles, completes, learns}
 use Rattle.demands_theory.specs.Works.{Works}
 use Rattle.demands_theory.specs.Laws.Accounts.{Accounts, accounts-quiet, accounts-begin, accounts-report, accounts-load}
 use Rattle.demands_theory.specs.Laws.Clock.{Clock, clock-refused, clock-next, never-late}
 use Rattle.demands_theory.specs.Laws.Invariant.{MildHalt, Latest, Invariant}
 use Rattle.demands_theory.specs.Laws.Replies.{not-going, same-stop, not-stop, Other, not-50, quiet, stop-accepts, failure-starts, failure-accepts, failure-unfinished, failure-unwaiting, failure-mild, failure-halt, failure-other, failure-halted, failure-stopped}
+use Rattle.demands_theory.specs.Nodes.{idOf}
 
 module _ (W : World) (M : Machine) (psi slack : ℕ) (Good : Log → W .Word → M .Run → Type 0) (w : Works W M psi slack Good) (log : Log) (word : W .Word) (run : M .Run) (g : Good log word run) (v : Invariant W M psi slack word log run) where
   -- an answer that is neither done nor wait

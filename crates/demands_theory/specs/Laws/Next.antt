@@ -1,6 +1,6 @@
 -- The automaton's next transition and its choice by an outcome are transitions of the state; and along its paths an event is
 -- processed as often, and emitted as often, as in the word of the path.
-use mathlib.Core.Path.{_≡_, refl, ap₂, subst}
+use mathlib.Core.Path.{_≡_, refl, sym, ap₂, subst}
 use mathlib.Core.Bool.{Bool, true, false, cond}
 use mathlib.Core.List.{List, [], _∷_}
 use Prim.Native.Nat.{ℕ, zero, suc, _+_, _≤_, _<_}
@@ -9,6 +9,7 @@ use lib.ListN.{getD}
 use lib.Dec.{eqb}
 use borrow.Author.Tests.{eqb-true}
 use Rattle.basis.specs.Parts.{part}
+use Rattle.basis.specs.Laws.Bools.{clash}
 use Rattle.plan.specs.Plan.{pastMove, move, emittedBy, activityOf, resourceOf}
 use Rattle.plan.specs.Limits.{FileRules}
 use Rattle.plan.specs.declared.Kind.{Kind}
@@ -76,11 +77,8 @@ chooses-later : (ts : List Transition) (s e o i k : ℕ) (c : Chosen) → Choose
 chooses-later ts s e o i k Chosen.Nothing h = tt
 chooses-later ts s e o i k (Chosen.Move t) h = found-later ts s i k t (Input.Outcome e o) h
 
-clash : {A : Type 0} → false ≡ true → A
-clash e = absurd (let z : _≡_ {A = ℕ} 0 1 = cc in omega arith)
-
 carried : (x : Input) (e o : ℕ) → carries x e o ≡ true → x ≡ Input.Outcome e o
-carried Input.Nothing e o h = clash h
+carried Input.Nothing e o h = clash (sym h)
 carried (Input.Outcome f q) e o h = ap₂ Input.Outcome (eqb-true f e (both-left (eqb f e) (eqb q o) h)) (eqb-true q o (both-right (eqb f e) (eqb q o) h))
 
 chosen-chooses : (ts : List Transition) (s e o i k : ℕ) → Chooses ts s e o i k (chosenFrom (part pastMove ts i k) s e o i)

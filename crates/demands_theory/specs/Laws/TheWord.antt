@@ -10,8 +10,8 @@ use Rattle.plan.specs.declared.Plan.{Plan}
 use Rattle.automaton.specs.Next.{chosenOf}
 use Rattle.automaton.specs.declared.Next.{Next}
 use Rattle.automaton.specs.declared.Chosen.{Chosen}
+use Rattle.automaton.specs.Laws.Cases.{goes-same, waits-same, move-same, goes-waits, ended-goes, ended-waits}
 use Rattle.times_combined.specs.Word.{times}
-use Rattle.times_combined.specs.Combined.{named}
 use Rattle.times_combined.specs.Paths.{wordOf, Follows, Lawful}
 use Rattle.times_combined.specs.Laws.Counts.{one-instance}
 use Rattle.times_combined.specs.Laws.Plans.{good-path}
@@ -25,6 +25,7 @@ use Rattle.demands_theory.specs.OfPlan.{worldOf}
 use Rattle.demands_theory.specs.Laws.Next.{Found, next-found, chosen-found}
 use Rattle.demands_theory.specs.Laws.World.{extends}
 use Rattle.demands_theory.specs.Laws.Growth.{extends-self, extends-on, Tail, here, later, tail-next, tail-empty}
+use Rattle.demands_theory.specs.Laws.Nodes.{whose-same}
 
 -- ---- a log in which no node is reported twice tells one outcome of each
 
@@ -78,36 +79,6 @@ takes-follows p log (t ∷ is) h =
     (subst (Follows p (p .automaton .initial) is) (sym (f .from)) (takes-follows p log is (l .0)), ((let u = f .below in omega arith), refl))
 
 -- ---- it is determined
-
-pub goes-same : {t u : ℕ} → Next.Goes t ≡ Next.Goes u → t ≡ u
-goes-same e = cc
-
-pub waits-same : {t u : ℕ} → Next.Waits t ≡ Next.Waits u → t ≡ u
-waits-same e = cc
-
-move-same : {t u : ℕ} → Chosen.Move t ≡ Chosen.Move u → t ≡ u
-move-same e = cc
-
-goes-waits : {A : Type 0} {t e : ℕ} → Next.Goes t ≡ Next.Waits e → A
-goes-waits e = absurd (let z : _≡_ {A = ℕ} 0 1 = cc in omega arith)
-
-pub ended-goes : {A : Type 0} {t : ℕ} → Next.Ended ≡ Next.Goes t → A
-ended-goes e = absurd (let z : _≡_ {A = ℕ} 0 1 = cc in omega arith)
-
-pub ended-waits : {A : Type 0} {e : ℕ} → Next.Ended ≡ Next.Waits e → A
-ended-waits e = absurd (let z : _≡_ {A = ℕ} 0 1 = cc in omega arith)
-
-position-same : {q m r n : ℕ} → named q m ≡ named r n → q ≡ r
-position-same e = cc
-
-number-same : {q m r n : ℕ} → named q m ≡ named r n → m ≡ n
-number-same e = cc
-
-whose-same : (x y : Id) → whose x ≡ whose y → x ≡ y
-whose-same x y e =
-    let p : x .position ≡ y .position = (let u = position-same e in omega arith) in
-    let n : x .node ≡ y .node = number-same e in
-    λ i. record { position = p i; node = n i }
 
 module _ (p : Plan) (lawful : Lawful p) (log : Log) (unique : (x : Id) (o q : ℕ) → Told log x o → Told log x q → o ≡ q) where
   oldest-same : (is : List ℕ) → Takes p log is → (e : ℕ) (x y : Id) → Oldest p is e x → Oldest p is e y → x ≡ y

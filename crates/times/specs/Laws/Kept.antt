@@ -13,6 +13,7 @@ use lib.Seq.{getD-set-other}
 use lib.Dec.{ltb}
 use Rattle.basis.specs.Lists.{Among}
 use Rattle.basis.specs.Parts.{among-part, length-part}
+pub use Rattle.basis.specs.Laws.Bools.{clash as true-false}
 use Rattle.time.specs.Time.{horizon}
 use Rattle.time.specs.declared.Specified.{Specified}
 use Rattle.plan.specs.Plan.{pastNode, nodesOf}
@@ -30,9 +31,6 @@ use Rattle.times.specs.Limits.{InstanceInLimits, ProgressInLimits, StepF
 use Rattle.times.specs.Laws.Rounds.{at-set-le}
 use Rattle.times.specs.Laws.Fits.{by-test, timeable, leaving, left-position-by, left-position}
 use Rattle.times.specs.Laws.Places.{here, shifted-outside, shifted-inside}
-
-pub true-false : {A : Type 0} → true ≡ false → A
-true-false e = absurd (let z : _≡_ {A = ℕ} 0 1 = cc in omega arith)
 
 -- no time above 10^15
 pub above-none : (k i : ℕ) (ts : List Specified) → aboveOf ts i k ≡ false → (j : ℕ) → i ≤ j → j < i + k → at ts j ≤ horizon
@@ -154,7 +152,7 @@ module _ (E : ℕ) (outcomes : List ℕ) where
 
 -- ---- one transition
 
-beyond-told : (R size : ℕ) (end : List Specified) (g : Progress) → beyondOf R size end g ≡ false → (g .position ≤ lastPosition) × (aboveOf end 0 size ≡ false) × (aboveOf (g .available) 0 R ≡ false)
+pub beyond-told : (R size : ℕ) (end : List Specified) (g : Progress) → beyondOf R size end g ≡ false → (g .position ≤ lastPosition) × (aboveOf end 0 size ≡ false) × (aboveOf (g .available) 0 R ≡ false)
 unfolding beyondOf
 beyond-told R size end g e = go (ltb lastPosition (g .position)) refl (aboveOf end 0 size) refl e
   where

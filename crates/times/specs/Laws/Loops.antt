@@ -7,29 +7,14 @@ use native.Mathlib.Omega.{arith}
 use lib.ListN.{length, getD, set, length-map}
 use lib.Dec.{ltb}
 use Rattle.basis.specs.Parts.{part}
+pub use Rattle.basis.specs.Laws.Lists.{unmapped}
+pub use Rattle.basis.specs.Laws.Parts.{fewer, none, part-step, part-end}
 use Rattle.time.specs.Time.{horizon}
 use Rattle.time.specs.declared.Specified.{Specified}
 use Rattle.times.specs.declared.Instance.{Instance}
 use Rattle.times.specs.Times.{specified, at, flag, readyOf, largestOf}
 use Rattle.times.specs.Queues.{noInstance, shiftedOf}
 use Rattle.times.specs.Engine.{raisedOf, aboveOf}
-
--- what owning a struct tells of a field that is an array of structs
-pub unmapped : (X Y : Type 0) (f : X → Y) (l : List X) (n : ℕ) → length (map f l) ≡ n → length l ≡ n
-unmapped X Y f l n e = sym (length-map l f) ∙ e
-
--- n - i falls to n - (i + 1)
-pub fewer : (i n : ℕ) → i < n → n - i ≡ suc (n - (i + 1))
-fewer i n h = omega arith
-
-pub none : (i n : ℕ) → n ≤ i → n - i ≡ 0
-none i n h = omega arith
-
-pub part-step : {A : Type 0} (d : A) (l : List A) (i n : ℕ) → i < n → part d l i (n - i) ≡ getD l i d ∷ part d l (i + 1) (n - (i + 1))
-part-step d l i n h = ap (part d l i) (fewer i n h)
-
-pub part-end : {A : Type 0} (d : A) (l : List A) (i n : ℕ) → n ≤ i → part d l i (n - i) ≡ []
-part-end d l i n h = ap (part d l i) (none i n h)
 
 -- ---- every predecessor is done
 

@@ -12,6 +12,7 @@ use lib.Dec.{eqb}
 use lib.Seq.{getD-set-other}
 use Rattle.basis.specs.Lists.{Among}
 use Rattle.basis.specs.Parts.{part, part-among, length-part}
+pub use Rattle.basis.specs.Laws.Flags.{falses-set}
 use Rattle.time.specs.Time.{horizon}
 use Rattle.time.specs.declared.Specified.{Specified}
 use Rattle.plan.specs.Plan.{pastNode, predecessors, nodesOf}
@@ -84,14 +85,6 @@ unfolding placedOf
 stored-placed n t p q r = rw (p, q, r)
 
 -- ---- how many are done
-
-pub falses-set : (D : List Bool) (n : ℕ) → n < length D → flag D n ≡ false → suc (falses (set D n true)) ≡ falses D
-unfolding falses
-falses-set [] n h e = absurd (omega arith)
-falses-set (false ∷ D) zero h e = refl
-falses-set (true ∷ D) zero h e = absurd (let z : _≡_ {A = ℕ} 0 1 = cc in omega arith)
-falses-set (false ∷ D) (suc n) h e = ap suc (falses-set D n (omega arith) e)
-falses-set (true ∷ D) (suc n) h e = falses-set D n (omega arith) e
 
 -- ---- how late they end
 

@@ -10,6 +10,8 @@ use lib.ListN.{length}
 use lib.Dec.{ltb}
 use borrow.Author.Tests.{eqb-true, eqb-false, ltb-true, ltb-false}
 use Rattle.basis.specs.Lists.{Among, Distinct, one, more}
+use Rattle.basis.specs.Laws.Lists.{among-right, among-either}
+use Rattle.basis.specs.Laws.Bools.{clash}
 use Rattle.plan.specs.declared.Kind.{Kind}
 use Rattle.plan.specs.declared.Kind.the-variants.{Action, Claim, Release, Event}
 use Rattle.plan.specs.declared.Node.{Node}
@@ -20,12 +22,8 @@ use Rattle.times_combined.specs.Accepted.{Good}
 use Rattle.times_combined.specs.Combined.{NotClaim}
 use Rattle.times_combined.specs.Engine.{State, raised, Available, Emits, Timed, latest, held}
 use Rattle.times_combined.specs.Exec.{rankOf, beginBy, begin, endBy, endOf, startOf, insert, emitsBelow, emitsOf, isRelease, releasedBelow}
-use Rattle.times_combined.specs.Laws.Lists.{among-right, among-either}
 use Rattle.times_combined.specs.Laws.Shape.{release-same, event-same}
 use Rattle.times_combined.specs.Laws.Ranks.{rises}
-
-clash : false ≡ true → ⊥
-clash e = let z : _≡_ {A = ℕ} 0 1 = cc in omega arith
 
 -- ---- the times of one activity
 
@@ -75,10 +73,10 @@ module _ (R : ℕ) (belongs : ℕ → ℕ) (a : List Node) (ok : Good R belongs 
   -- ---- the release of a resource
 
   release-told : (k : Kind) (r : ℕ) → (b : Bool) → isRelease k r ≡ b → (b ≡ true → k ≡ Release r) × (b ≡ false → k ≡ Release r → ⊥)
-  release-told (Action x p) r b e = (λ t. absurd (clash (e ∙ t)), λ f q. let z : _≡_ {A = ℕ} 0 1 = cc in omega arith)
-  release-told (Claim x) r b e = (λ t. absurd (clash (e ∙ t)), λ f q. let z : _≡_ {A = ℕ} 0 1 = cc in omega arith)
+  release-told (Action x p) r b e = (λ t. clash (sym (e ∙ t)), λ f q. let z : _≡_ {A = ℕ} 0 1 = cc in omega arith)
+  release-told (Claim x) r b e = (λ t. clash (sym (e ∙ t)), λ f q. let z : _≡_ {A = ℕ} 0 1 = cc in omega arith)
   release-told (Release x) r b e = (λ t. ap Release (eqb-true x r (e ∙ t)), λ f q. eqb-false x r (e ∙ f) (release-same q))
-  release-told (Event x) r b e = (λ t. absurd (clash (e ∙ t)), λ f q. let z : _≡_ {A = ℕ} 0 1 = cc in omega arith)
+  release-told (Event x) r b e = (λ t. clash (sym (e ∙ t)), λ f q. let z : _≡_ {A = ℕ} 0 1 = cc in omega arith)
 
   -- v is the completion of a release of r below k; or there is none, and v is c
   abbrev FoundBelow : (ℕ → ℕ) → ℕ → ℕ → ℕ → ℕ → Type 0
@@ -104,9 +102,9 @@ module _ (R : ℕ) (belongs : ℕ → ℕ) (a : List Node) (ok : Good R belongs 
   -- ---- the nodes of an event, by rank
 
   event-told : (k : Kind) (f : ℕ) → (b : Bool) → isEvent k f ≡ b → (b ≡ true → k ≡ Event f) × (b ≡ false → k ≡ Event f → ⊥)
-  event-told (Action x p) r b e = (λ t. absurd (clash (e ∙ t)), λ f q. let z : _≡_ {A = ℕ} 0 1 = cc in omega arith)
-  event-told (Claim x) r b e = (λ t. absurd (clash (e ∙ t)), λ f q. let z : _≡_ {A = ℕ} 0 1 = cc in omega arith)
-  event-told (Release x) r b e = (λ t. absurd (clash (e ∙ t)), λ f q. let z : _≡_ {A = ℕ} 0 1 = cc in omega arith)
+  event-told (Action x p) r b e = (λ t. clash (sym (e ∙ t)), λ f q. let z : _≡_ {A = ℕ} 0 1 = cc in omega arith)
+  event-told (Claim x) r b e = (λ t. clash (sym (e ∙ t)), λ f q. let z : _≡_ {A = ℕ} 0 1 = cc in omega arith)
+  event-told (Release x) r b e = (λ t. clash (sym (e ∙ t)), λ f q. let z : _≡_ {A = ℕ} 0 1 = cc in omega arith)
   event-told (Event x) r b e = (λ t. ap Event (eqb-true x r (e ∙ t)), λ f q. eqb-false x r (e ∙ f) (event-same q))
 
   -- each is of lower rank than all after it

@@ -7,6 +7,7 @@ use Prim.Native.Nat.{ℕ, zero, suc, _+_, _<_}
 use native.Mathlib.Omega.{arith}
 use lib.ListN.{length, length-append, length-map}
 use lib.Dec.{ltb}
+use Rattle.basis.specs.Laws.Lists.{cut-same}
 use Rattle.plan.specs.declared.Node.{Node}
 use Rattle.plan.specs.declared.Input.the-variants.{Outcome, Nothing}
 use Rattle.plan.specs.declared.Input.{Input}
@@ -15,7 +16,6 @@ use Rattle.times_combined.specs.Word.{isEvent, emittedIn, emissions, Wor
 use Rattle.times_combined.specs.Accepted.{GoodWord, Enough, Counted}
 use Rattle.times_combined.specs.Combined.{Ident, named, Instance, processing, combined}
 use Rattle.times_combined.specs.Exec.{insert, emitsBelow, emitsOf, rankOf}
-use Rattle.times_combined.specs.Laws.Lists.{cut-same}
 use Rattle.times_combined.specs.Laws.Instances.{Listing, instance-cut, next-instance, listing-grows}
 use Rattle.times_combined.specs.Laws.TimesEqual.{empty-listing}
 use Rattle.times_combined.specs.Laws.Unique.{shape-of}

@@ -6,6 +6,7 @@ use Prim.Native.Nat.{ℕ, suc, _+_, _≤_}
 use native.Mathlib.Omega.{arith}
 use lib.ListN.{length}
 use Rattle.basis.specs.Lists.{Among, Distinct, one, more}
+use Rattle.basis.specs.Laws.Lists.{among-left, among-right, among-either, cut, distinct-left, distinct-both, fewer, cut-same, seam, among-map, map-among, distinct-map, cut-map}
 use Rattle.plan.specs.declared.Kind.{Kind}
 use Rattle.plan.specs.declared.Kind.the-variants.{Event}
 use Rattle.plan.specs.declared.Node.{Node}
@@ -13,7 +14,6 @@ use Rattle.times_combined.specs.Accepted.{Good}
 use Rattle.times_combined.specs.Combined.{Ident, named, Graph, Is, Before, Nodes, completed, Processing, Instance, Joined, Links, sequenced}
 use Rattle.times_combined.specs.Engine.{Emits}
 use Rattle.times_combined.specs.Laws.Shape.{place, Shape, completed-shape, node-place, source-place}
-use Rattle.times_combined.specs.Laws.Lists.{among-left, among-right, among-either, cut, distinct-left, distinct-both, fewer, cut-same, seam, among-map, map-among, distinct-map, cut-map}
 use Rattle.times_combined.specs.Laws.Chains.{to-left, left-kept, from-right, right-kept, in-activity, in-completed}
 use Rattle.activity.specs.Rules as Rules
 

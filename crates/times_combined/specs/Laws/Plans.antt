@@ -18,10 +18,10 @@ use Rattle.times_combined.specs.Laws.TimesEqual.{good-empty}
 
 module _ (p : Plan) where
   -- the nodes of activity a are those that the plan stores for it
-  size-is : (a : ℕ) → length (activityOf p a) ≡ sizeOf p a
+  pub size-is : (a : ℕ) → length (activityOf p a) ≡ sizeOf p a
   size-is a = length-part pastNode (p .nodes) (64 * a) (sizeOf p a)
 
-  node-is : (a n : ℕ) → n < length (activityOf p a) → node (activityOf p a) n ≡ nodeAt p a n
+  pub node-is : (a n : ℕ) → n < length (activityOf p a) → node (activityOf p a) n ≡ nodeAt p a n
   node-is a n l = getD-part pastNode (p .nodes) (64 * a) (sizeOf p a) n (subst (λ (k : ℕ). n < k) (size-is a) l)
 
   module _ (lawful : Lawful p) where

@@ -4,10 +4,10 @@ use mathlib.Core.Logic.{inl, inr}
 use mathlib.Core.List.{List, [], _∷_}
 use Prim.Native.Nat.{ℕ, zero, suc, _<_, max}
 use native.Mathlib.Omega.{arith}
-use native.Mathlib.Nat.{eq-or-lt-of-le, le-of-suc-le-suc}
 use native.Mathlib.Decide.{ℕ-discrete}
 use lib.ListN.{length}
 use Rattle.basis.specs.Lists.{Among, Distinct, one, more}
+use Rattle.basis.specs.Laws.Lists.{fewer, upto, among-upto, length-upto}
 use Rattle.plan.specs.declared.Node.{Node}
 use Rattle.plan.specs.Plan.{predecessors}
 use Rattle.activity.specs.Rules.{node, Arrow, Before}
@@ -15,7 +15,6 @@ use Rattle.times_combined.specs.Accepted.{Good}
 use Rattle.times_combined.specs.Engine.{latest}
 use Rattle.times_combined.specs.Exec.{depth, rankOf}
 use Rattle.times_combined.specs.Laws.OneActivity.{latest-bound}
-use Rattle.times_combined.specs.Laws.Lists.{fewer}
 
 differ-pred : (C D : ℕ → ℕ) (ms : List ℕ) → (latest C ms ≡ latest D ms → ⊥) → (m : ℕ) × Among m ms × (C m ≡ D m → ⊥)
 differ-pred C D [] h = absurd (h refl)
@@ -24,18 +23,6 @@ differ-pred C D (m ∷ ms) h =
       | no d ↦ (m, inl refl, d)
       | yes e ↦ let c = differ-pred C D ms (λ q. h (ap₂ max e q)) in (c .0, inr (c .1), c .2)
     ]
-
-abbrev upto : ℕ → List ℕ
-upto zero = []
-upto (suc k) = k ∷ upto k
-
-among-upto : (k m : ℕ) → m < k → Among m (upto k)
-among-upto zero m l = absurd (omega arith)
-among-upto (suc k) m l = elim (eq-or-lt-of-le (le-of-suc-le-suc l)) [ inl e ↦ inl e | inr h ↦ inr (among-upto k m h) ]
-
-length-upto : (k : ℕ) → length (upto k) ≡ k
-length-upto zero = refl
-length-upto (suc k) = ap suc (length-upto k)
 
 module _ (a : List Node) (inside : (m n : ℕ) → Arrow a m n → m < length a) (no-cycle : (n : ℕ) → Before a n n → ⊥) where
   -- j different nodes are before n

@@ -11,6 +11,7 @@ use lib.ListN.{length, length-append}
 use lib.Dec.{eqb}
 use borrow.Author.Tests.{eqb-true}
 use Rattle.basis.specs.Lists.{one, more}
+use Rattle.basis.specs.Laws.Lists.{head-same, nil-cons}
 use Rattle.plan.specs.declared.Kind.{Kind}
 use Rattle.plan.specs.declared.Kind.the-variants.{Claim, Release, Event}
 use Rattle.plan.specs.declared.Node.{Node}
@@ -26,7 +27,6 @@ use Rattle.times_combined.specs.Engine.{Available, Trace, Stepped, Floor
 use Rattle.times_combined.specs.Laws.Shape.{Shape, completed-shape, sequenced-shape, right-release, node-place, claim-same}
 use Rattle.times_combined.specs.Laws.Joining.{Attained, Known, Floored, whole}
 use Rattle.times_combined.specs.Laws.OneActivity.{OneOf, latest-bound, latest-reached, engine-fresh}
-use Rattle.times_combined.specs.Laws.Lists.{head-same, nil-cons}
 use Rattle.times_combined.specs.Laws.Instances.{Listing, next-instance, only-instance, listing-grows}
 use Rattle.activity.specs.Rules as Rules
 

@@ -9,6 +9,8 @@ use native.Mathlib.Decide.{ℕ-discrete}
 use lib.ListN.{length, getD}
 use lib.Dec.{eqb}
 use borrow.Author.Tests.{eqb-true, eqb-false}
+use Rattle.basis.specs.Laws.Bools.{clash}
+use Rattle.basis.specs.Tests.{flag}
 use Rattle.time.specs.declared.Specified.{Specified}
 use Rattle.plan.specs.Plan.{pastNode, predecessors}
 use Rattle.plan.specs.declared.Node.{Node}
@@ -16,9 +18,9 @@ use Rattle.activity.specs.Rules.{node, Arrow, Before}
 use Rattle.times_combined.specs.Exec.{rankOf}
 use Rattle.times_combined.specs.Laws.Ranks.{ranked}
 use Rattle.times.specs.declared.Schedule.{Schedule}
-use Rattle.times.specs.Times.{flag, readyOf, startOf, placedOf, visitOf, roundOf, roundsOf, unscheduled, scheduleOf}
+use Rattle.times.specs.Times.{readyOf, startOf, placedOf, visitOf, roundOf, roundsOf, unscheduled, scheduleOf}
 use Rattle.times.specs.Laws.Rounds.{visit-done, visit-waits, visit-placed}
-use Rattle.times_equal.specs.Laws.Order.{clash, all-ready, Laid, unscheduled-laid, fits, placed-laid}
+use Rattle.times_equal.specs.Laws.Order.{all-ready, Laid, unscheduled-laid, fits, placed-laid}
 
 module _ (available latest : List Specified) (a : List Node) (few : length a ≤ 64) where
   -- node n has nothing to do in its turn

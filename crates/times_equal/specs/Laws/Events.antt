@@ -9,16 +9,15 @@ use native.Mathlib.Nat.{le-antisymm}
 use lib.ListN.{length, getD}
 use borrow.Author.Tests.{eqb-true, eq-eqb}
 use Rattle.basis.specs.Lists.{Among, Distinct, one, more}
+use Rattle.basis.specs.Laws.Lists.{among-left, among-right, cut, fewer, head-same, tail-same, nil-cons, cut-apart}
+use Rattle.basis.specs.Laws.Bools.{clash}
 use Rattle.plan.specs.Plan.{pastNode, predecessors}
 use Rattle.plan.specs.declared.Kind.{Kind}
 use Rattle.plan.specs.declared.Node.{Node}
 use Rattle.activity.specs.Rules.{node, Is, Before}
 use Rattle.times_combined.specs.Word.{isEvent, emittedIn}
 use Rattle.times_combined.specs.Engine.{Emits}
-use Rattle.times_combined.specs.Laws.Lists.{among-left, among-right, cut, fewer, head-same, tail-same, nil-cons}
 use Rattle.times_equal.specs.Seen.{ofEvent}
-use Rattle.times_equal.specs.Laws.Lists.{cut-apart}
-use Rattle.times_equal.specs.Laws.Order.{clash}
 
 -- ---- the test for an event
 

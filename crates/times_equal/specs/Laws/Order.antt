@@ -11,17 +11,16 @@ use lib.ListN.{length, set, length-set, replicate}
 use lib.Seq.{getD-set-same, getD-set-other}
 use Rattle.basis.specs.Lists.{Among, Distinct}
 use Rattle.basis.specs.Parts.{part, length-part}
+use Rattle.basis.specs.Laws.Lists.{among-left, among-right, among-either, fewer, distinct-both, seam, cut, upto, among-upto, length-upto, cut-one}
+use Rattle.basis.specs.Laws.Parts.{part-snoc}
+use Rattle.basis.specs.Laws.Bools.{clash}
+use Rattle.basis.specs.Tests.{flag}
 use Rattle.time.specs.declared.Specified.{Specified}
 use Rattle.plan.specs.Plan.{predecessors}
 use Rattle.plan.specs.declared.Node.{Node}
 use Rattle.activity.specs.Rules.{node}
-use Rattle.times_combined.specs.Laws.Lists.{among-left, among-right, among-either, fewer, distinct-both, seam, cut}
 use Rattle.times.specs.declared.Schedule.{Schedule}
-use Rattle.times.specs.Times.{specified, at, flag, readyOf, largestOf, startBy, startOf, placedOf, unscheduled, orderOf}
-use Rattle.times_equal.specs.Laws.Lists.{part-snoc, upto, among-upto, length-upto, cut-one}
-
-pub clash : {A : Type 0} → true ≡ false → A
-clash e = absurd (let z : _≡_ {A = ℕ} 0 1 = cc in omega arith)
+use Rattle.times.specs.Times.{specified, at, readyOf, largestOf, startBy, startOf, placedOf, unscheduled, orderOf}
 
 -- ---- a start depends on the completions of the predecessors alone
 

@@ -11,6 +11,7 @@ use lib.Seq.{getD-set-same, getD-set-other}
 use lib.Dec.{eqb, ltb}
 use borrow.Author.Tests.{lt-ltb, ltb-true, eq-eqb, ne-eqb}
 use Rattle.basis.specs.Parts.{part}
+use Rattle.basis.specs.Laws.Parts.{part-same, part-set-apart, part-snoc}
 use Rattle.plan.specs.declared.Input.{Input}
 use Rattle.times_combined.specs.Engine.{Floor, behind, taken}
 use Rattle.times.specs.declared.Instance.{Instance}
@@ -19,7 +20,6 @@ use Rattle.times.specs.Queues.{noInstance, pendingOf, queueOf, shiftedOf, oldes
 use Rattle.times.specs.Laws.Places.{shifted-outside, shifted-inside}
 use Rattle.times.specs.Laws.Fits.{by-test}
 use Rattle.times_equal.specs.Seen.{completion, seen, Whole, Pending}
-use Rattle.times_equal.specs.Laws.Lists.{part-same, part-set-apart, part-snoc}
 
 -- an event of which one is pending has a queue
 pub has-queue : (g : Progress) (e : ℕ) → Whole g → 0 < pendingOf g e → e < 16

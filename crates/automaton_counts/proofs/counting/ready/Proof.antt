@@ -1,4 +1,5 @@
 -- `ready` answers by the case of the input.
+use Rattle.basis.specs.Inner.Tells.{holds}
 use Rattle.automaton.specs.Counts.{Ready, InputOk}
 use Rattle.automaton.specs.Tests.{tells-ltb, at, Tells}
 use Prim.Native.Nat.{_<_}
@@ -33,7 +34,7 @@ element-copy-out-result : tie.Need-element-copy-out-result
 element-copy-out-result c = omega (arith, subst InputOk (c .before .before .input .given .1) (c .before .before .before .before .pre .0))
 
 returns : tie.Need-returns
-returns c = subst (λ (n : Input). Ready (c .before .before .args .counts .now) (c .before .before .args .s) n) (sym (c .enum-told .given .1)) tt
+returns c = holds (subst (λ (n : Input). Ready (c .before .before .args .counts .now) (c .before .before .args .s) n) (sym (c .enum-told .given .1)) tt)
 
 returns-2 : tie.Need-returns-2
 returns-2 c =

@@ -1,4 +1,4 @@
--- Promise 1, and the further promises of "Strength of the contracts", as statements.
+-- Demand 1, and what "Strength of the contracts" asks besides, as statements.
 use mathlib.Core.Path.{_≡_}
 use mathlib.Core.Bool.{true}
 use mathlib.Core.List.{List, [], _∷_}

@@ -1,11 +1,12 @@
--- Laws of members, of lists without repetition, and of lists cut in two.
-use mathlib.Core.Path.{_≡_, refl, sym, ap, ap₂, subst}
+-- Members of a list, lists without repetition, lists cut in two, and lists of one value.
+use mathlib.Core.Path.{_≡_, refl, sym, ap, ap₂, _∙_, subst}
 use mathlib.Core.Logic.{_⊎_, inl, inr}
 use mathlib.Core.List.{List, [], _∷_, _++_, map}
-use Prim.Native.Nat.{ℕ, _≤_}
+use Prim.Native.Nat.{ℕ, zero, suc, _≤_, _<_}
 use native.Mathlib.Omega.{arith}
-use lib.ListN.{length, length-append}
+use native.Mathlib.Nat.{eq-or-lt-of-le, le-of-suc-le-suc}
+use lib.ListN.{length, getD, replicate, length-append, length-map}
 use Rattle.basis.specs.Lists.{Among, Distinct}
 
 module _ {X : Type 0} where
   pub among-left : (x : X) (xs ys : List X) → Among x xs → Among x (xs ++ ys)
@@ -31,6 +32,10 @@ module _ {X : Type 0} where
   pub distinct-left : (xs ys : List X) → Distinct (xs ++ ys) → Distinct xs
   distinct-left [] ys h = tt
   distinct-left (x ∷ xs) ys h = (λ i. h .0 (among-left x xs ys i), distinct-left xs ys (h .1))
+
+  pub distinct-right : (xs ys : List X) → Distinct (xs ++ ys) → Distinct ys
+  distinct-right [] ys h = h
+  distinct-right (x ∷ xs) ys h = distinct-right xs ys (h .1)
 
   pub distinct-both : (xs ys : List X) → Distinct xs → Distinct ys → ((x : X) → Among x xs → Among x ys → ⊥) → Distinct (xs ++ ys)
   distinct-both [] ys h i apart = i
@@ -102,3 +107,56 @@ module _ {X Y : Type 0} (f : X → Y) where
   cut-map (x ∷ xs) (w ∷ ys) y zs e =
       let c = cut-map xs ys y zs (tail-same e) in
       (x ∷ c .0, c .1, c .2, ap (λ (l : List X). x ∷ l) (c .3), ap₂ (λ (z : Y) (l : List Y). z ∷ l) (sym (head-same e)) (c .4), c .5)
+
+-- ---- numbers below a bound
+
+abbrev pub upto : ℕ → List ℕ
+upto zero = []
+upto (suc k) = k ∷ upto k
+
+pub among-upto : (k m : ℕ) → m < k → Among m (upto k)
+among-upto zero m l = absurd (omega arith)
+among-upto (suc k) m l = elim (eq-or-lt-of-le (le-of-suc-le-suc l)) [ inl e ↦ inl e | inr h ↦ inr (among-upto k m h) ]
+
+pub length-upto : (k : ℕ) → length (upto k) ≡ k
+length-upto zero = refl
+length-upto (suc k) = ap suc (length-upto k)
+
+-- ---- cuts
+
+-- what stands before n is not n
+pub cut-apart : {X : Type 0} (ms : List X) (n : X) (os : List X) → Distinct (ms ++ (n ∷ os)) → Among n ms → ⊥
+cut-apart [] n os d i = i
+cut-apart (m ∷ ms) n os d (inl e) = d .0 (subst (λ z. Among z (ms ++ (n ∷ os))) e (among-right n ms (n ∷ os) (inl refl)))
+cut-apart (m ∷ ms) n os d (inr i) = cut-apart ms n os (d .1) i
+
+-- a list of one member is cut in one way
+pub cut-one : {X : Type 0} (n : X) (us : List X) (x : X) (zs : List X) → n ∷ [] ≡ us ++ (x ∷ zs) → (us ≡ []) × (x ≡ n)
+cut-one n [] x zs e = (refl, sym (head-same e))
+cut-one n (u ∷ []) x zs e = nil-cons (tail-same e)
+cut-one n (u ∷ v ∷ us) x zs e = nil-cons (tail-same e)
+
+-- ---- places
+
+-- what stands at a place of a list is one of it, and one of it stands at a place
+pub among-at : {A : Type 0} (d : A) (xs : List A) (k : ℕ) → k < length xs → Among (getD xs k d) xs
+among-at d [] k l = absurd (omega arith)
+among-at d (x ∷ xs) zero l = inl refl
+among-at d (x ∷ xs) (suc k) l = inr (among-at d xs k (omega arith))
+
+pub at-among : {A : Type 0} (d : A) (x : A) (xs : List A) → Among x xs → (k : ℕ) × (k < length xs) × (getD xs k d ≡ x)
+at-among d x (y ∷ ys) (inl e) = (0, omega arith, sym e)
+at-among d x (y ∷ ys) (inr h) = let r = at-among d x ys h in (suc (r .0), (let u = r .1 in omega arith), r .2)
+
+pub all-same : {A : Type 0} (n j : ℕ) (x : A) → getD (replicate n x) j x ≡ x
+all-same zero j x = refl
+all-same (suc n) zero x = refl
+all-same (suc n) (suc j) x = all-same n j x
+
+-- what owning a struct tells of a field that is an array of structs
+pub unmapped : (X Y : Type 0) (f : X → Y) (l : List X) (n : ℕ) → length (map f l) ≡ n → length l ≡ n
+unmapped X Y f l n e = sym (length-map l f) ∙ e
+
+pub map-append : {X Y : Type 0} (f : X → Y) (xs ys : List X) → map f (xs ++ ys) ≡ map f xs ++ map f ys
+map-append f [] ys = refl
+map-append f (x ∷ xs) ys = ap (λ ls. f x ∷ ls) (map-append f xs ys)

@@ -1,15 +1,12 @@
--- Parts of a list after one place was set, and members of a list with one more at its end. Assumes nothing.
-use mathlib.Core.Path.{_≡_, refl, sym, ap, ap₂, _∙_, subst}
+-- Parts of a list: two that agree, one place more, after one place was set, and what is left of n places from place i on.
+use mathlib.Core.Path.{_≡_, refl, sym, ap, ap₂, _∙_}
 use mathlib.Core.Logic.{_⊎_, inl, inr}
 use mathlib.Core.List.{List, [], _∷_, _++_}
-use Prim.Native.Nat.{ℕ, zero, suc, _+_, _≤_, _<_}
+use Prim.Native.Nat.{ℕ, zero, suc, _+_, _-_, _≤_, _<_}
 use native.Mathlib.Omega.{arith}
-use native.Mathlib.Nat.{eq-or-lt-of-le, le-of-suc-le-suc}
 use lib.ListN.{length, getD, set}
 use lib.Seq.{getD-set-other, getD-set-same}
-use Rattle.basis.specs.Lists.{Among, Distinct}
 use Rattle.basis.specs.Parts.{part}
-use Rattle.times_combined.specs.Laws.Lists.{among-right, nil-cons, head-same, tail-same}
 
 -- two parts that agree place by place
 pub part-same : {A : Type 0} (d : A) (l m : List A) (k i j : ℕ) → ((n : ℕ) → n < k → getD l (i + n) d ≡ getD m (j + n) d) → part d l i k ≡ part d m j k
@@ -44,30 +41,17 @@ part-snoc d l i k x h =
     part-more d (set l (i + k) x) k i
     ∙ ap₂ (λ xs y. xs ++ (y ∷ [])) (part-set-apart d l i k (i + k) x (inr (omega arith))) (getD-set-same l (i + k) x d h)
 
--- ---- numbers below a bound
+-- ---- what is left
 
-abbrev pub upto : ℕ → List ℕ
-upto zero = []
-upto (suc k) = k ∷ upto k
+-- n - i falls to n - (i + 1)
+pub fewer : (i n : ℕ) → i < n → n - i ≡ suc (n - (i + 1))
+fewer i n h = omega arith
 
-pub among-upto : (k m : ℕ) → m < k → Among m (upto k)
-among-upto zero m l = absurd (omega arith)
-among-upto (suc k) m l = elim (eq-or-lt-of-le (le-of-suc-le-suc l)) [ inl e ↦ inl e | inr h ↦ inr (among-upto k m h) ]
+pub none : (i n : ℕ) → n ≤ i → n - i ≡ 0
+none i n h = omega arith
 
-pub length-upto : (k : ℕ) → length (upto k) ≡ k
-length-upto zero = refl
-length-upto (suc k) = ap suc (length-upto k)
+pub part-step : {A : Type 0} (d : A) (l : List A) (i n : ℕ) → i < n → part d l i (n - i) ≡ getD l i d ∷ part d l (i + 1) (n - (i + 1))
+part-step d l i n h = ap (part d l i) (fewer i n h)
 
--- ---- cuts
-
--- what stands before n is not n
-pub cut-apart : {X : Type 0} (ms : List X) (n : X) (os : List X) → Distinct (ms ++ (n ∷ os)) → Among n ms → ⊥
-cut-apart [] n os d i = i
-cut-apart (m ∷ ms) n os d (inl e) = d .0 (subst (λ z. Among z (ms ++ (n ∷ os))) e (among-right n ms (n ∷ os) (inl refl)))
-cut-apart (m ∷ ms) n os d (inr i) = cut-apart ms n os (d .1) i
-
--- a list of one member is cut in one way
-pub cut-one : {X : Type 0} (n : X) (us : List X) (x : X) (zs : List X) → n ∷ [] ≡ us ++ (x ∷ zs) → (us ≡ []) × (x ≡ n)
-cut-one n [] x zs e = (refl, sym (head-same e))
-cut-one n (u ∷ []) x zs e = nil-cons (tail-same e)
-cut-one n (u ∷ v ∷ us) x zs e = nil-cons (tail-same e)
+pub part-end : {A : Type 0} (d : A) (l : List A) (i n : ℕ) → n ≤ i → part d l i (n - i) ≡ []
+part-end d l i n h = ap (part d l i) (none i n h)

@@ -1,0 +1,2 @@
+-- What inner contracts and laws say a test means. No statement rests on it.
+pub mod Tells

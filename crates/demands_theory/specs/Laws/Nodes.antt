@@ -1,0 +1,25 @@
+-- A node is known by its position and number, and the activity at a position is one of the word's.
+use mathlib.Core.Path.{_≡_}
+use mathlib.Core.List.{List, _∷_}
+use Prim.Native.Nat.{ℕ, _<_}
+use native.Mathlib.Omega.{arith}
+use Rattle.plan.specs.declared.Plan.{Plan}
+use Rattle.times_combined.specs.Combined.{identity}
+use Rattle.demands_log.specs.Log.{Id}
+use Rattle.demands_theory.specs.Nodes.{whose, lengthOf, EmitsAt, here, earlier}
+
+position-same : {q m r n : ℕ} → identity q m ≡ identity r n → q ≡ r
+position-same e = cc
+
+number-same : {q m r n : ℕ} → identity q m ≡ identity r n → m ≡ n
+number-same e = cc
+
+pub whose-same : (x y : Id) → whose x ≡ whose y → x ≡ y
+whose-same x y e =
+    let p : x .position ≡ y .position = (let u = position-same e in omega arith) in
+    let n : x .node ≡ y .node = number-same e in
+    λ i. record { position = p i; node = n i }
+
+pub emits-below : (p : Plan) (is : List ℕ) (q a : ℕ) → EmitsAt p is q a → q < lengthOf is
+emits-below p (i ∷ is) q a (here e o) = omega arith
+emits-below p (i ∷ is) q a (earlier h) = let u = emits-below p is q a h in omega arith
