@@ -1,0 +1,147 @@
+//! Rows about runs: openings and calls.
+
+use crate::cases::{Case, Work};
+use crate::linked::{self, Driver};
+use jidlekuvo_reference::drive::{self, drive, RECORD};
+use jidlekuvo_reference::generate::{plan_t, plans};
+use jidlekuvo_reference::plan_file::{encode, read, Kind, Plan};
+use jidlekuvo_reference::run::{Call, Opening, Reply, Request, Run};
+
+/// How many calls a row over a full window takes.
+const CALLS: usize = 20;
+
+fn opening_of(plan: &Plan) -> Opening {
+    let availabilities = vec![0; plan.resources as usize];
+    Opening { plan: encode(plan), psi: 1_000_000, slack: 500, availabilities }
+}
+
+fn plan_t_read() -> Plan {
+    read(&plan_t()).expect("T reads")
+}
+
+/// The next call of a host that starts and reports every node in time; none at the end.
+fn next_in_time(run: &Run, opening: &Opening) -> Option<Call> {
+    let window = run.window();
+    let start = window.iter().filter(|e| !e.started).map(|e| e.time.start).min();
+    let end = window.iter().filter(|e| e.started).min_by_key(|e| e.time.completion);
+    let Some(end) = end.filter(|e| start.is_none_or(|start| start >= e.time.completion)) else {
+        return start.map(|start| Call { reading: opening.psi + start, request: Request::Ask });
+    };
+    let (position, node) = (end.time.position as u32, end.time.node);
+    let kind = run.plan().activities[end.time.activity as usize][node as usize].kind;
+    let request = match kind {
+        Kind::Event(_) => Request::Outcome { position, node, outcome: 0 },
+        _ => Request::Completion { position, node },
+    };
+    Some(Call { reading: opening.psi + end.time.completion - 1, request })
+}
+
+/// The first calls of such a host.
+fn calls_in_time(opening: &Opening, count: usize) -> Vec<Call> {
+    let (_, mut run) = Run::open(opening);
+    let mut calls = Vec::new();
+    while calls.len() < count {
+        let Some(call) = next_in_time(&run, opening) else { break };
+        let (reply, next) = run.call(call);
+        assert!(matches!(reply, Reply::Start { .. } | Reply::Taken), "{reply:?}");
+        run = next;
+        calls.push(call);
+    }
+    calls
+}
+
+/// An opening and calls, answered alike by both builds.
+struct Drive {
+    input: Vec<u8>,
+    room: usize,
+}
+
+impl Drive {
+    fn new(opening: &Opening, calls: &[Call]) -> Drive {
+        let made = Drive { input: drive::encode(opening, calls), room: (calls.len() + 1) * RECORD };
+        let answered = made.answers(drive);
+        assert!(answered[0] == 0, "the opening is refused");
+        linked::drive().iter().for_each(|&rattle| assert!(answered == made.answers(rattle)));
+        made
+    }
+
+    fn answers(&self, function: Driver) -> Vec<u8> {
+        let mut out = vec![0; self.room];
+        assert_eq!(function(&self.input, &mut out), self.room);
+        out
+    }
+
+    fn work(&self, function: Driver) -> Work {
+        Work::into_buffer(&self.input, self.room, function)
+    }
+}
+
+fn driving(name: &str, opening: &Opening, calls: &[Call]) -> Case {
+    let drives = Drive::new(opening, calls);
+    let rattle = linked::drive().map(|function| drives.work(function));
+    Case { name: name.to_string(), units: 1.0, rust: drives.work(drive), rattle }
+}
+
+/// One call: a drive with the calls without one with the first `before` of them.
+fn calling(name: &str, opening: &Opening, calls: &[Call], before: usize) -> Case {
+    let (all, few) = (Drive::new(opening, calls), Drive::new(opening, &calls[..before]));
+    let work = |function: Driver| all.work(function).without(few.work(function));
+    let units = (calls.len() - before) as f64;
+    Case { name: name.to_string(), units, rust: work(drive), rattle: linked::drive().map(work) }
+}
+
+fn loading_opening() -> Opening {
+    opening_of(&plans::wide_plan(0, 75))
+}
+
+fn full_opening() -> Opening {
+    opening_of(&plans::wide_plan(511, 1))
+}
+
+fn repeated(opening: &Opening, request: Request) -> Vec<Call> {
+    vec![Call { reading: opening.psi - 1, request }; CALLS]
+}
+
+fn ask_over_full_window() -> Case {
+    let full = full_opening();
+    calling("ask over a full window (wait)", &full, &repeated(&full, Request::Ask), 0)
+}
+
+fn report_over_full_window() -> Case {
+    let full = full_opening();
+    let absent = Request::Completion { position: 77, node: 1 };
+    calling("report over a full window (52)", &full, &repeated(&full, absent), 0)
+}
+
+/// The first three calls start the event and an action and report the outcome.
+fn start_over_full_window() -> Case {
+    let full = full_opening();
+    let before = 3;
+    let calls = calls_in_time(&full, before + CALLS);
+    calling("start or report while a full window empties", &full, &calls, before)
+}
+
+pub fn cases() -> Vec<Case> {
+    let loading = loading_opening();
+    vec![
+        driving("open plan T", &opening_of(&plan_t_read()), &[]),
+        driving("open the largest accepted plan", &opening_of(&plans::largest_plan()), &[]),
+        calling("an outcome that loads a path of 75 nodes", &loading, &calls_in_time(&loading, 2), 1),
+        ask_over_full_window(),
+        report_over_full_window(),
+        start_over_full_window(),
+    ]
+}
+
+/// Openings, for the stack that they need.
+pub fn opened() -> Vec<Case> {
+    let plans = [plan_t_read(), plans::largest_plan(), plans::wide_plan(511, 1)];
+    plans.iter().map(|plan| driving("open", &opening_of(plan), &[])).collect()
+}
+
+/// Calls of every kind, for the stack that they need beside the opening before them.
+pub fn called() -> Vec<Case> {
+    let loading = loading_opening();
+    let outcome = driving("outcome", &loading, &calls_in_time(&loading, 2));
+    vec![outcome, ask_over_full_window(), report_over_full_window(), start_over_full_window()]
+}
