@@ -8,7 +8,8 @@ fn main() {
     if env::var_os("CARGO_FEATURE_PROVED").is_none() {
         return;
     }
-    let folder = PathBuf::from(env::var_os("CARGO_MANIFEST_DIR").expect("cargo sets it")).join("../target/staticlib");
+    let folder =
+        PathBuf::from(env::var_os("CARGO_MANIFEST_DIR").expect("cargo sets it")).join("../target/staticlib");
     let library = folder.join("libexports.a");
     if !library.exists() {
         panic!("{} is not there: build it first (rt staticlib exports)", library.display());
