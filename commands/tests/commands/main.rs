@@ -52,7 +52,7 @@ const ROWS: &[Row] = &[
         "a small package",
         set_up::small_package,
         &[
-            Edit { file: MANIFEST, old: ", optional = true }", new: " }" },
+            Edit { file: MANIFEST, old: "[features]\n", new: "[features]\ndefault = [\"quick\"]\n" },
             Edit {
                 file: SETUP,
                 old: "set_up_command judge proved",
@@ -144,9 +144,9 @@ const ROWS: &[Row] = &[
         "versions",
         set_up::versions,
         &[
-            Edit { file: MANIFEST, old: "rust-version = \"1.78\"\n", new: "" },
-            Edit { file: "rust/Cargo.toml", old: "rust-version = \"1.78\"\n", new: "" },
-            Edit { file: "README.md", old: "Rust 1.78 or later", new: "Rust" },
+            Edit { file: MANIFEST, old: "rust-version = \"1.82\"\n", new: "" },
+            Edit { file: "rust/Cargo.toml", old: "rust-version = \"1.82\"\n", new: "" },
+            Edit { file: "README.md", old: "Rust 1.82 or later", new: "Rust" },
             Edit { file: "VERSION", old: "0.1.0", new: "0.2.0" },
         ],
     ),

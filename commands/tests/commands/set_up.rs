@@ -80,7 +80,7 @@ pub fn missing_tools(mutation: Mutation) -> Answer {
         same("without rt", ask(asking(&repository, name, "cargo")), said(2, "", &told))?;
         let steps = set_up(name).lines().take(3).map(|line| format!("{line}\n")).collect::<String>();
         let told = format!(
-            "{steps}{name}: the command {name} is not built, and cargo (Rust 1.78 or later) builds it: there is no cargo on the PATH\n"
+            "{steps}{name}: the command {name} is not built, and cargo (Rust 1.82 or later) builds it: there is no cargo on the PATH\n"
         );
         same("without cargo", ask(asking(&repository, name, "rt")), said(2, "", &told))?;
         ask(asking(&repository, name, "rt cargo"));
@@ -162,11 +162,11 @@ pub fn versions(mutation: Mutation) -> Answer {
         let manifest = read(&format!("{package}/Cargo.toml"));
         is(
             &format!("{package}: the Rust that it needs"),
-            manifest.lines().any(|line| line == "rust-version = \"1.78\""),
+            manifest.lines().any(|line| line == "rust-version = \"1.82\""),
         )?;
         is(&format!("{package}: its version"), manifest.lines().any(|line| line == version))?;
     }
-    is("README: the Rust that is needed", read("README.md").contains("Rust 1.78 or later"))?;
+    is("README: the Rust that is needed", read("README.md").contains("Rust 1.82 or later"))?;
     is("CHANGES: the version", read("CHANGES.md").contains(&format!("\n## {}", read("VERSION"))))
 }
 
