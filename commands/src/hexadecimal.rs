@@ -35,11 +35,13 @@ pub struct Digits {
     odd: Option<(usize, usize)>,
 }
 
-impl Digits {
-    pub fn new() -> Digits {
+impl Default for Digits {
+    fn default() -> Digits {
         Digits { bytes: vec![], first: None, is_comment: false, line: 1, column: 0, group: 0, odd: None }
     }
+}
 
+impl Digits {
     /// Takes a piece of the text, but no more than gives `most` bytes.
     pub fn take(&mut self, text: &[u8], most: usize) -> Result<(), NotHexadecimal> {
         for &byte in text {

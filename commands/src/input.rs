@@ -76,7 +76,7 @@ fn is_text(head: &[u8]) -> Result<bool, NotHexadecimal> {
 
 /// The bytes of a hexadecimal text, of which the beginning is already there.
 fn hexadecimal(head: &[u8], mut rest: Box<dyn Read>) -> Result<Vec<u8>, String> {
-    let mut digits = Digits::new();
+    let mut digits = Digits::default();
     let mut piece = head.to_vec();
     loop {
         digits.take(&piece, kept()).map_err(|why| why.to_string())?;

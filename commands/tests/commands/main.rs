@@ -10,174 +10,12 @@ mod output;
 mod places;
 mod plans;
 mod release;
+mod rows;
 mod set_up;
 
-use asking::Answer;
 use jidlekuvo_commands::toggles::ALL;
-use places::Mutation::{self, Edit, None, Toggle};
-
-type Check = fn(Mutation) -> Answer;
-
-/// A row: what is checked, and what must be noticed.
-struct Row(&'static str, Check, &'static [Mutation]);
-
-const SETUP: &str = "commands/setup";
-const START: &str = "commands/start";
-const MANIFEST: &str = "commands/Cargo.toml";
-
-const ROWS: &[Row] = &[
-    Row(
-        "a line for each crate",
-        set_up::each_crate,
-        &[
-            Edit {
-                file: SETUP,
-                old: "print name \": \" count",
-                new: "print > \"/dev/null\"; x = name \": \" count",
-            },
-            Edit { file: SETUP, old: "/^rt: [a-z_0-9]+ proved \\(/ { count++ }", new: "" },
-            Edit { file: SETUP, old: "{ seen[more[m]]; list[++count] = more[m] }", new: "{ }" },
-        ],
-    ),
-    Row(
-        "a proof that fails",
-        set_up::failing_proof,
-        &[
-            Edit { file: SETUP, old: "[ \"${PIPESTATUS[0]}\" -eq 0 ] || failed \"$1\"", new: ":" },
-            Edit { file: SETUP, old: "head -n 5", new: "head -n 0" },
-            Edit { file: SETUP, old: "; then log=target/log/$crate.out; fi", new: "; then :; fi" },
-        ],
-    ),
-    Row(
-        "a small package",
-        set_up::small_package,
-        &[
-            Edit { file: MANIFEST, old: "[features]\n", new: "[features]\ndefault = [\"quick\"]\n" },
-            Edit {
-                file: SETUP,
-                old: "set_up_command judge proved",
-                new: "set_up_command judge proved,quick",
-            },
-        ],
-    ),
-    Row("speed", input::speed, &[Toggle("SlowDigits"), Toggle("SlowOutcomes")]),
-    Row(
-        "output that fails",
-        output::failing_output,
-        &[Toggle("WriteFailureIgnored"), Toggle("ClosedOutputTaken")],
-    ),
-    Row(
-        "output that fails, of the scripts",
-        output::failing_output_of_scripts,
-        &[Edit {
-            file: START,
-            old: "exec \"$target/$name\" \"${words[@]}\"",
-            new: "\"$target/$name\" \"${words[@]}\" | cat",
-        }],
-    ),
-    Row("rows as they settle", output::rows_settle, &[Toggle("TableGathered")]),
-    Row(
-        "a reader that closes",
-        output::closing_reader,
-        &[Toggle("ProgramLeftAlone"), Toggle("WriteFailureIgnored")],
-    ),
-    Row("whole tables", output::whole_tables, &[Toggle("CutTableTaken"), Toggle("RefusedTableIs0")]),
-    Row(
-        "hexadecimal",
-        input::hexadecimal_text,
-        &[Toggle("OnlyPureDigitsAreText"), Toggle("CommentIsNoText"), Toggle("ColumnFromZero")],
-    ),
-    Row("long files", input::long_files, &[Toggle("KeepsOneByteLess")]),
-    Row("input without an end", input::endless, &[Toggle("ReadsToTheEnd")]),
-    Row("standard input and pipes", input::pipes, &[Toggle("DashIsAFile")]),
-    Row(
-        "words",
-        input::words,
-        &[
-            Toggle("HelpIsAFile"),
-            Toggle("DirectoryIsNoFile"),
-            Toggle("OutcomeAbove255"),
-            Edit { file: START, old: "-h | --help)", new: "-h)" },
-            Edit { file: START, old: "elif [ -d \"$plan\" ]", new: "elif [ -d \"$plan/none\" ]" },
-        ],
-    ),
-    Row(
-        "missing tools",
-        set_up::missing_tools,
-        &[
-            Edit { file: SETUP, old: "    needs rt \"$2\"\n", new: "" },
-            Edit { file: SETUP, old: "    needs cargo \"command $what\"\n", new: "" },
-            Edit { file: SETUP, old: "|| cut -d' ' -f2- \"target/setup/$1\" 2>/dev/null", new: "" },
-        ],
-    ),
-    Row(
-        "a crate that has changed",
-        set_up::changed_crate,
-        &[
-            Edit {
-                file: SETUP,
-                old: "is_built program \"$file\" \"$sources\" &&",
-                new: "[ -e \"$file\" ] &&",
-            },
-            Edit {
-                file: SETUP,
-                old: "is_built library \"$file\" \"$sources\" &&",
-                new: "[ -e \"$file\" ] &&",
-            },
-            Edit { file: SETUP, old: "$(sum crates crates.txt)", new: "$(sum crates)" },
-            Edit { file: SETUP, old: "\n    built program \"$sources\"", new: "" },
-        ],
-    ),
-    Row(
-        "--quick",
-        set_up::quick,
-        &[
-            Toggle("QuickUntold"),
-            Edit {
-                file: START,
-                old: "\"$here/setup\" \"$name\" quick",
-                new: "\"$here/setup\" \"$name\" quick \"$name\"",
-            },
-        ],
-    ),
-    Row(
-        "versions",
-        set_up::versions,
-        &[
-            Edit { file: MANIFEST, old: "rust-version = \"1.82\"\n", new: "" },
-            Edit { file: "rust/Cargo.toml", old: "rust-version = \"1.82\"\n", new: "" },
-            Edit { file: "README.md", old: "Rust 1.82 or later", new: "Rust" },
-            Edit { file: "VERSION", old: "0.1.0", new: "0.2.0" },
-        ],
-    ),
-    Row(
-        "a release that is refused",
-        release::refused,
-        &[
-            Edit { file: "commands/commit", old: " && [ -z \"$changes\" ]", new: "" },
-            Edit { file: "release", old: "[ \"$tested\" != \"$commit\" ]", new: "false" },
-            Edit {
-                file: "release",
-                old: "[[ ! $last =~ ^[1-9][0-9]*\\ passed,\\ 0\\ failed$ ]]",
-                new: "false",
-            },
-            Edit { file: "release", old: "[ \"$programs\" != \"$(commands/programs)\" ]", new: "false" },
-        ],
-    ),
-    Row(
-        "a release that is packed",
-        release::packed,
-        &[
-            Edit {
-                file: "release",
-                old: "    --mtime=\"@$(git log -1 --format=%ct)\" \"$folder\"",
-                new: "    \"$folder\"",
-            },
-            Edit { file: "release", old: "    cp target/bin/timetable \"$room/$folder/bin\" &&\n", new: "" },
-            Edit { file: "release", old: "toolchain=$(rt version)", new: "toolchain=$(true)" },
-        ],
-    ),
-];
+use places::Mutation::{None, Toggle};
+use rows::{Row, ROWS};
 
 fn holds(name: &str) {
     let row = ROWS.iter().find(|row| row.0 == name).expect("there is such a row");
@@ -258,6 +96,11 @@ fn without_rt_or_cargo_it_is_told_what_is_missing() {
 #[test]
 fn what_has_changed_is_built_anew() {
     holds("a crate that has changed");
+}
+
+#[test]
+fn two_commands_at_once_set_up_once() {
+    holds("two at once");
 }
 
 #[test]

@@ -65,7 +65,7 @@ pub fn set_up(name: &str) -> String {
 /// A program that prints a row, waits until it is let on, prints another and goes on without a word.
 const WAITS: &str = "echo $$ >pid\necho '0 0 2 0 3000'\nread -r word <go\necho 'end 2'\n[ \"$word\" = end ] || exec sleep 20\n";
 
-/// The first line, if it comes within two seconds; the reader is left open with it.
+/// The first line, if it comes within five seconds; the reader is left open with it.
 fn first_line(out: ChildStdout) -> Option<(String, BufReader<ChildStdout>)> {
     let (to, from) = channel();
     thread::spawn(move || {
@@ -73,7 +73,7 @@ fn first_line(out: ChildStdout) -> Option<(String, BufReader<ChildStdout>)> {
         let _ = reader.read_line(&mut line);
         let _ = to.send((line, reader));
     });
-    from.recv_timeout(Duration::from_secs(2)).ok()
+    from.recv_timeout(Duration::from_secs(5)).ok()
 }
 
 /// Rows go out as they settle.
@@ -86,7 +86,7 @@ pub fn rows_settle(mutation: Mutation) -> Answer {
     is(&format!("the rest: {said:?}"), said == (Some(0), String::new()))
 }
 
-/// Where a reader closes after one line, command and program end within a second.
+/// Where a reader closes after one line, command and program end, long before the program would.
 pub fn closing_reader(mutation: Mutation) -> Answer {
     let (mut started, row) = Started::new(mutation)?;
     drop(row);
@@ -120,9 +120,9 @@ impl Started {
         go.and_then(|mut go| writeln!(go, "{word}")).expect("the program reads it");
     }
 
-    /// Status and standard error, within a second; an error where the program is still there.
+    /// Status and standard error; an error where the program is still there. On a quiet machine it takes milliseconds.
     fn end(&mut self) -> Result<(Option<i32>, String), String> {
-        let status = ended(&mut self.child, Duration::from_secs(1)).and_then(|status| status.code());
+        let status = ended(&mut self.child, Duration::from_secs(5)).and_then(|status| status.code());
         let pid = fs::read_to_string(self.commands.folder.path("pid")).unwrap_or_default();
         if Path::new("/proc").join(pid.trim()).exists() {
             let _ = Command::new("kill").arg(pid.trim()).status();

@@ -98,32 +98,9 @@ impl Commands {
 }
 
 /// What the scripts call.
-const TOOLS: [&str; 24] = [
-    "awk",
-    "bash",
-    "cat",
-    "chmod",
-    "cmp",
-    "cp",
-    "cut",
-    "dirname",
-    "env",
-    "find",
-    "git",
-    "gzip",
-    "head",
-    "mkdir",
-    "mktemp",
-    "mv",
-    "readlink",
-    "rm",
-    "sed",
-    "sha256sum",
-    "sort",
-    "tar",
-    "tee",
-    "xargs",
-];
+const TOOLS: &str =
+    "awk bash cat chmod cmp cp cut dirname env find flock git gzip head mkdir mktemp mv readlink rm sed \
+                     sha256sum sleep sort tar tee xargs";
 
 /// A repository of four small crates with the scripts of this one. Its `rt` and `cargo` write down what they are asked, in
 /// asked.txt, and hand out what is already built.
@@ -190,7 +167,7 @@ impl Repository {
     }
 
     fn stubs(&self) {
-        for tool in TOOLS {
+        for tool in TOOLS.split_whitespace() {
             let path = std::env::var("PATH").expect("there is a PATH");
             let found = path.split(':').map(|folder| Path::new(folder).join(tool)).find(|file| file.exists());
             let found = found.unwrap_or_else(|| panic!("no {tool} on the PATH"));

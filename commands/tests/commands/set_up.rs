@@ -2,9 +2,10 @@
 
 use crate::asking::{ask, is, said, same, Answer};
 use crate::output::set_up;
-use crate::places::{root, Mutation, Repository};
+use crate::places::{root, Commands, Folder, Mutation, Repository};
 use crate::plans::{note, t, wanted};
 use std::fs;
+use std::os::unix::fs::symlink;
 use std::process::Command;
 
 const BUILD: &str =
@@ -129,9 +130,24 @@ pub fn changed_crate(mutation: Mutation) -> Answer {
     same("the program is not there", ask(asking(&repository, "timetable", "rt cargo")), wanted)
 }
 
+/// Two commands at once: the second waits for the set-up of the first.
+pub fn two_at_once(mutation: Mutation) -> Answer {
+    let repository = Repository::new(mutation);
+    let slow = fs::read_to_string(repository.machine.path("rt-check")).expect("it is there");
+    repository.machine.write("rt-check", format!("sleep 1.5\n{slow}"));
+    let (first, second) = std::thread::scope(|scope| {
+        let other = scope.spawn(|| ask(asking(&repository, "timetable", "rt cargo")));
+        (ask(asking(&repository, "timetable", "rt cargo")), other.join().expect("it is asked"))
+    });
+    let found = [first.err, second.err];
+    let wanted = [set_up("timetable"), String::new()];
+    is(&format!("{found:?}"), found == wanted || found == [wanted[1].clone(), wanted[0].clone()])?;
+    is("what rt is asked", repository.asked().matches("rt check").count() == 1)
+}
+
 /// `--quick` answers without rt, by the Rust build, and says each time that this is not proved.
 pub fn quick(mutation: Mutation) -> Answer {
-    let commands = crate::places::Commands::new(mutation);
+    let commands = Commands::new(mutation);
     commands.folder.write("plan", t());
     let repository = Repository::new(mutation);
     for name in ["judge", "timetable"] {
@@ -170,12 +186,17 @@ pub fn versions(mutation: Mutation) -> Answer {
     is("CHANGES: the version", read("CHANGES.md").contains(&format!("\n## {}", read("VERSION"))))
 }
 
-/// The commands of this repository itself, as it is built.
+/// The commands of this repository itself, as it is built: a file, the standard input, a pipe, by a link to the command.
 pub fn this_repository(_: Mutation) -> Answer {
+    let folder = Folder::new();
+    fs::copy(root().join("examples/T.hex"), folder.path("T.hex")).expect("it can be copied");
     for name in ["judge", "timetable"] {
-        let mut command = Command::new(root().join(name));
-        command.arg(root().join("examples/T.hex"));
-        same(name, ask(command), wanted(name, &t()))?;
+        symlink(root().join(name), folder.path(name)).expect("a link can be made");
+        for words in ["./$0 T.hex", "./$0 - <T.hex", "./$0 <(cat T.hex)"] {
+            let mut shell = Command::new("bash");
+            shell.args(["-c", words, name]).current_dir(&folder.0);
+            same(words, ask(shell), wanted(name, &t()))?;
+        }
     }
     Ok(())
 }
