@@ -100,7 +100,7 @@ impl Commands {
 /// What the scripts call.
 const TOOLS: &str =
     "awk bash cat chmod cmp cp cut dirname env find flock git gzip head mkdir mktemp mv readlink rm sed \
-                     sha256sum sleep sort tar tee xargs";
+                     sha256sum sleep sort tail tar tee xargs";
 
 /// A repository of four small crates with the scripts of this one. Its `rt` and `cargo` write down what they are asked, in
 /// asked.txt, and hand out what is already built.

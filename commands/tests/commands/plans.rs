@@ -18,7 +18,7 @@ pub fn t() -> Vec<u8> {
     plan_t()
 }
 
-/// The largest plan that is accepted, 32,929 bytes.
+/// The largest plan of the generators, 32,817 bytes, which is accepted.
 pub fn largest() -> Vec<u8> {
     encode(&plans::largest_plan())
 }

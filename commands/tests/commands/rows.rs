@@ -33,7 +33,8 @@ pub const ROWS: &[Row] = &[
         &[
             Edit { file: SETUP, old: "[ \"${PIPESTATUS[0]}\" -eq 0 ] || failed \"$1\"", new: ":" },
             Edit { file: SETUP, old: "head -n 5", new: "head -n 0" },
-            Edit { file: SETUP, old: "; then log=target/log/$crate.out; fi", new: "; then :; fi" },
+            Edit { file: SETUP, old: "tail -n 5", new: "head -n 5" },
+            Edit { file: SETUP, old: "if [ \"$crate\" ]; then", new: "if false; then" },
         ],
     ),
     Row(
@@ -116,7 +117,7 @@ pub const ROWS: &[Row] = &[
             Edit { file: SETUP, old: "\n    built program \"$sources\"", new: "" },
         ],
     ),
-    Row("two at once", set_up::two_at_once, &[Edit { file: SETUP, old: " && flock 9", new: "" }]),
+    Row("two at once", set_up::two_at_once, &[Edit { file: SETUP, old: "! flock -n 9", new: "false" }]),
     Row(
         "--quick",
         set_up::quick,

@@ -45,10 +45,10 @@ pub fn failing_proof(mutation: Mutation) -> Answer {
         "x".repeat(194)
     );
     same("a proof fails", ask(asking(&repository, "timetable", "rt cargo")), said(2, "", &told))?;
-    repository.machine.write("rt-check", "echo 'rt: no toolchain'; exit 2");
+    repository.machine.write("rt-check", "printf 'rt: %s\\n' 1 2 3 4 5 6 7 8 9 10 'no toolchain'; exit 2");
     let told = format!(
         "judge: proving and building the library, this once (some minutes)\n\
-         judge: exports is not proved; {} begins:\nrt: no toolchain\n",
+         judge: exports is not built; {} ends:\nrt: 7\nrt: 8\nrt: 9\nrt: 10\nrt: no toolchain\n",
         repository.folder.path("target/setup/exports.log").display()
     );
     same("rt fails", ask(asking(&repository, "judge", "rt cargo")), said(2, "", &told))
@@ -140,7 +140,7 @@ pub fn two_at_once(mutation: Mutation) -> Answer {
         (ask(asking(&repository, "timetable", "rt cargo")), other.join().expect("it is asked"))
     });
     let found = [first.err, second.err];
-    let wanted = [set_up("timetable"), String::new()];
+    let wanted = [set_up("timetable"), "timetable: another set-up is under way\n".to_string()];
     is(&format!("{found:?}"), found == wanted || found == [wanted[1].clone(), wanted[0].clone()])?;
     is("what rt is asked", repository.asked().matches("rt check").count() == 1)
 }
