@@ -5,12 +5,18 @@
 
 pub mod activity_rules;
 pub mod automaton_rules;
+#[cfg(feature = "comparison")]
 pub mod check;
+#[cfg(feature = "comparison")]
 pub mod compare;
+#[cfg(feature = "comparison")]
 pub mod drive;
+#[cfg(feature = "comparison")]
 pub mod generate;
+#[cfg(feature = "comparison")]
 pub mod made_up;
 pub mod plan_file;
+#[cfg(feature = "comparison")]
 pub mod run;
 pub mod specified_times;
 pub mod timetable;

@@ -8,7 +8,6 @@ use jidlekuvo_reference::generate::plan_t;
 use jidlekuvo_reference::timetable::timetable;
 use std::fs::OpenOptions;
 use std::io::Write;
-use std::path::Path;
 use std::process::{Child, Command, ExitStatus, Stdio};
 use std::time::{Duration, Instant};
 
@@ -114,20 +113,4 @@ fn a_reader_that_closes_ends_the_program_before_it_reads_on() {
     stdin.write_all(&input_of(&plan_t())[10..]).expect("a pipe holds the input");
     ends(child);
     drop(stdin);
-}
-
-fn command(out: Stdio) -> Child {
-    let root = Path::new(env!("CARGO_MANIFEST_DIR")).join("..");
-    let mut command = Command::new(root.join("timetable"));
-    command.arg(root.join("examples/T.hex")).args(["0", "1"]).stdin(Stdio::null()).stderr(Stdio::null());
-    command.stdout(out).spawn().expect("the command starts")
-}
-
-#[test]
-fn the_command_ends_with_2_where_its_output_fails() {
-    assert_eq!(ends(command(Stdio::null())).code(), Some(0));
-    assert_eq!(ends(command(full())).code(), Some(2));
-    let mut closed = command(Stdio::piped());
-    drop(closed.stdout.take());
-    assert_eq!(ends(closed).code(), Some(2));
 }
