@@ -9,11 +9,11 @@ use Rattle.time.specs.Time.{horizon}
 use Rattle.plan.specs.declared.Plan.{Plan}
 use Rattle.activity.specs.Tells.{Tells, holds, told-true, tells-iff, tells-and}
 use Rattle.times.specs.Engine.{lastPosition}
-use Rattle.plan_limits.specs.Window.{entryInLimits}
+use Rattle.run_limits.specs.Window.{entryInLimits}
 use Rattle.plan_limits.specs.Tells.{tells-ltb, tells-leb, tells-then}
 use Rattle.plan_limits.specs.Plans.{tells-in-limits}
-use Rattle.plan_limits.specs.Stored.{tells-progress}
-use Rattle.plan_limits.specs.Places.{tells-window}
+use Rattle.run_limits.specs.Laws.Stored.{tells-progress}
+use Rattle.run_limits.specs.Laws.Places.{tells-window}
 use Rattle.run_window.specs.Window.{vacant, isFree, isHeld}
 use Rattle.run_window.specs.Tests.{free-or-held, unfree-held}
 use Rattle.run_window.specs.Places.{Holds, holds-within}

@@ -12,7 +12,7 @@ use lib.Seq.{drop-cons}
 use Rattle.run_window.specs.Window.{vacant}
 use Rattle.run_window.specs.declared.Entry.{Entry}
 use Rattle.activity.specs.Tells.{Tells, holds, fails}
-use Rattle.plan_limits.specs.Window.{entryInLimits, windowInLimits}
+use Rattle.run_limits.specs.Window.{entryInLimits, windowInLimits}
 
 module _ (activities : ℕ) (sizes : List ℕ) where
   abbrev good : Entry → Bool
