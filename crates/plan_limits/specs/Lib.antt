@@ -3,6 +3,5 @@ pub mod Limits
 pub mod Every
 pub mod Tells
 pub mod Shift
-pub mod Example
 pub mod Plans
 pub mod Files

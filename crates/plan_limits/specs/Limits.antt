@@ -100,9 +100,9 @@ inLimits p =
 unfoldable pub isRising : ℕ → List ℕ → Bool
 isRising count preds = every (count - 1) (λ i. ltb (getD preds i 0) (getD preds (i + 1) 0))
 
--- "Claims and releases have no bit 4. No bit 4 means duration 0."
+-- an action number is one byte; "Claims and releases have no bit 4. No bit 4 means duration 0."
 abbrev pub isBrief : Kind → ℕ → Bool
-isBrief (Kind.Action a x) d = true
+isBrief (Kind.Action a x) d = leb a 255
 isBrief (Kind.Claim r) d = eqb d 0
 isBrief (Kind.Release r) d = eqb d 0
 isBrief (Kind.Event e) d = true

@@ -1,0 +1,34 @@
+-- The count of the predecessors, and the predecessors.
+use native.Mathlib.Omega.{arith}
+use mathlib.Core.Path.{_≡_, refl, sym, _∙_, ap, subst}
+use Prim.Native.Nat.{ℕ, _+_, _*_, _-_, _≤_, _<_}
+use Rattle.wire.specs.Puts.{Puts, puts-none, puts-join, puts-length}
+use Rattle.wire.specs.Number.{present, bytesOf, optionalBytes}
+use Rattle.wire.specs.Fields.{length-bytes, length-optional}
+use borrow.Author.Needs.{needs}
+use Rattle.plan_write.proofs.bytes.put_preds.Statement.{statement}
+use Rattle.plan_write.proofs.bytes.put_preds.Tie as tie
+use Rattle.plan_write.proofs.bytes.put_preds.Reads as reads
+use Rattle.plan_write.proofs.bytes.put_preds.Lts as lts
+use Rattle.wire.proofs.puts.put_list.Reads as put-list-reads
+use Rattle.wire.proofs.puts.put_optional.Reads as put-optional-reads
+
+put-optional-requires : tie.Need-put-optional-requires
+put-optional-requires c κs = search needs
+
+slice-aggregate-put-list : tie.Need-slice-aggregate-put-list
+slice-aggregate-put-list c = search needs
+
+put-list-requires : tie.Need-put-list-requires
+put-list-requires c κs = (omega (arith, length-optional 1 (c .before .before .before .before .before .before .before .args .k)), search needs)
+
+same-length : tie.Need-same-length
+same-length c = search needs
+
+returns : tie.Need-returns
+returns c = puts-join (c .before .before .before .before .before .before .before .put-optional .ensures) (c .before .before .put-list .ensures)
+
+pub put-preds-spec : {M : Type 1} → statement M
+put-preds-spec =
+    tie.close
+    (tie.spec put-optional-requires slice-aggregate-put-list put-list-requires same-length returns)
