@@ -1,6 +1,6 @@
 -- The three answers: a rule broken, a buffer too short, the bytes.
 use native.Mathlib.Omega.{arith}
-use mathlib.Core.Path.{_≡_, refl, sym, _∙_}
+use mathlib.Core.Path.{sym, _∙_}
 use denote.Ref.{now}
 use Rattle.plan_write.proofs.Answers.{breaks-rule, too-short, wrote}
 use Rattle.format.specs.Laws.{keeps-iff}
@@ -9,10 +9,6 @@ use Rattle.plan_file.specs.HoldsPlan.{plan-iff}
 use borrow.Author.Needs.{needs}
 use Rattle.plan_write.proofs.write.Statement.{statement}
 use Rattle.plan_write.proofs.write.Tie as tie
-use Rattle.plan_write.proofs.write.Reads as reads
-use Rattle.plan_write.proofs.write.Lts as lts
-use Rattle.plan_write.proofs.bytes.put_plan.Reads as put-plan-reads
-use Rattle.plan_limits.proofs.file_rules.Reads as file-rules-reads
 
 file-rules-requires : tie.Need-file-rules-requires
 file-rules-requires c κs = search needs

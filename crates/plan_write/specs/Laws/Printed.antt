@@ -23,7 +23,7 @@ use Rattle.plan.specs.Plan.{pastNode, pastMove, move, movesOf}
 use Rattle.plan.specs.Limits.{nodeAt}
 use Rattle.plan_file.specs.PlanFile.{nodeMap, rising, duration, arrowCount, node, nodeOf, activity, inputBit, outputBit, moveMap, transition, moveOf, automaton, resourceCount, peripheralCount, itsResource, eventCount, itsOutcomes, activityCount, sectionMap, planFile}
 use Rattle.plan_file.specs.Stages.{nodeLast, counted, timed, kinded, moveLast, inputs, end, last, lastly, acting, outcoming, eventing, belonging, having, resourced, mapped}
-use Rattle.plan_file.specs.Reads.{may, node-bit, duration-read, count-read, told, kindPart, is-told, kind-read, move-bit, inPart, outPart, in-read, out-read, at-bit, r0, r1, r2, r3, bs, os, rb, ro}
+use Rattle.plan_file.specs.Reads.{may, node-bit, duration-read, count-read, told, kindPart, is-told, kind-read, move-bit, inPart, outPart, in-read, at-bit, r0, r1, r2, r3, bs, os, rb, ro}
 use Rattle.plan_write.specs.Bytes.{kindBytes, nodeBytes, inputBytes, outputBytes, moveBytes, automatonBytes, sectionBytes, activityBytes}
 
 -- a number that is absent where it is 0; numbers of one byte each

@@ -1,12 +1,8 @@
 -- A bit stands iff the number is not 0.
 use native.Mathlib.Omega.{arith}
-use mathlib.Core.Path.{_≡_, refl, sym, _∙_, ap, subst}
 use borrow.Author.Tests.{eq-eqb, ne-eqb}
-use borrow.Author.Needs.{needs}
 use Rattle.plan_write.proofs.bytes.bit_of.Statement.{statement}
 use Rattle.plan_write.proofs.bytes.bit_of.Tie as tie
-use Rattle.plan_write.proofs.bytes.bit_of.Reads as reads
-use Rattle.plan_write.proofs.bytes.bit_of.Lts as lts
 
 returns : tie.Need-returns
 returns c = (rw (eq-eqb _ _ (c .if1 .taken)), omega arith)

@@ -1,24 +1,18 @@
 -- The loop over activities and nodes: what is left is put after what was put.
 use native.Mathlib.Omega.{arith}
-use mathlib.Core.Path.{_≡_, refl, sym, _∙_, ap, subst}
+use mathlib.Core.Path.{_≡_, refl, _∙_}
 use Prim.Native.Nat.{ℕ, _+_, _*_, _-_, _≤_, _<_}
-use denote.Ref.{now}
 use Rattle.wire.specs.Puts.{puts-byte}
-use Rattle.plan_write.specs.Laws.Left.{Left, left-begin, left-next, left-done, moves-turn, moves-end, toPut, node-turn, activity-turn, activity-end, few-here, few-next}
+use Rattle.plan_write.specs.Laws.Left.{Left, left-begin, left-next, left-done, toPut, node-turn, activity-turn, activity-end, few-here, few-next}
 use lib.ListN.{length, getD}
 use native.Mathlib.Nat.{sub-zero}
-use Rattle.plan.specs.Plan.{pastNode, sizeOf}
+use Rattle.plan.specs.Plan.{pastNode}
 use Rattle.plan.specs.Limits.{InLimits}
-use Rattle.plan.specs.declared.Node.{Node}
 use Rattle.plan_write.specs.Bytes.{activityBytes}
 use Rattle.plan_write.specs.Laws.Printed.{node-length}
 use borrow.Author.Needs.{needs}
 use Rattle.plan_write.proofs.bytes.put_activities.Statement.{statement}
 use Rattle.plan_write.proofs.bytes.put_activities.Tie as tie
-use Rattle.plan_write.proofs.bytes.put_activities.Reads as reads
-use Rattle.plan_write.proofs.bytes.put_activities.Lts as lts
-use Rattle.plan_write.proofs.bytes.put_node.Reads as put-node-reads
-use Rattle.wire.proofs.puts.put_byte.Reads as put-byte-reads
 
 abbrev Inv-loop : tie.InvT-loop
 Inv-loop out₀ at plan count off₀ i₀ a₀ left₀ out off i a left =

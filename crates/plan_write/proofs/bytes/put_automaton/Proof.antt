@@ -1,20 +1,12 @@
 -- The automaton: its states, its final-state bits, its transitions.
 use native.Mathlib.Omega.{arith}
-use mathlib.Core.Path.{_≡_, refl, sym, _∙_, ap, subst}
-use Prim.Native.Nat.{ℕ, _+_, _*_, _-_, _≤_, _<_}
 use Rattle.wire.specs.Puts.{puts-join, puts-byte}
-use Rattle.wire.specs.Number.{present, bytesOf, optionalBytes}
-use Rattle.wire.specs.Fields.{length-bytes, length-optional}
+use Rattle.wire.specs.Fields.{length-bytes}
 use mathlib.Core.List.{[]}
 use Rattle.plan_write.specs.Laws.Printed.{automaton-print}
 use borrow.Author.Needs.{needs}
 use Rattle.plan_write.proofs.bytes.put_automaton.Statement.{statement}
 use Rattle.plan_write.proofs.bytes.put_automaton.Tie as tie
-use Rattle.plan_write.proofs.bytes.put_automaton.Reads as reads
-use Rattle.plan_write.proofs.bytes.put_automaton.Lts as lts
-use Rattle.plan_write.proofs.bytes.put_moves.Reads as put-moves-reads
-use Rattle.wire.proofs.puts.put_byte.Reads as put-byte-reads
-use Rattle.wire.proofs.puts.put_number.Reads as put-number-reads
 
 put-byte-requires : tie.Need-put-byte-requires
 put-byte-requires c κs = search needs

@@ -1,14 +1,10 @@
 -- The fields of a kind, one after the other.
 use native.Mathlib.Omega.{arith}
-use mathlib.Core.Path.{_≡_, refl, sym, _∙_, ap, subst}
 use Rattle.wire.specs.Puts.{puts-join, puts-byte}
 use Rattle.plan_write.specs.Bytes.{kindBytes}
 use borrow.Author.Needs.{needs}
 use Rattle.plan_write.proofs.bytes.put_kind.Statement.{statement}
 use Rattle.plan_write.proofs.bytes.put_kind.Tie as tie
-use Rattle.plan_write.proofs.bytes.put_kind.Reads as reads
-use Rattle.plan_write.proofs.bytes.put_kind.Lts as lts
-use Rattle.wire.proofs.puts.put_byte.Reads as put-byte-reads
 
 enum-known-kind : tie.Need-enum-known-kind
 enum-known-kind c = search needs

@@ -1,7 +1,6 @@
 -- A transition: its map, its states, its input, its output.
 use native.Mathlib.Omega.{arith}
-use mathlib.Core.Path.{_≡_, refl, sym, _∙_, ap, subst}
-use Prim.Native.Nat.{ℕ, _+_, _*_, _-_, _≤_, _<_}
+use mathlib.Core.Path.{ap}
 use Rattle.wire.specs.Puts.{puts-join, puts-byte}
 use mathlib.Core.List.{[]}
 use Rattle.plan_write.specs.Laws.Printed.{move-print, input-length}
@@ -10,12 +9,6 @@ use Rattle.plan_write.specs.Laws.Left.{puts-as}
 use borrow.Author.Needs.{needs}
 use Rattle.plan_write.proofs.bytes.put_move.Statement.{statement}
 use Rattle.plan_write.proofs.bytes.put_move.Tie as tie
-use Rattle.plan_write.proofs.bytes.put_move.Reads as reads
-use Rattle.plan_write.proofs.bytes.put_move.Lts as lts
-use Rattle.plan_write.proofs.bytes.move_map.Reads as move-map-reads
-use Rattle.plan_write.proofs.bytes.put_input.Reads as put-input-reads
-use Rattle.plan_write.proofs.bytes.put_output.Reads as put-output-reads
-use Rattle.wire.proofs.puts.put_byte.Reads as put-byte-reads
 
 move-map-requires : tie.Need-move-map-requires
 move-map-requires c κs = search needs

@@ -1,10 +1,8 @@
 -- The loop over the transitions: what is left is put after what was put.
 use native.Mathlib.Omega.{arith}
-use mathlib.Core.Path.{_≡_, refl, sym, _∙_, ap, subst}
-use Prim.Native.Nat.{ℕ, _+_, _*_, _-_, _≤_, _<_}
-use denote.Ref.{now}
-use Rattle.wire.specs.Puts.{Puts, puts-none, puts-join, puts-length}
-use Rattle.plan_write.specs.Laws.Left.{Left, left-begin, left-next, left-done, moves-turn, moves-end, toPut, node-turn, activity-turn, activity-end, few-here, few-next}
+use mathlib.Core.Path.{_≡_, refl, _∙_}
+use Prim.Native.Nat.{_+_, _*_, _-_, _≤_, _<_}
+use Rattle.plan_write.specs.Laws.Left.{Left, left-begin, left-next, left-done, moves-turn, moves-end}
 use lib.ListN.{length, getD}
 use native.Mathlib.Nat.{sub-zero}
 use Rattle.basis.specs.Parts.{part}
@@ -15,9 +13,6 @@ use Rattle.plan_write.specs.Laws.Printed.{move-length}
 use borrow.Author.Needs.{needs}
 use Rattle.plan_write.proofs.bytes.put_moves.Statement.{statement}
 use Rattle.plan_write.proofs.bytes.put_moves.Tie as tie
-use Rattle.plan_write.proofs.bytes.put_moves.Reads as reads
-use Rattle.plan_write.proofs.bytes.put_moves.Lts as lts
-use Rattle.plan_write.proofs.bytes.put_move.Reads as put-move-reads
 
 abbrev Inv-loop : tie.InvT-loop
 Inv-loop out₀ at t off₀ i₀ n out off i =

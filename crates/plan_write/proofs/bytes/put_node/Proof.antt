@@ -1,22 +1,14 @@
 -- A node: its map, its kind, its duration, its predecessors.
 use native.Mathlib.Omega.{arith}
-use mathlib.Core.Path.{_≡_, refl, sym, _∙_, ap, subst}
-use Prim.Native.Nat.{ℕ, _+_, _*_, _-_, _≤_, _<_}
+use mathlib.Core.Path.{ap}
 use Rattle.wire.specs.Puts.{puts-join, puts-byte}
-use Rattle.wire.specs.Number.{present, bytesOf, optionalBytes}
-use Rattle.wire.specs.Fields.{length-bytes, length-optional}
+use Rattle.wire.specs.Number.{bytesOf}
+use Rattle.wire.specs.Fields.{length-optional}
 use Rattle.plan_write.specs.Laws.Printed.{node-print, kind-length}
 use Rattle.plan_write.specs.Laws.Left.{puts-as}
 use borrow.Author.Needs.{needs}
 use Rattle.plan_write.proofs.bytes.put_node.Statement.{statement}
 use Rattle.plan_write.proofs.bytes.put_node.Tie as tie
-use Rattle.plan_write.proofs.bytes.put_node.Reads as reads
-use Rattle.plan_write.proofs.bytes.put_node.Lts as lts
-use Rattle.plan_write.proofs.bytes.node_map.Reads as node-map-reads
-use Rattle.plan_write.proofs.bytes.put_kind.Reads as put-kind-reads
-use Rattle.plan_write.proofs.bytes.put_preds.Reads as put-preds-reads
-use Rattle.wire.proofs.puts.put_byte.Reads as put-byte-reads
-use Rattle.wire.proofs.puts.put_optional_four.Reads as put-optional-four-reads
 
 node-map-requires : tie.Need-node-map-requires
 node-map-requires c κs = search needs

@@ -1,14 +1,10 @@
 -- The field of an output.
 use native.Mathlib.Omega.{arith}
-use mathlib.Core.Path.{_≡_, refl, sym, _∙_, ap, subst}
-use Rattle.wire.specs.Puts.{puts-none, puts-join, puts-byte}
+use Rattle.wire.specs.Puts.{puts-none, puts-byte}
 use Rattle.plan_write.specs.Bytes.{outputBytes}
 use borrow.Author.Needs.{needs}
 use Rattle.plan_write.proofs.bytes.put_output.Statement.{statement}
 use Rattle.plan_write.proofs.bytes.put_output.Tie as tie
-use Rattle.plan_write.proofs.bytes.put_output.Reads as reads
-use Rattle.plan_write.proofs.bytes.put_output.Lts as lts
-use Rattle.wire.proofs.puts.put_byte.Reads as put-byte-reads
 
 enum-told : tie.Need-enum-told
 enum-told c = search needs

@@ -1,17 +1,10 @@
 -- The sections, the activities and the automaton, one after the other.
 use native.Mathlib.Omega.{arith}
-use mathlib.Core.Path.{_≡_, refl, sym, _∙_, ap, subst}
-use Prim.Native.Nat.{ℕ, _+_, _*_, _-_, _≤_, _<_}
-use Rattle.wire.specs.Puts.{Puts, puts-none, puts-join, puts-length}
+use Rattle.wire.specs.Puts.{puts-join}
 use Rattle.plan_write.specs.Laws.Printed.{plan-print}
 use borrow.Author.Needs.{needs}
 use Rattle.plan_write.proofs.bytes.put_plan.Statement.{statement}
 use Rattle.plan_write.proofs.bytes.put_plan.Tie as tie
-use Rattle.plan_write.proofs.bytes.put_plan.Reads as reads
-use Rattle.plan_write.proofs.bytes.put_plan.Lts as lts
-use Rattle.plan_write.proofs.bytes.put_activities.Reads as put-activities-reads
-use Rattle.plan_write.proofs.bytes.put_automaton.Reads as put-automaton-reads
-use Rattle.plan_write.proofs.bytes.put_sections.Reads as put-sections-reads
 
 put-sections-requires : tie.Need-put-sections-requires
 put-sections-requires c κs = search needs

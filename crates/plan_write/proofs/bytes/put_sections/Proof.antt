@@ -1,21 +1,14 @@
 -- The map of sections, and the sections before the activities.
 use native.Mathlib.Omega.{arith}
-use mathlib.Core.Path.{_≡_, refl, sym, _∙_, ap, subst}
-use Prim.Native.Nat.{ℕ, _+_, _*_, _-_, _≤_, _<_}
+use mathlib.Core.Path.{ap}
 use Rattle.wire.specs.Puts.{puts-join, puts-byte}
-use Rattle.wire.specs.Number.{present, bytesOf, optionalBytes}
-use Rattle.wire.specs.Fields.{length-bytes, length-optional}
+use Rattle.wire.specs.Number.{bytesOf}
+use Rattle.wire.specs.Fields.{length-optional}
 use Rattle.plan_file.specs.PlanFile.{sectionMap}
 use Rattle.plan_write.specs.Laws.Left.{puts-as}
 use borrow.Author.Needs.{needs}
 use Rattle.plan_write.proofs.bytes.put_sections.Statement.{statement}
 use Rattle.plan_write.proofs.bytes.put_sections.Tie as tie
-use Rattle.plan_write.proofs.bytes.put_sections.Reads as reads
-use Rattle.plan_write.proofs.bytes.put_sections.Lts as lts
-use Rattle.plan_write.proofs.bytes.put_named.Reads as put-named-reads
-use Rattle.plan_write.proofs.bytes.section_map.Reads as section-map-reads
-use Rattle.wire.proofs.puts.put_byte.Reads as put-byte-reads
-use Rattle.wire.proofs.puts.put_optional.Reads as put-optional-reads
 
 section-map-requires : tie.Need-section-map-requires
 section-map-requires c κs = search needs

@@ -1,16 +1,12 @@
 -- The map of sections is the sum of its bits.
 use native.Mathlib.Omega.{arith}
-use mathlib.Core.Path.{_≡_, refl, sym, _∙_, ap, subst}
-use Prim.Native.Nat.{ℕ, _+_, _*_, _-_, _≤_, _<_}
-use Rattle.wire.specs.Number.{present, bytesOf, optionalBytes}
-use Rattle.plan_write.specs.Laws.Sums.{digit, kindBit, node-sum, move-sum, section-sum}
+use mathlib.Core.Path.{_∙_, ap}
+use Prim.Native.Nat.{ℕ}
+use Rattle.wire.specs.Number.{present}
+use Rattle.plan_write.specs.Laws.Sums.{digit, section-sum}
 use borrow.Author.Needs.{needs}
 use Rattle.plan_write.proofs.bytes.section_map.Statement.{statement}
 use Rattle.plan_write.proofs.bytes.section_map.Tie as tie
-use Rattle.plan_write.proofs.bytes.section_map.Reads as reads
-use Rattle.plan_write.proofs.bytes.section_map.Lts as lts
-use Rattle.plan_write.proofs.bytes.bit_of.Reads as bit-of-reads
-use Rattle.plan_write.proofs.bytes.wide.Reads as wide-reads
 
 wide-requires : tie.Need-wide-requires
 wide-requires c κs = search needs
