@@ -8,7 +8,7 @@ use Rattle.plan.specs.Plan.{activityOf, resourceOf}
 use Rattle.plan.specs.declared.Plan.{Plan}
 use Rattle.format.specs.Format.{Holds, print, result}
 use Rattle.plan_file.specs.PlanFile.{faultOrder, planFile}
-pub use Rattle.plan_roundtrip.specs.RoundTrip.{Bytes}
+pub use Rattle.format.specs.Writing.{Bytes}
 use Rattle.activity.specs.Rules.{Meets}
 use Rattle.automaton.specs.Rules.{MeetsAutomaton}
 use Rattle.judge.specs.Judge.{accepted, judgeOf}

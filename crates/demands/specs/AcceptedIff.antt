@@ -5,10 +5,10 @@ use mathlib.Core.List.{List}
 use Prim.Native.Nat.{ℕ}
 use Rattle.plan.specs.declared.Plan.{Plan}
 use Rattle.plan_file.specs.Accepted as F
-use Rattle.plan_file.specs.HoldPlan.{plan-rules}
+use Rattle.plan_file.specs.HoldsPlan.{plan-iff}
 use Rattle.activity.specs.Activities as A
 use Rattle.automaton.specs.Decides as D
-use Rattle.plan_write.specs.Back as B
+use Rattle.plan_write.specs.Laws.Back as B
 use Rattle.judge.specs.Laws.{Passes, passed, passing}
 use Rattle.demands.specs.Accepted.{Bytes, Accepts, StatementAcceptedIff, StatementLongest, StatementWrittenBack}
 
@@ -20,14 +20,14 @@ from-passes b p bytes h =
       printed = r .written;
       same = r .same;
       activities = A.accepted-iff p .0 (h .activities);
-      automaton = D.accepted-iff p (plan-rules p (r .holds) .limits) .0 (h .automaton);
+      automaton = D.accepted-iff p (plan-iff p .0 (r .holds) .limits) .0 (h .automaton);
     }
 
 to-passes : (b : List ℕ) (p : Plan) → Bytes b → Accepts b p → Passes b p
 to-passes b p bytes h = record {
   read = F.accepted-iff b bytes p .1 (record { holds = h .holds; written = h .printed; same = h .same });
   activities = A.accepted-iff p .1 (h .activities);
-  automaton = D.accepted-iff p (plan-rules p (h .holds) .limits) .1 (h .automaton);
+  automaton = D.accepted-iff p (plan-iff p .0 (h .holds) .limits) .1 (h .automaton);
 }
 
 pub accepted-iff : StatementAcceptedIff

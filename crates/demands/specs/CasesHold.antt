@@ -7,8 +7,9 @@ use Rattle.plan.specs.Nodes.{asksOf, kindBy, durationAt, predsLoop, predsAt, no
 use Rattle.plan.specs.Sections.{belongsAt, peripheralsAt, outcomesAt, eventsAt, nodesThen, activitiesLoop, activitiesAt}
 use Rattle.plan.specs.Moves.{inputAt, outputAt, moveWith, moveFrom, moveAt, finalsAt, moveCountAt, movesLoop, movesAt, automatonAt}
 use Rattle.plan.specs.Reading.{sectionsAt, endedAt, withAutomaton, withActivities, withEvents, withPeripherals, planAt, readPlan}
-use Rattle.plan_limits.specs.Limits.{within, nodeInLimits, slotInLimits, nodesInLimits, moveInLimits, movesInLimits, automatonInLimits, partsInLimits, inLimits, isRising, slotWritten, nodesWritten, fileRules, timesInLimits, instanceInLimits, placeInLimits, pendingInLimits, progressFits, progressInLimits}
-use Rattle.plan_limits.specs.Window.{entryInLimits, windowInLimits}
+use Rattle.plan_limits.specs.Limits.{within, nodeInLimits, slotInLimits, nodesInLimits, moveInLimits, movesInLimits, automatonInLimits, partsInLimits, inLimits, isRising, slotWritten, nodesWritten, fileRules}
+use Rattle.run_limits.specs.Progress.{timesInLimits, instanceInLimits, placeInLimits, pendingInLimits, progressFits, progressInLimits}
+use Rattle.run_limits.specs.Window.{entryInLimits, windowInLimits}
 use Rattle.activity.specs.Tests.{wordOf, passes, beforeWords}
 use Rattle.activity.specs.Number.{noCycle, ruleI, ruleII, ruleIII, ruleIV, ruleV, ruleVI, ruleVII, ruleVIII, ruleIX, ruleX, ruleXI, faultBy, faultOf, verdictFrom, activitiesVerdict}
 use Rattle.activity.specs.Copied.{copied}

@@ -10,10 +10,10 @@ use Rattle.basis.specs.Laws.Tells.{told-true, tells-iff, tells-and, tells-ltb, 
 use Rattle.time.specs.Time.{horizon}
 use Rattle.plan.specs.declared.Plan.{Plan}
 use Rattle.times.specs.Engine.{lastPosition}
-use Rattle.plan_limits.specs.Window.{entryInLimits}
+use Rattle.run_limits.specs.Window.{entryInLimits}
 use Rattle.plan_limits.specs.Plans.{tells-in-limits}
-use Rattle.plan_limits.specs.Stored.{tells-progress}
-use Rattle.plan_limits.specs.Places.{tells-window}
+use Rattle.run_limits.specs.Laws.Stored.{tells-progress}
+use Rattle.run_limits.specs.Laws.Places.{tells-window}
 use Rattle.run_window.specs.Window.{vacant, isFree, isHeld}
 use Rattle.run_window.specs.Tests.{free-or-held, unfree-held}
 use Rattle.run_window.specs.Places.{Holds, holds-within}

@@ -17,7 +17,7 @@ use Rattle.times_equal.specs.Plans.{scheduleAt}
 use Rattle.times_equal.specs.Laws.Plans.{AtMostEight, progressAt, plan-equal, plan-times, plan-free}
 use Rattle.demands_theory.specs.TheWord.{stateAfter}
 use Rattle.demands_theory.specs.Laws.Next.{lawful, few-pending}
-use Rattle.plan_file.specs.HoldPlan.{plan-rules}
+use Rattle.plan_file.specs.HoldsPlan.{plan-iff}
 use Rattle.demands.specs.AcceptedIff.{accepted-iff}
 use Rattle.demands.specs.Times.{opened, TimesEqual, StatementTimesEqual}
 use Rattle.run_opening.specs.Laws.{given-at}
@@ -68,4 +68,4 @@ module _ (p : Plan) (ts is : List ℕ) (l : Lawful p) (eight : AtMostEight p) (l
 pub times-equal : StatementTimesEqual
 times-equal b p ts is bytes e long path =
     let a = accepted-iff b p bytes .0 e in
-    equal p ts is (lawful p (plan-rules p (a .holds)) (a .activities) (a .automaton .first)) (λ js q ev f. few-pending p (a .automaton .few) js q ev f) long path
+    equal p ts is (lawful p (plan-iff p .0 (a .holds)) (a .activities) (a .automaton .first)) (λ js q ev f. few-pending p (a .automaton .few) js q ev f) long path

@@ -25,7 +25,7 @@ use Rattle.timetable_lines.specs.Lines.{header, refused}
 use Rattle.timetable_turns.specs.Timetable.{positions, tableOf, judgedText, textOfPlan, timetableOf}
 use Rattle.demands_theory.specs.Laws.Longest.{within-none}
 use Rattle.demands.specs.Accepted.{Bytes}
-use Rattle.plan_file.specs.HoldPlan.{plan-rules}
+use Rattle.plan_file.specs.HoldsPlan.{plan-iff}
 use Rattle.demands.specs.AcceptedIff.{accepted-iff}
 use Rattle.demands.specs.Laws.Along as Along
 use Rattle.demands.specs.Laws.Printed as P
@@ -70,7 +70,7 @@ module _ (p : Plan) (l : Lawful p) (eight : AtMostEight p) (m : MeetsAutomaton p
 pub timetable-times : StatementTimetableTimes
 timetable-times b p os text bytes e =
     let a = accepted-iff b p bytes .0 e in
-    let l = lawful p (plan-rules p (a .holds)) (a .activities) (a .automaton .first) in
+    let l = lawful p (plan-iff p .0 (a .holds)) (a .activities) (a .automaton .first) in
     let eight : AtMostEight p = λ js q ev f. few-pending p (a .automaton .few) js q ev f in
     (λ z. subst (Prints p os) z (forth p l eight (a .automaton) os), back p l eight (a .automaton) os text)
 

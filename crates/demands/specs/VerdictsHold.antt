@@ -20,7 +20,7 @@ use Rattle.format.specs.Format as F
 use Rattle.format.specs.Format.{faulty, more, Faulty, short, wrong, result}
 use Rattle.plan_file.specs.PlanFile.{faultOrder, planFile}
 use Rattle.plan_file.specs.Accepted as W
-use Rattle.plan_file.specs.HoldPlan.{plan-rules}
+use Rattle.plan_file.specs.HoldsPlan.{plan-iff}
 use Rattle.plan_file.specs.Refused.{refused-exactly}
 use Rattle.activity.specs.Number.{activitiesVerdict}
 use Rattle.activity.specs.Activities as A
@@ -43,7 +43,7 @@ file-of b bytes p e = let h = W.accepted-iff b bytes p .0 e in record { holds = 
 
 -- the limits, which the activities and the automaton start from
 limits : (b : List ℕ) (p : Plan) → FileOf b p → InLimits p
-limits b p h = plan-rules p (h .holds) .limits
+limits b p h = plan-iff p .0 (h .holds) .limits
 
 -- ---- from the verdict to its condition
 

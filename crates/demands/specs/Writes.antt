@@ -5,8 +5,6 @@ use mathlib.Core.List.{List}
 use mathlib.Core.Logic.{_↔_}
 use Prim.Native.Nat.{ℕ, _≤_, _<_}
 use lib.ListN.{length, take, drop}
-use Rattle.plan.specs.Limits.{FileRules, ByteActions}
-use Rattle.plan.specs.Encoding.{encode}
 use Rattle.plan.specs.Reading.{readPlan}
 use Rattle.plan.specs.declared.Plan.{Plan}
 use Rattle.plan.specs.declared.Verdict.{Verdict}
@@ -18,9 +16,9 @@ use Rattle.plan_write.specs.declared.Written.{Written}
 use Rattle.demands.specs.Alike.{SamePlan}
 
 pub data Writes (p : Plan) (out : List ℕ) : Written → Type 0 where
-  breaks : (FileRules p → ⊥) → Writes p out (Written.Refused NotWritten.BreaksRule)
-  short : FileRules p → length out < length (encode p) → Writes p out (Written.Refused NotWritten.TooShort)
-  written : FileRules p → length (encode p) ≤ length out → Writes p out (Written.Bytes (length (encode p)))
+  breaks : (Holds faultOrder planFile p → ⊥) → Writes p out (Written.Refused NotWritten.BreaksRule)
+  short : Holds faultOrder planFile p → length out < length (print planFile p) → Writes p out (Written.Refused NotWritten.TooShort)
+  written : Holds faultOrder planFile p → length (print planFile p) ≤ length out → Writes p out (Written.Bytes (length (print planFile p)))
 
 abbrev pub StatementWriting : Type 0
 StatementWriting = (p : Plan) (out : List ℕ) (w : Written) → (writtenOf p out ≡ w) ↔ Writes p out w
@@ -33,16 +31,12 @@ StatementNotWritten = (p : Plan) (out : List ℕ) (r : NotWritten) → writtenOf
 abbrev pub StatementBuffer : Type 0
 StatementBuffer =
     (p : Plan) (out : List ℕ) (n : ℕ) → writtenOf p out ≡ Written.Bytes n
-    → (take n (bufferOf p out) ≡ encode p) × (drop n (bufferOf p out) ≡ drop n out) × (length (bufferOf p out) ≡ length out)
-
--- these rules and bytes are those of the file's description, for every plan whose action numbers are bytes, as those of a stored plan are
-abbrev pub StatementTheFile : Type 0
-StatementTheFile = (p : Plan) → ByteActions p → (FileRules p ↔ Holds faultOrder planFile p) × (FileRules p → encode p ≡ print planFile p)
+    → (take n (bufferOf p out) ≡ print planFile p) × (drop n (bufferOf p out) ≡ drop n out) × (length (bufferOf p out) ≡ length out)
 
 -- what was written is read as the same plan
 abbrev pub StatementReadBack : Type 0
 StatementReadBack =
-    (p : Plan) (out : List ℕ) (n : ℕ) → ByteActions p → writtenOf p out ≡ Written.Bytes n
+    (p : Plan) (out : List ℕ) (n : ℕ) → writtenOf p out ≡ Written.Bytes n
     → (readPlan (take n (bufferOf p out)) .verdict ≡ Verdict.Accepted) × SamePlan p (readPlan (take n (bufferOf p out)) .plan)
 
 -- ---- by number and place
@@ -55,8 +49,8 @@ pub record NotWrittenAs (p : Plan) (out : List ℕ) (number place : ℕ) : Type 
 
 -- 50, place 0, iff a rule of the file is broken; 36, place 0, iff none is and the buffer is too short; no other number
 pub record WritingNumbers (p : Plan) (out : List ℕ) : Type 0 where
-  pub number50 : NotWrittenAs p out 50 0 ↔ (FileRules p → ⊥)
-  pub number36 : NotWrittenAs p out 36 0 ↔ FileRules p × (length out < length (encode p))
+  pub number50 : NotWrittenAs p out 50 0 ↔ (Holds faultOrder planFile p → ⊥)
+  pub number36 : NotWrittenAs p out 36 0 ↔ Holds faultOrder planFile p × (length out < length (print planFile p))
   pub none : (n place : ℕ) → NotWrittenAs p out n place → (n ≡ 50 → ⊥) → n ≡ 36
 
 abbrev pub StatementWritingNumbers : Type 0

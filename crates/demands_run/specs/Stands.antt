@@ -21,7 +21,7 @@ use Rattle.times.specs.declared.Told.{Told}
 use Rattle.times.specs.declared.Instance.{Instance}
 use Rattle.times.specs.declared.Progress.{Progress}
 use Rattle.run_window.specs.Window.{vacant}
-use Rattle.plan_limits.specs.Window.{entryInLimits}
+use Rattle.run_limits.specs.Window.{entryInLimits}
 use Rattle.run.specs.Limits.{slackInLimits, haltInLimits}
 use Rattle.run.specs.declared.Run.{Run}
 use Rattle.run.specs.declared.Halt.{Halt}

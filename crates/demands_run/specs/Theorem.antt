@@ -37,7 +37,7 @@ use Rattle.demands_theory.specs.Laws.Invariant.{Invariant}
 use Rattle.times_combined.specs.Combined.{Ident}
 use Rattle.times_combined.specs.Times.{Timing}
 use Rattle.times_combined.specs.Paths.{Lawful}
-use Rattle.plan_roundtrip.specs.RoundTrip.{Bytes}
+use Rattle.format.specs.Writing.{Bytes}
 use Rattle.demands_run.specs.Stands.{Good}
 use Rattle.demands_run.specs.Laws.Bounds.{run-passes}
 use Rattle.demands_run.specs.Laws.Works.{works, by-the-log, loading-says}

@@ -5,7 +5,7 @@ use mathlib.Core.Logic.{_↔_}
 use Prim.Native.Nat.{ℕ, _<_}
 use lib.ListN.{getD}
 use Rattle.plan.specs.Limits.{InLimits}
-use Rattle.plan_roundtrip.specs.RoundTrip as R
+use Rattle.plan_file.specs.Accepted as R
 use Rattle.plan.specs.declared.Fault.{Fault}
 use Rattle.plan.specs.declared.Plan.{Plan}
 use Rattle.plan.specs.declared.Verdict.{Verdict}
@@ -60,4 +60,4 @@ module _ (p : Plan) where
 
 -- a plan that was read is within the limits
 pub read-limits : (b : List ℕ) → ((k : ℕ) → getD b k 0 < 256) → (r : PlanRead) → r ≡ readPlan b → r .verdict ≡ Verdict.Accepted → InLimits (r .plan)
-read-limits b bytes r e v = R.written-read b bytes (r .plan) (sym e ∙ (λ i. record { verdict = v i; plan = r .plan })) .file .limits
+read-limits b bytes r e v = R.accepted-rules b bytes (r .plan) (sym e ∙ (λ i. record { verdict = v i; plan = r .plan })) .limits

@@ -7,5 +7,4 @@ pub mod Nodes
 pub mod Sections
 pub mod Moves
 pub mod Reading
-pub mod Encoding
 pub mod Example

@@ -1,7 +1,6 @@
--- The limits that "The plan file" sets on counts, numbers and durations, and the two rules that are none.
+-- The limits that "The plan file" sets on counts, numbers and durations, and the rules that are none.
 use mathlib.Core.Path.{_≡_}
 use mathlib.Core.Bool.{true}
-use mathlib.Core.List.{List, [], _∷_}
 use Prim.Native.Nat.{ℕ, _*_, _+_, _≤_, _<_}
 use lib.ListN.{getD}
 use Rattle.basis.specs.Lists.{Among}
@@ -66,11 +65,6 @@ pub record InLimits (p : Plan) : Type 0 where
   pub transitions : p .automaton .count ≤ 256
   pub moves : (i : ℕ) → i < p .automaton .count → MoveInLimits p (move (p .automaton) i)
 
--- "strictly rising"
-abbrev pub Rising : List ℕ → Type 0
-Rising [] = Unit {0}
-Rising (x ∷ xs) = ((y : ℕ) → Among y xs → x < y) × Rising xs
-
 -- "Claims and releases have no bit 4. No bit 4 means duration 0."
 abbrev pub Brief : Kind → ℕ → Type 0
 Brief (Kind.Action a x) d = Unit {0}
@@ -78,21 +72,19 @@ Brief (Kind.Claim r) d = d ≡ 0
 Brief (Kind.Release r) d = d ≡ 0
 Brief (Kind.Event e) d = Unit {0}
 
-pub record NodeWritten (n : Node) : Type 0 where
-  pub rising : Rising (predecessors n)
-  pub brief : Brief (n .kind) (n .duration)
-
--- A plan that the file can hold.
-pub record FileRules (p : Plan) : Type 0 where
-  pub limits : InLimits p
-  pub nodes : (a n : ℕ) → a < p .activities → n < sizeOf p a → NodeWritten (nodeAt p a n)
-
--- An action number is one byte, as the type of a stored plan says: the one thing that FileRules leaves out.
+-- "action number": one byte
 abbrev pub ByteAction : Kind → Type 0
 ByteAction (Kind.Action a x) = a < 256
 ByteAction (Kind.Claim r) = Unit {0}
 ByteAction (Kind.Release r) = Unit {0}
 ByteAction (Kind.Event e) = Unit {0}
 
-abbrev pub ByteActions : Plan → Type 0
-ByteActions p = (a n : ℕ) → a < p .activities → n < sizeOf p a → ByteAction (nodeAt p a n .kind)
+pub record NodeWritten (n : Node) : Type 0 where
+  pub rising : (i : ℕ) → i + 1 < n .count → getD (n .preds) i 0 < getD (n .preds) (i + 1) 0
+  pub brief : Brief (n .kind) (n .duration)
+  pub action : ByteAction (n .kind)
+
+-- Inner: what the description of the file asks of a plan (plan_file/HoldsPlan), apart from the order of its fields.
+pub record FileRules (p : Plan) : Type 0 where
+  pub limits : InLimits p
+  pub nodes : (a n : ℕ) → a < p .activities → n < sizeOf p a → NodeWritten (nodeAt p a n)

@@ -10,11 +10,13 @@ use Rattle.format.specs.Writing.{Bytes, Held, whole-read, written-read, length-
 use Rattle.plan.specs.declared.Verdict.{Verdict}
 use Rattle.plan.specs.declared.Plan.{Plan}
 use Rattle.plan.specs.declared.PlanRead.{PlanRead}
+use Rattle.plan.specs.Limits.{FileRules}
 use Rattle.plan.specs.Reading.{readPlan}
 use Rattle.plan_file.specs.PlanFile.{faultOrder, planFile, planOf}
 use Rattle.plan_file.specs.LinkPlan.{telling, plan-link}
 use Rattle.plan_file.specs.Known.{self}
 use Rattle.plan_file.specs.KnownPlan.{plan-accepted}
+use Rattle.plan_file.specs.HoldsPlan.{plan-iff}
 use Rattle.plan_file.specs.Longest.{plan-long}
 
 abbrev pub accepted : Plan → PlanRead
@@ -31,6 +33,9 @@ module _ (b : List ℕ) (bytes : Bytes b) (p : Plan) where
     (λ e. plan-accepted b bytes p .0 (plan-link b bytes ∙ ap (λ (r : PlanRead). telling (length b) (r .verdict) (r .plan)) e)),
     (λ h. told (length b) (readPlan b .verdict) (readPlan b .plan) p (sym (plan-link b bytes) ∙ plan-accepted b bytes p .1 h)),
   )
+
+  pub accepted-rules : readPlan b ≡ accepted p → FileRules p
+  accepted-rules e = plan-iff p .0 (accepted-iff .0 e .holds)
 
   -- reading what was written gives what the description reads of it
   pub read-printed : Holds faultOrder planFile p → print planFile p ≡ b → readPlan b ≡ accepted (result planFile p)

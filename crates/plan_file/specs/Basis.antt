@@ -3,11 +3,14 @@ use mathlib.Core.Path.{_≡_, refl, sym, _∙_}
 use mathlib.Core.Bool.{Bool, true, false, cond}
 use mathlib.Core.List.{List, [], _∷_}
 use Prim.Native.Nat.{ℕ, zero, suc, _+_, _≤_, _<_}
+use native.Mathlib.Nat.{zero-add}
 use native.Mathlib.Omega.{arith}
 use native.Mathlib.Decide.{decLe, decLt}
 use lib.ListN.{length, getD, set}
 use lib.Seq.{sets, getD-set-same, getD-set-other}
 use borrow.Author.Tests.{le-leb, lt-leb, le-ltb}
+use Rattle.basis.specs.Lists.{Among}
+use Rattle.basis.specs.Parts.{part, among-part, part-among}
 use Rattle.format.specs.Format.{_when_, good, fault, first}
 use Rattle.plan_file.specs.PlanFile.{faultOrder, outside}
 
@@ -42,6 +45,19 @@ inside n low below x told g =
                 absurd (let z : _≡_ {A = ℕ} 0 1 = cc in omega arith)
           ]
     ]
+
+-- the first `count` of a list are below `size` iff each of its members is
+pub below-among : (size count : ℕ) (xs : List ℕ) → ((i : ℕ) → i < count → getD xs i 0 < size) → (m : ℕ) → Among m (part 0 xs 0 count) → m < size
+below-among size count xs f m a =
+    let s = among-part 0 xs 0 count m a in
+    let e : m ≡ getD xs (s .0) 0 = rw zero-add at (s .2) in
+    let l = f (s .0) (s .1) in
+    omega arith
+
+pub among-below : (size count : ℕ) (xs : List ℕ) → ((m : ℕ) → Among m (part 0 xs 0 count) → m < size) → (i : ℕ) → i < count → getD xs i 0 < size
+among-below size count xs f i l =
+    let a : Among (getD xs i 0) (part 0 xs 0 count) = rw zero-add at (part-among 0 xs 0 count i l) in
+    f (getD xs i 0) a
 
 -- arrays filled from the front
 module _ {A : Type 0} (d : A) where

@@ -1,10 +1,10 @@
 -- K1, K2 and K5, and plan T, computed by the description alone.
 use mathlib.Core.Path.{_≡_, refl}
+use mathlib.Core.Bool.{true}
 use mathlib.Core.List.{[], _∷_, _++_}
-use Rattle.format.specs.Format.{read, refused, parse, parseAll, print}
-use Rattle.plan.specs.Encoding.{nodeMap, moveMap, sectionMap}
+use Rattle.format.specs.Format.{read, refused, parse, parseAll, print, keeps}
 use Rattle.plan.specs.Example.{planT, bytesOfT}
-use Rattle.plan_file.specs.PlanFile.{planFile, planOf}
+use Rattle.plan_file.specs.PlanFile.{faultOrder, nodeMap, moveMap, sectionMap, planFile, planOf}
 
 pub K1 : planOf [] ≡ refused 1 0
 unfolding planOf planFile parseAll parse
@@ -21,6 +21,10 @@ T-read = refl
 pub T-printed : print planFile planT ≡ bytesOfT
 unfolding planFile print nodeMap moveMap sectionMap
 T-printed = refl
+
+pub T-keeps : keeps faultOrder planFile planT ≡ true
+unfolding planFile keeps nodeMap moveMap sectionMap
+T-keeps = refl
 
 pub K5 : planOf (bytesOfT ++ (0 ∷ [])) ≡ refused 6 93
 unfolding planOf planFile parseAll parse

@@ -15,9 +15,8 @@ use Rattle.format.specs.Format.{_when_, done, number, _>>=_, part-of, optional,
 use Rattle.format.specs.Knowing.{Knows, Part, the-number, the-part, the-optional, Facts, weaken, assoc}
 use Rattle.plan.specs.declared.Kind.{Kind}
 use Rattle.plan.specs.declared.Node.{Node}
-use Rattle.plan.specs.Encoding.{kindBits, nodeMap}
 use Rattle.plan_file.specs.Stages.{nodeLast, counted, timed, kinded}
-use Rattle.plan_file.specs.PlanFile.{predRules, faultOrder, outside, count, name, kindStands, nodeRule, rising, kind, node, padded}
+use Rattle.plan_file.specs.PlanFile.{kindBits, nodeMap, predRules, faultOrder, outside, count, name, kindStands, nodeRule, rising, kind, node, padded}
 pub use Rattle.plan_file.specs.Basis.{inside, two, three, four, eight, filled-before, filled-at}
 
 abbrev pub self : {A : Type 0} → A → A

@@ -25,9 +25,8 @@ use Rattle.plan.specs.declared.Plan.{Plan}
 use Rattle.plan.specs.Plan.{pastNode, pastMove, sizeOf, resourceOf, outcomesOf, move}
 use Rattle.plan.specs.Limits.{nodeAt}
 use Rattle.plan.specs.Nodes.{zeroNode}
-use Rattle.plan.specs.Encoding.{inputBit, outputBit, moveMap, sectionMap}
 use Rattle.plan_file.specs.Stages.{moveLast, inputs, both, end, turns, finally, begun, last, lastly, acting, outcoming, eventing, belonging, having, resourced, mapped}
-use Rattle.plan_file.specs.PlanFile.{faultOrder, outside, count, name, node, activity, event, outcome, emitted, transition, automaton, laid, planFile, planOf, processing, emitting, whole, padded}
+use Rattle.plan_file.specs.PlanFile.{inputBit, outputBit, moveMap, sectionMap, faultOrder, outside, count, name, node, activity, event, outcome, emitted, transition, automaton, laid, planFile, planOf, processing, emitting, whole, padded}
 use Rattle.plan_file.specs.Known.{self, nothing, inside, two, three, filled-before, filled-at, facts-at, optional-is, name-is, count-is, node-knows}
 
 module _ (events : ℕ) (outcomes : List ℕ) (activities : ℕ) where

@@ -26,11 +26,10 @@ use Rattle.plan.specs.Fault.{numberOf}
 use Rattle.plan.specs.Plan.{pastMove, move}
 use Rattle.plan.specs.Fields.{onField, onStep, byteAt, nameAt}
 use Rattle.plan.specs.Moves.{onFinals, onCount, onInput, onOutput, onMove, outcomeAt, inputAt, outputAt, moveWith, moveFrom, moveAt, noAutomaton, finalsAt, moveCountAt, movesLoop, movesAt, automatonAt}
-use Rattle.plan.specs.Encoding.{moveMap}
 use Rattle.plan_file.specs.Basis.{two, three, four}
 use Rattle.plan_file.specs.Link.{on-number, on-name, on-count}
 use Rattle.plan_file.specs.Stages.{moveLast, inputs, both, end, turns, finally, begun}
-use Rattle.plan_file.specs.PlanFile.{faultOrder, count, name, event, outcome, emitted, transition, automaton, processing, emitting}
+use Rattle.plan_file.specs.PlanFile.{moveMap, faultOrder, count, name, event, outcome, emitted, transition, automaton, processing, emitting}
 
 module _ (b : List ℕ) (bytes : Bytes b) (events : ℕ) (outcomes outs : List ℕ) (activities : ℕ) (same : (e : ℕ) → e < events → getD outcomes e 0 ≡ getD outs e 0) where
   abbrev toldMove : MoveRead → Answer Transition

@@ -17,11 +17,10 @@ use Rattle.plan.specs.Fault.{numberOf}
 use Rattle.plan.specs.Fields.{onField, onStep, optionalCount}
 use Rattle.plan.specs.Nodes.{onKind, onDuration, asksOf, kindBy, durationAt, noPreds, predsLoop, predsAt, noNode, nodeOf, nodeWith}
 use Rattle.plan.specs.Nodes as nodes
-use Rattle.plan.specs.Encoding.{nodeMap}
 use Rattle.plan_file.specs.Basis.{eight}
 use Rattle.plan_file.specs.Link.{on-optional, on-optional-count, on-any, on-kind, on-rising}
 use Rattle.plan_file.specs.Stages.{nodeLast, counted, timed, kinded}
-use Rattle.plan_file.specs.PlanFile.{faultOrder, count, nodeRule, kind, node}
+use Rattle.plan_file.specs.PlanFile.{nodeMap, faultOrder, count, nodeRule, kind, node}
 
 module _ (b : List ℕ) (bytes : Bytes b) where
   abbrev pub toldNode : NodeRead → Answer Node

@@ -36,13 +36,12 @@ use Rattle.plan.specs.Nodes as nodes
 use Rattle.plan.specs.Sections.{noPeripherals, belongsAt, peripheralsAt, noEvents, outcomesAt, eventsAt, noActivities, nodesThen, activitiesLoop, activitiesAt}
 use Rattle.plan.specs.Moves.{automatonAt}
 use Rattle.plan.specs.Reading.{noPlan, sectionsAt, endedAt, withAutomaton, withActivities, withEvents, withPeripherals, planAt, readPlan}
-use Rattle.plan.specs.Encoding.{sectionMap}
 use Rattle.plan_file.specs.Basis.{three, four, filled-at}
 use Rattle.plan_file.specs.Link.{on-field, on-count, on-optional-count, on-numbers}
 use Rattle.plan_file.specs.LinkNode.{node-link}
 use Rattle.plan_file.specs.LinkMoves.{automaton-link}
 use Rattle.plan_file.specs.Stages.{last, lastly, acting, outcoming, eventing, belonging, having, resourced, mapped}
-use Rattle.plan_file.specs.PlanFile.{faultOrder, outside, count, node, activity, automaton, laid, planFile, planOf, padded}
+use Rattle.plan_file.specs.PlanFile.{sectionMap, faultOrder, outside, count, node, activity, automaton, laid, planFile, planOf, padded}
 
 -- the answer of the reader, with its fault's number
 abbrev pub telling : ℕ → Verdict → Plan → Answer Plan

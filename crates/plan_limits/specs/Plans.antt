@@ -1,13 +1,10 @@
 -- The test `inLimits` tells exactly the plans that are in limits. Assumes nothing.
 use mathlib.Core.Path.{_≡_}
 use mathlib.Core.Bool.{true}
-use mathlib.Core.List.{List}
 use Prim.Native.Nat.{ℕ, _<_, _≤_}
-use native.Mathlib.Nat.{zero-add}
 use native.Mathlib.Omega.{arith}
 use lib.ListN.{getD}
-use Rattle.basis.specs.Lists.{Among}
-use Rattle.basis.specs.Parts.{part, among-part, part-among}
+use Rattle.plan_file.specs.Basis.{below-among, among-below}
 use Rattle.plan.specs.Plan.{pastNode, sizeOf, outcomesOf, move, isFinal}
 use Rattle.plan.specs.Limits.{longest, KindNames, NodeInLimits, InputNames, OutputNames, MoveInLimits, nodeAt, InLimits}
 use Rattle.plan.specs.declared.Kind.{Kind}
@@ -20,19 +17,6 @@ use Rattle.activity.specs.Tells.{Tells, holds, tells-iff, tells-and, tells-ever
 use Rattle.plan_limits.specs.Limits.{kindNames, nodeInLimits, slotInLimits, nodesInLimits, inputNames, outputNames, moveInLimits, movesInLimits, automatonInLimits, partsInLimits, inLimits}
 use Rattle.plan_limits.specs.Tells.{tells-ltb, tells-leb, tells-then, tells-used, tells-within, tells-places}
 use Rattle.plan_limits.specs.Shift.{tells-finals}
-
--- a test of the first `count` elements is one of the members of their list
-pub below-among : (size count : ℕ) (xs : List ℕ) → ((i : ℕ) → i < count → getD xs i 0 < size) → (m : ℕ) → Among m (part 0 xs 0 count) → m < size
-below-among size count xs f m a =
-    let s = among-part 0 xs 0 count m a in
-    let e : m ≡ getD xs (s .0) 0 = rw zero-add at (s .2) in
-    let l = f (s .0) (s .1) in
-    omega arith
-
-pub among-below : (size count : ℕ) (xs : List ℕ) → ((m : ℕ) → Among m (part 0 xs 0 count) → m < size) → (i : ℕ) → i < count → getD xs i 0 < size
-among-below size count xs f i l =
-    let a : Among (getD xs i 0) (part 0 xs 0 count) = rw zero-add at (part-among 0 xs 0 count i l) in
-    f (getD xs i 0) a
 
 module _ (p : Plan) where
   tells-kind : (k : Kind) → Tells (kindNames (p .resources) (p .peripherals) (p .events) k) (KindNames p k)

@@ -2,7 +2,9 @@
 // the file can hold.
 ghost use mathlib.Core.Path.{_≡_};
 ghost use Prim.Native.Nat.{_≤_};
-ghost use Rattle.plan_limits.specs.Limits.{partsInLimits, inLimits, fileRules};
+ghost use Rattle.format.specs.Format.{keeps};
+ghost use Rattle.plan_file.specs.PlanFile.{faultOrder, planFile};
+ghost use Rattle.plan_limits.specs.Limits.{partsInLimits, inLimits};
 
 mod moves;
 mod nodes;
@@ -62,9 +64,9 @@ pub fn in_limits(plan: Plan) -> bool
     parts_in_limits(plan)
 }
 
-// The file can hold the plan.
+// The plan holds what the description of the file asks.
 pub fn file_rules(plan: Plan) -> bool
-    ensures { λ r. ⌜ r ≡ fileRules plan ⌝ }
+    ensures { λ r. ⌜ r ≡ keeps faultOrder planFile plan ⌝ }
 {
     if !in_limits(plan) {
         return false;

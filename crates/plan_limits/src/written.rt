@@ -23,12 +23,12 @@ fn is_rising(count: u8, preds: [u8; 8]) -> bool
     true
 }
 
-// "Claims and releases have no bit 4. No bit 4 means duration 0."
+// An action number is one byte. "Claims and releases have no bit 4. No bit 4 means duration 0."
 fn is_brief(kind: Kind, duration: u32) -> bool
     ensures { λ r. ⌜ r ≡ isBrief kind duration ⌝ }
 {
     match kind {
-        Kind::Action(_, _) => true,
+        Kind::Action(a, _) => a <= 255,
         Kind::Claim(_) => duration == 0,
         Kind::Release(_) => duration == 0,
         Kind::Event(_) => true,

@@ -1,3 +1,4 @@
--- Writing a plan into a lent buffer, and the way back.
+-- Writing a plan into a lent buffer: what is answered, the bytes of each part, and the way back.
 pub mod Writing
-pub mod Back
+pub mod Bytes
+pub mod Laws

@@ -5,9 +5,9 @@ use mathlib.Core.List.{List, _++_}
 use Prim.Native.Nat.{ℕ}
 use lib.ListN.{length, drop}
 use lib.Dec.{leb}
-use Rattle.plan.specs.Encoding.{encode}
+use Rattle.format.specs.Format.{print, keeps}
 use Rattle.plan.specs.declared.Plan.{Plan}
-use Rattle.plan_limits.specs.Limits.{fileRules}
+use Rattle.plan_file.specs.PlanFile.{faultOrder, planFile}
 use Rattle.plan_write.specs.declared.NotWritten.{NotWritten}
 use Rattle.plan_write.specs.declared.Written.{Written}
 
@@ -22,11 +22,11 @@ placeOf n = 0
 -- what the writer answers: how many bytes it wrote, or why it wrote none
 unfoldable pub writtenOf : Plan → List ℕ → Written
 writtenOf p out =
-    cond (fileRules p)
-    (cond (leb (length (encode p)) (length out)) (Written.Bytes (length (encode p))) (Written.Refused NotWritten.TooShort))
+    cond (keeps faultOrder planFile p)
+    (cond (leb (length (print planFile p)) (length out)) (Written.Bytes (length (print planFile p))) (Written.Refused NotWritten.TooShort))
     (Written.Refused NotWritten.BreaksRule)
 
 -- the buffer that it leaves: the bytes, and everything after them unchanged; a refusal leaves it as it was
 unfoldable pub bufferOf : Plan → List ℕ → List ℕ
 bufferOf p out =
-    cond (fileRules p) (cond (leb (length (encode p)) (length out)) (encode p ++ drop (length (encode p)) out) out) out
+    cond (keeps faultOrder planFile p) (cond (leb (length (print planFile p)) (length out)) (print planFile p ++ drop (length (print planFile p)) out) out) out

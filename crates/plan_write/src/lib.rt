@@ -1,4 +1,6 @@
 // Writing a plan into a lent buffer.
+mod bytes;
+
 use plan::Plan;
 ghost use mathlib.Core.Path.{_≡_};
 ghost use Rattle.plan_write.specs.Writing.{writtenOf, bufferOf};
@@ -21,9 +23,9 @@ pub fn write(plan: Plan, out: &mut [u8]) -> Written
 {
     if plan_limits::file_rules(plan) {
         let mut none = [0u8; 1];
-        let size = plan_encode::put_plan(&mut none, plan);
+        let size = bytes::put_plan(&mut none, plan);
         if size <= out.len() {
-            let end = plan_encode::put_plan(out, plan);
+            let end = bytes::put_plan(out, plan);
             return Written::Bytes(end);
         }
         return Written::Refused(NotWritten::TooShort);

@@ -15,11 +15,11 @@ use Rattle.plan.specs.Plan.{sizeOf}
 use Rattle.times.specs.Engine.{lastPosition}
 use Rattle.times.specs.Limits.{ProgressInLimits}
 use Rattle.activity.specs.Tells.{Tells, holds, fails, told-true, tells-and, tells-or}
-use Rattle.plan_limits.specs.Window.{entryInLimits, windowInLimits}
+use Rattle.run_limits.specs.Window.{entryInLimits, windowInLimits}
 use Rattle.plan_limits.specs.Tells.{tells-ltb, tells-leb}
 use Rattle.plan_limits.specs.Plans.{tells-in-limits}
-use Rattle.plan_limits.specs.Stored.{tells-stored}
-use Rattle.plan_limits.specs.Places.{tells-window}
+use Rattle.run_limits.specs.Laws.Stored.{tells-stored}
+use Rattle.run_limits.specs.Laws.Places.{tells-window}
 use Rattle.run_window.specs.declared.Entry.{Entry}
 use Rattle.run_window.specs.declared.Found.{Found}
 use Rattle.run_window.specs.Window.{vacant, isFree, isHeld, isStarted, isNode, isOverdue, isLate, isDue, startsBefore, endsBefore, onFound, first}

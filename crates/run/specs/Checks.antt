@@ -7,8 +7,8 @@ use lib.ListN.{set}
 use Rattle.time.specs.Time.{horizon}
 use Rattle.time.specs.declared.Clock.{Clock}
 use Rattle.times.specs.Engine.{lastPosition}
-use Rattle.plan_limits.specs.Limits.{progressInLimits}
-use Rattle.plan_limits.specs.Window.{windowInLimits}
+use Rattle.run_limits.specs.Progress.{progressInLimits}
+use Rattle.run_limits.specs.Window.{windowInLimits}
 use Rattle.run_window.specs.declared.Entry.{Entry}
 use Rattle.run_window.specs.Window.{isStarted, startedOf, isOverdue, isLate, isNode, startsBefore, endsBefore, onFound, first}
 use Rattle.run_window.specs.Times.{AllInTime}

@@ -4,8 +4,9 @@ use Prim.Native.Nat.{ℕ}
 use lib.Dec.{ltb, leb}
 use Rattle.time.specs.Time.{horizon}
 use Rattle.times.specs.Engine.{lastPosition}
-use Rattle.plan_limits.specs.Limits.{inLimits, progressInLimits}
-use Rattle.plan_limits.specs.Window.{windowInLimits}
+use Rattle.plan_limits.specs.Limits.{inLimits}
+use Rattle.run_limits.specs.Progress.{progressInLimits}
+use Rattle.run_limits.specs.Window.{windowInLimits}
 use Rattle.run.specs.declared.Stop.{Stop}
 use Rattle.run.specs.declared.Halt.{Halt}
 use Rattle.run.specs.declared.Run.{Run}

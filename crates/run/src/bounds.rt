@@ -4,8 +4,8 @@ use crate::Run;
 use crate::Stop;
 ghost use mathlib.Core.Path.{_≡_};
 ghost use mathlib.Core.Bool.{_&&_};
-ghost use Rattle.plan_limits.specs.Limits.{progressInLimits};
-ghost use Rattle.plan_limits.specs.Window.{windowInLimits};
+ghost use Rattle.run_limits.specs.Progress.{progressInLimits};
+ghost use Rattle.run_limits.specs.Window.{windowInLimits};
 ghost use Rattle.run.specs.Limits.{stopInLimits, haltInLimits, slackInLimits, runInLimits};
 ghost use Rattle.run.specs.Checks.{nodeNamed, storedInLimits};
 

@@ -1,6 +1,6 @@
 // The limits of what a run stores beside its plan (number 50): where its behaviour stands, and its window.
 ghost use mathlib.Core.Path.{_≡_};
-ghost use Rattle.plan_limits.specs.Limits.{progressInLimits};
+ghost use Rattle.run_limits.specs.Progress.{progressInLimits};
 
 pub mod places;
 pub mod progress;

@@ -1,6 +1,6 @@
 // The limits of the window of a run.
 ghost use mathlib.Core.Path.{_≡_};
-ghost use Rattle.plan_limits.specs.Window.{namesNode, entryInLimits, windowInLimits};
+ghost use Rattle.run_limits.specs.Window.{namesNode, entryInLimits, windowInLimits};
 use crate::progress::HORIZON;
 use crate::progress::LAST_POSITION;
 use run_window::Entry;

@@ -1,7 +1,7 @@
 // The limits of what is stored between transitions.
 ghost use mathlib.Core.Path.{_≡_};
 ghost use Prim.Native.Nat.{_≤_};
-ghost use Rattle.plan_limits.specs.Limits.{timesInLimits, toldNames, instanceInLimits, placeInLimits, pendingInLimits, progressFits};
+ghost use Rattle.run_limits.specs.Progress.{timesInLimits, toldNames, instanceInLimits, placeInLimits, pendingInLimits, progressFits};
 use plan_limits::numbers;
 use time::Specified;
 use times::Instance;

@@ -6,9 +6,8 @@ use native.Mathlib.Numerals.{add-one}
 use native.Mathlib.Omega.{arith}
 use lib.ListN.{length, getD, set}
 use lib.Seq.{sets}
-use Rattle.basis.specs.Parts.{part, length-part}
-use Rattle.wire.specs.Number.{bytesOf}
-use Rattle.wire.specs.Fields.{length-bytes}
+use Rattle.wire.specs.Number.{bytesOf, numberBytes}
+use Rattle.wire.specs.Fields.{length-bytes, length-numbers}
 use Rattle.wire.specs.Puts.{Puts}
 
 module _ (out out′ : List ℕ) (off left k rest low : ℕ) (more : left ≡ suc k) (is : low ≡ rest % 256) (put : out′ ≡ set out off low) where
@@ -20,14 +19,15 @@ pub number-done : (out₀ out : List ℕ) (at w x off left rest : ℕ) → left 
 number-done out₀ out at w x off left rest z e s =
     record { past = omega (arith, length-bytes w x); left = sym (s ∙ rw z) }
 
-module _ (out out′ xs : List ℕ) (off k i : ℕ) (more : i < k) (put : out′ ≡ set out off (getD xs i 0)) where
-  pub list-next : sets out off (part 0 xs i (k - i)) ≡ sets out′ (off + 1) (part 0 xs (i + 1) (k - (i + 1)))
+module _ (out out′ xs : List ℕ) (off k i : ℕ) (more : i < k) (byte : getD xs i 0 < 256) (put : out′ ≡ set out off (getD xs i 0)) where
+  pub list-next : sets out off (numberBytes xs i (k - i)) ≡ sets out′ (off + 1) (numberBytes xs (i + 1) (k - (i + 1)))
   list-next =
       let e : k - i ≡ suc (k - (i + 1)) = omega arith in
-      rw (e, put) (ap (λ (j : ℕ). sets (set out off (getD xs i 0)) j (part 0 xs (i + 1) (k - (i + 1)))) (sym (add-one off)))
+      let z : getD xs i 0 % 256 ≡ getD xs i 0 = omega arith in
+      rw (e, z, put) (ap (λ (j : ℕ). sets (set out off (getD xs i 0)) j (numberBytes xs (i + 1) (k - (i + 1)))) (sym (add-one off)))
 
-pub list-done : (out₀ out xs : List ℕ) (at k off i : ℕ) → k ≤ i → off ≡ at + k → sets out₀ at (part 0 xs 0 k) ≡ sets out off (part 0 xs i (k - i))
-    → Puts out₀ at (part 0 xs 0 k) out off
+pub list-done : (out₀ out xs : List ℕ) (at k off i : ℕ) → k ≤ i → off ≡ at + k → sets out₀ at (numberBytes xs 0 k) ≡ sets out off (numberBytes xs i (k - i))
+    → Puts out₀ at (numberBytes xs 0 k) out off
 list-done out₀ out xs at k off i h o s =
     let e : k - i ≡ 0 = omega arith in
-    record { past = omega (arith, length-part 0 xs 0 k); left = sym (s ∙ rw e) }
+    record { past = omega (arith, length-numbers xs 0 k); left = sym (s ∙ rw e) }

@@ -11,8 +11,12 @@ use lib.ListN.{length, getD, take, drop, length-append}
 use lib.Seq.{drop-cons}
 use lib.Dec.{leb, ltb, eqb}
 use borrow.Author.Tests.{le-ltb, lt-ltb, le-leb, lt-leb, eqb-true, eqb-false, eq-eqb, ne-eqb, not-true, not-false}
-use Rattle.wire.specs.Number.{little, bytesOf, fieldAt, number, optional, present, optionalBytes}
+use Rattle.wire.specs.Number.{little, bytesOf, numberBytes, fieldAt, number, optional, present, optionalBytes}
 use Rattle.wire.specs.Span.{Span, none, within, head-is, tail-is, head-in}
+
+pub length-numbers : (xs : List ℕ) (i k : ℕ) → length (numberBytes xs i k) ≡ k
+length-numbers xs i zero = refl
+length-numbers xs i (suc k) = ap suc (length-numbers xs (i + 1) k)
 
 pub length-bytes : (w x : ℕ) → length (bytesOf w x) ≡ w
 length-bytes zero x = refl

@@ -15,6 +15,11 @@ abbrev pub bytesOf : ℕ → ℕ → List ℕ
 bytesOf zero x = []
 bytesOf (suc w) x = x % 256 ∷ bytesOf w (x / 256)
 
+-- the k numbers of a list from place i on, one byte each
+abbrev pub numberBytes : List ℕ → ℕ → ℕ → List ℕ
+numberBytes xs i zero = []
+numberBytes xs i (suc k) = getD xs i 0 % 256 ∷ numberBytes xs (i + 1) k
+
 -- the w bytes at `at` as a number, unless the bytes end inside them
 unfoldable pub fieldAt : {A : Type 0} → (ℕ → A) → A → ℕ → List ℕ → ℕ → A
 fieldAt value ends w b at = cond (leb (at + w) (length b)) (value (little w b at)) ends

@@ -1,11 +1,12 @@
 -- Bytes put into a lent buffer: past its end nothing is put, and bytes after those put are unchanged.
 use mathlib.Core.Path.{_≡_, refl, sym, _∙_, ap, ap₂}
 use mathlib.Core.List.{List, [], _∷_, _++_}
-use Prim.Native.Nat.{ℕ, zero, suc, _+_}
+use Prim.Native.Nat.{ℕ, zero, suc, _+_, _%_, _<_}
 use native.Mathlib.Nat.{add-zero, add-suc, suc-add}
 use native.Mathlib.Omega.{arith}
 use lib.ListN.{length, set, length-append}
 use lib.Seq.{sets, length-sets}
+use Rattle.wire.specs.Number.{bytesOf}
 
 -- the bytes xs are put at `at`; `next` is the offset past them
 pub record Puts (before : List ℕ) (at : ℕ) (xs after : List ℕ) (next : ℕ) : Type 0 where
@@ -14,6 +15,9 @@ pub record Puts (before : List ℕ) (at : ℕ) (xs after : List ℕ) (next : ℕ
 
 pub puts-none : (l : List ℕ) (at : ℕ) → Puts l at [] l at
 puts-none l at = record { past = omega arith; left = refl }
+
+pub puts-byte : {l m : List ℕ} {at next x : ℕ} → x < 256 → Puts l at (x ∷ []) m next → Puts l at (bytesOf 1 x) m next
+puts-byte {x = x} h p = let z : x % 256 ≡ x = omega arith in rw z p
 
 pub sets-append : (vs l ws : List ℕ) (i : ℕ) → sets l i (vs ++ ws) ≡ sets (sets l i vs) (i + length vs) ws
 sets-append [] l ws i = rw add-zero

@@ -3,8 +3,7 @@ ghost use mathlib.Core.Path.{_≡_};
 ghost use mathlib.Core.List.{[], _∷_};
 ghost use Prim.Native.Nat.{_+_, _/_, _%_, _≤_, _<_};
 ghost use lib.ListN.{length};
-ghost use Rattle.basis.specs.Parts.{part};
-ghost use Rattle.wire.specs.Number.{bytesOf, optionalBytes};
+ghost use Rattle.wire.specs.Number.{bytesOf, numberBytes, optionalBytes};
 ghost use Rattle.wire.specs.Puts.{Puts};
 
 // One byte.
@@ -62,10 +61,10 @@ pub fn put_optional_four(out: &mut [u8], at: usize, x: u32) -> usize
     put_number(out, at, x as u64, 4)
 }
 
-// The first k numbers of a list.
+// The first k numbers of a list, one byte each.
 pub fn put_list(out: &mut [u8], at: usize, xs: &[u8], k: u8) -> usize
     requires { ⌜ (at < 131072) × (k ≤ length (now xs)) ⌝ }
-    ensures { λ r. ⌜ Puts (now (out .entry)) at (part 0 (now (xs .entry)) 0 k) (now (out .exit)) r ⌝ }
+    ensures { λ r. ⌜ Puts (now (out .entry)) at (numberBytes (now (xs .entry)) 0 k) (now (out .exit)) r ⌝ }
 {
     let mut off = at;
     let mut i: usize = 0;

@@ -2,43 +2,35 @@
 use mathlib.Core.Path.{_≡_, refl, sym, _∙_, ap}
 use Prim.Native.Nat.{ℕ, _<_}
 use Rattle.basis.specs.Parts.{part}
-use Rattle.wire.specs.Map.{bit}
 use Rattle.plan.specs.Plan.{sizeOf, move}
 use Rattle.plan.specs.Limits.{nodeAt}
-use Rattle.plan.specs.Encoding.{nodeMap, sectionMap}
-use Rattle.plan.specs.declared.Kind.{Kind}
 use Rattle.plan.specs.declared.Node.{Node}
 use Rattle.plan.specs.declared.Automaton.{Automaton}
 use Rattle.plan.specs.declared.Plan.{Plan}
-use Rattle.format.specs.Format.{Format, part-of, each, Holds, result}
+use Rattle.format.specs.Format.{part-of, each, Holds, result}
 use Rattle.format.specs.Alike.{Same, same-read, same-result, then-same, part-same, all-same, read-same}
-use Rattle.plan_file.specs.PlanFile.{faultOrder, kind, rising, duration, arrowCount, node, nodeOf, activity, moveOf, transition, automaton, resourceCount, peripheralCount, itsResource, eventCount, itsOutcomes, activityCount, planFile}
+use Rattle.plan_file.specs.PlanFile.{faultOrder, nodeMap, sectionMap, rising, duration, arrowCount, node, nodeOf, activity, moveOf, transition, automaton, resourceCount, peripheralCount, itsResource, eventCount, itsOutcomes, activityCount, planFile}
 use Rattle.plan_file.specs.Stages.{nodeLast, counted, timed, kinded, end, last, lastly, acting, outcoming, eventing, belonging, having, resourced}
 use Rattle.plan_file.specs.Known.{self, nothing}
 use Rattle.plan_file.specs.KnownPlan.{plan-knows}
-use Rattle.plan_file.specs.HoldNode.{rising-result, kind-read, duration-read, count-read}
-use Rattle.plan_file.specs.HoldMoves.{move-result}
-use Rattle.plan_file.specs.HoldPlan.{bs, os, r0, r1, r2, r3, rb, ro}
+use Rattle.plan_file.specs.Reads.{rising-read, kindPart, kind-read, duration-read, count-read, move-read, bs, os, r0, r1, r2, r3, rb, ro}
 use Rattle.demands.specs.Alike.{SameNode, SamePlan}
-
-abbrev kinds : ℕ → ℕ → ℕ → ℕ → Format Node Kind
-kinds X R E m = part-of (λ n. n .kind) (kind X R E (bit 0 m) (bit 1 m) (bit 2 m))
 
 same-node : (X R E size : ℕ) (n u : Node) → Same (node X R E size) n u → SameNode n u
 unfolding Same
 same-node X R E size n u h =
     let m = nodeMap n in
-    let s1 = then-same (kinds X R E m) (kinded size m) n u (n .kind) (kind-read X R E n) (h .1) in
-    let s2 = then-same (duration m) (timed size m (n .kind)) n u (n .duration) (duration-read X R E n) (s1 .1) in
-    let s3 = then-same (arrowCount m) (counted size (n .kind) (n .duration)) n u (n .count) (count-read X R E n) (s2 .1) in
+    let s1 = then-same (kindPart X R E m) (kinded size m) n u (n .kind) (kind-read X R E n) (h .1) in
+    let s2 = then-same (duration m) (timed size m (n .kind)) n u (n .duration) (duration-read n) (s1 .1) in
+    let s3 = then-same (arrowCount m) (counted size (n .kind) (n .duration)) n u (n .count) (count-read n) (s2 .1) in
     let ps = rising size 0 0 (n .count) in
     let s4 = then-same ps (nodeLast (n .kind) (n .duration) (n .count)) n u (result ps n) refl (s3 .1) .0 in
     record {
-      kind = read-same (kinds X R E) (λ n. n .kind) nodeMap n u (h .0) (kind-read X R E) (s1 .0);
-      duration = read-same duration (λ n. n .duration) nodeMap n u (h .0) (duration-read X R E) (s2 .0);
+      kind = read-same (kindPart X R E) (λ n. n .kind) nodeMap n u (h .0) (kind-read X R E) (s1 .0);
+      duration = read-same duration (λ n. n .duration) nodeMap n u (h .0) duration-read (s2 .0);
       arrows =
-          sym (rising-result size 0 0 (n .count) n) ∙ sym (same-result ps n u s4) ∙ rising-result size 0 0 (n .count) u
-          ∙ ap (λ (k : ℕ). part 0 (u .preds) 0 k) (read-same arrowCount (λ n. n .count) nodeMap n u (h .0) (count-read X R E) (s3 .0));
+          sym (rising-read size 0 0 (n .count) n) ∙ sym (same-result ps n u s4) ∙ rising-read size 0 0 (n .count) u
+          ∙ ap (λ (k : ℕ). part 0 (u .preds) 0 k) (read-same arrowCount (λ n. n .count) nodeMap n u (h .0) count-read (s3 .0));
     }
 
 module _ (p u : Plan) where
@@ -63,7 +55,7 @@ module _ (p u : Plan) where
       let s = then-same all (end E (os p) A (a .states) (a .initial) (a .finals) (a .count)) a b (result all a) refl (h .1 .1 .1 .1) .0 in
       let t = transition E (os p) A (a .states) in
       let x = part-same (λ (a : Automaton). move a i) t a b (all-same (moveOf E (os p) A (a .states)) a b (a .count) s i l) in
-      sym (move-result E (os p) A (move a i) (a .states)) ∙ sym (same-result t (move a i) (move b i) x) ∙ move-result E (os p) A (move b i) (a .states)
+      sym (move-read E (os p) A (move a i) (a .states)) ∙ sym (same-result t (move a i) (move b i) x) ∙ move-read E (os p) A (move b i) (a .states)
 
   same-plan : Same planFile p u → SamePlan p u
   unfolding Same planFile

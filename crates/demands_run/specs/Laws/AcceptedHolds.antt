@@ -3,16 +3,17 @@ use mathlib.Core.List.{List}
 use Rattle.judge.specs.Laws.{passed}
 use Rattle.activity.specs.Activities as Activities
 use Rattle.automaton.specs.Decides as Automaton
-use Rattle.plan_roundtrip.specs.RoundTrip.{Bytes, written-read}
+use Rattle.format.specs.Writing.{Bytes}
+use Rattle.plan_file.specs.Accepted.{accepted-rules}
 use Rattle.demands_run.specs.Laws.Opening.{AcceptedLaws}
 use Prim.Native.Nat.{ℕ}
 
 pub accepted-laws : (bytes : List ℕ) → Bytes bytes → AcceptedLaws bytes
 accepted-laws bytes b p e =
     let q = passed p bytes e in
-    let h = written-read bytes b p (q .read) in
+    let h = accepted-rules bytes b p (q .read) in
     record {
-      file = h .file;
+      file = h;
       activities = Activities.accepted-iff p .0 (q .activities);
-      automaton = Automaton.accepted-iff p (h .file .limits) .0 (q .automaton);
+      automaton = Automaton.accepted-iff p (h .limits) .0 (q .automaton);
     }

@@ -17,9 +17,9 @@ use Rattle.times.specs.declared.Progress.{Progress}
 use Rattle.run_window.specs.Window.{vacant, isHeld}
 use Rattle.run_window.specs.Tests.{held-unfree}
 use Rattle.run_window.specs.declared.Entry.{Entry}
-use Rattle.plan_limits.specs.Window.{entryInLimits, windowInLimits}
+use Rattle.run_limits.specs.Window.{entryInLimits, windowInLimits}
 use Rattle.plan_limits.specs.Plans.{tells-in-limits}
-use Rattle.plan_limits.specs.Stored.{tells-progress}
+use Rattle.run_limits.specs.Laws.Stored.{tells-progress}
 use Rattle.run.specs.Limits.{runInLimits, haltInLimits, stopInLimits}
 use Rattle.run.specs.declared.Halt.{Halt}
 use Rattle.run.specs.declared.Stop.{Stop}

@@ -26,7 +26,7 @@ use Rattle.times.specs.declared.Progress.{Progress}
 use Rattle.run_window.specs.Window.{vacant, isStarted}
 use Rattle.run_window.specs.Places.{Holds, stored-kept, stored-each, cleared-only, cleared-once}
 use Rattle.run_window.specs.declared.Entry.{Entry}
-use Rattle.plan_limits.specs.Window.{entryInLimits}
+use Rattle.run_limits.specs.Window.{entryInLimits}
 use Rattle.run_outcomes.specs.Told.{toldOf}
 use Rattle.run.specs.Calls.{cleared, kindOf, afterLoading}
 use Rattle.run.specs.Loading.{further, mostPending}

@@ -37,7 +37,7 @@ use Rattle.run_window.specs.Window.{vacant, isHeld, isStarted, placed, vacancie
 use Rattle.run_window.specs.Places.{Holds, SameNode, Once}
 use Rattle.run_window.specs.Placed.{Took, placed-length, placed-kept, placed-holds, placed-only, placed-each, placed-once, freePlace}
 use Rattle.run_window.specs.declared.Entry.{Entry}
-use Rattle.plan_limits.specs.Window.{entryInLimits}
+use Rattle.run_limits.specs.Window.{entryInLimits}
 use Rattle.demands_log.specs.Log.{Id, id, Log}
 use Rattle.demands_theory.specs.Machine.{World, Held}
 use Rattle.demands_theory.specs.Way.{Agrees, Extends}

@@ -39,7 +39,7 @@ use Rattle.run_path.specs.Path.{pathFrom, longestPath, Path}
 use Rattle.run_window.specs.Window.{vacant, isHeld, vacancies}
 use Rattle.run_window.specs.Places.{Holds, Once}
 use Rattle.run_window.specs.declared.Entry.{Entry}
-use Rattle.plan_limits.specs.Window.{entryInLimits}
+use Rattle.run_limits.specs.Window.{entryInLimits}
 use Rattle.run.specs.Limits.{slackInLimits}
 use Rattle.run.specs.Loading.{load}
 use Rattle.run_opening.specs.Given.{atFirst, availabilities, anyAbove}

@@ -21,7 +21,7 @@ use Rattle.run_window.specs.Firsts.{First, NonePass, by-first}
 use Rattle.run_window.specs.Places.{Holds, holds-within, empty-none, stored-here, stored-kept, stored-only, stored-each, cleared-only}
 use Rattle.run_window.specs.declared.Entry.{Entry}
 use Rattle.run_window.specs.declared.Phase.{Phase}
-use Rattle.plan_limits.specs.Window.{entryInLimits}
+use Rattle.run_limits.specs.Window.{entryInLimits}
 use Rattle.run.specs.Limits.{runInLimits, haltInLimits}
 use Rattle.run_outcomes.specs.Told.{toldOf}
 use Rattle.run.specs.Calls.{answer, heard, cleared, kindOf, isDone, learnt, reported, completedBy, learnsBy, asked, completed, learns, timely, called, askOf, completionOf, outcomeOf, callOf}

@@ -1,17 +1,14 @@
 -- The three answers: a rule broken, a buffer too short, the bytes.
 use native.Mathlib.Omega.{arith}
-use mathlib.Core.Path.{_≡_, refl, sym, _∙_}
+use mathlib.Core.Path.{sym, _∙_}
 use denote.Ref.{now}
 use Rattle.plan_write.proofs.Answers.{breaks-rule, too-short, wrote}
-use Rattle.activity.specs.Tells.{told-true}
-use Rattle.plan_limits.specs.Files.{tells-file-rules}
+use Rattle.format.specs.Laws.{keeps-iff}
+use Rattle.plan_file.specs.PlanFile.{faultOrder, planFile}
+use Rattle.plan_file.specs.HoldsPlan.{plan-iff}
 use borrow.Author.Needs.{needs}
 use Rattle.plan_write.proofs.write.Statement.{statement}
 use Rattle.plan_write.proofs.write.Tie as tie
-use Rattle.plan_write.proofs.write.Reads as reads
-use Rattle.plan_write.proofs.write.Lts as lts
-use Rattle.plan_encode.proofs.put_plan.Reads as put-plan-reads
-use Rattle.plan_limits.proofs.file_rules.Reads as file-rules-reads
 
 file-rules-requires : tie.Need-file-rules-requires
 file-rules-requires c κs = search needs
@@ -20,10 +17,10 @@ slice-aggregate-put-plan : tie.Need-slice-aggregate-put-plan
 slice-aggregate-put-plan c = search needs
 
 put-plan-requires : tie.Need-put-plan-requires
-put-plan-requires c κs = told-true (tells-file-rules (c .before .before .before .before .args .plan)) (sym (c .before .before .file-rules .ensures) ∙ c .before .if1 .taken) .limits
+put-plan-requires c κs = plan-iff (c .before .before .before .before .args .plan) .0 (keeps-iff faultOrder planFile (c .before .before .before .before .args .plan) .0 (sym (c .before .before .file-rules .ensures) ∙ c .before .if1 .taken)) .limits
 
 put-plan-requires-2 : tie.Need-put-plan-requires-2
-put-plan-requires-2 c κs = told-true (tells-file-rules (c .before .before .before .before .before .before .before .before .args .plan)) (sym (c .before .before .before .before .before .before .file-rules .ensures) ∙ c .before .before .before .before .before .if1 .taken) .limits
+put-plan-requires-2 c κs = plan-iff (c .before .before .before .before .before .before .before .before .args .plan) .0 (keeps-iff faultOrder planFile (c .before .before .before .before .before .before .before .before .args .plan) .0 (sym (c .before .before .before .before .before .before .file-rules .ensures) ∙ c .before .before .before .before .before .if1 .taken)) .limits
 
 same-length : tie.Need-same-length
 same-length c = search needs

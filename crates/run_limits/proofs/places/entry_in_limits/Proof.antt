@@ -2,7 +2,7 @@
 use mathlib.Core.Path.{sym, _∙_}
 use borrow.Author.Tests.{le-leb, lt-leb, not-true, not-false}
 use borrow.Author.Needs.{needs}
-use Rattle.plan_limits.specs.Window.{entryInLimits}
+use Rattle.run_limits.specs.Window.{entryInLimits}
 use Rattle.run_limits.proofs.places.entry_in_limits.Statement.{statement}
 use Rattle.run_limits.proofs.places.entry_in_limits.Tie as tie
 

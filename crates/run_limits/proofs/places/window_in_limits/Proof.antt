@@ -6,8 +6,8 @@ use native.Mathlib.Omega.{arith}
 use borrow.Author.Tests.{not-true, not-false}
 use borrow.Author.Needs.{needs}
 use lib.ListN.{length, drop}
-use Rattle.plan_limits.specs.Places.{window-on, window-off, window-end}
-use Rattle.plan_limits.specs.Window.{windowInLimits}
+use Rattle.run_limits.specs.Laws.Places.{window-on, window-off, window-end}
+use Rattle.run_limits.specs.Window.{windowInLimits}
 use Rattle.run_limits.proofs.places.window_in_limits.Statement.{statement}
 use Rattle.run_limits.proofs.places.window_in_limits.Tie as tie
 

@@ -1,7 +1,7 @@
 -- `progress::instance_in_limits` is what it is defined to be. Assumes nothing.
 use borrow.Author.Tests.{le-leb, lt-leb, lt-ltb, le-ltb}
 use borrow.Author.Needs.{needs}
-use Rattle.plan_limits.specs.Limits.{instanceInLimits}
+use Rattle.run_limits.specs.Progress.{instanceInLimits}
 use Rattle.run_limits.proofs.progress.instance_in_limits.Statement.{statement}
 use Rattle.run_limits.proofs.progress.instance_in_limits.Tie as tie
 

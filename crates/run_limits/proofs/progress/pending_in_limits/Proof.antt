@@ -7,7 +7,7 @@ use borrow.Author.Tests.{not-true, not-false}
 use borrow.Author.Needs.{needs}
 use lib.ListN.{getD}
 use Rattle.plan_limits.specs.Every.{every-on, every-off, every-end}
-use Rattle.plan_limits.specs.Limits.{placeInLimits, pendingInLimits}
+use Rattle.run_limits.specs.Progress.{placeInLimits, pendingInLimits}
 use Rattle.times.specs.Queues.{noInstance}
 use Rattle.activity.specs.Tests.{every}
 use Rattle.run_limits.proofs.progress.pending_in_limits.Statement.{statement}

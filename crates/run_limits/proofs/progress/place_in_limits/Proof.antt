@@ -1,7 +1,7 @@
 -- `progress::place_in_limits` is what it is defined to be. Assumes nothing.
 use borrow.Author.Tests.{le-leb, lt-leb}
 use borrow.Author.Needs.{needs}
-use Rattle.plan_limits.specs.Limits.{placeInLimits}
+use Rattle.run_limits.specs.Progress.{placeInLimits}
 use Rattle.run_limits.proofs.progress.place_in_limits.Statement.{statement}
 use Rattle.run_limits.proofs.progress.place_in_limits.Tie as tie
 

@@ -5,7 +5,7 @@ use native.Mathlib.Omega.{arith}
 use borrow.Author.Tests.{le-leb, lt-leb, not-true, not-false}
 use borrow.Author.Needs.{needs}
 use lib.ListN.{length}
-use Rattle.plan_limits.specs.Limits.{progressFits}
+use Rattle.run_limits.specs.Progress.{progressFits}
 use Rattle.run_limits.proofs.progress.progress_fits.Statement.{statement}
 use Rattle.run_limits.proofs.progress.progress_fits.Tie as tie
 

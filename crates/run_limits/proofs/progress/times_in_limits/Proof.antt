@@ -7,7 +7,7 @@ use borrow.Author.Tests.{le-leb, lt-leb}
 use borrow.Author.Needs.{needs}
 use lib.Dec.{leb}
 use Rattle.plan_limits.specs.Every.{every-on, every-off, every-end}
-use Rattle.plan_limits.specs.Limits.{timesInLimits}
+use Rattle.run_limits.specs.Progress.{timesInLimits}
 use Rattle.times.specs.Times.{at}
 use Rattle.time.specs.Time.{horizon}
 use Rattle.activity.specs.Tests.{every}

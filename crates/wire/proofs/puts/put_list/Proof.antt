@@ -6,7 +6,7 @@ use Prim.Native.Nat.{ℕ, _+_, _-_, _%_, _/_, _≤_, _<_}
 use lib.ListN.{length, length-set}
 use lib.Seq.{sets}
 use native.Mathlib.Nat.{sub-zero}
-use Rattle.basis.specs.Parts.{part}
+use Rattle.wire.specs.Number.{numberBytes}
 use Rattle.wire.proofs.Turns.{list-next, list-done}
 use borrow.Author.Needs.{needs}
 use Rattle.wire.proofs.puts.put_list.Statement.{statement}
@@ -18,7 +18,7 @@ use Rattle.wire.proofs.put.Reads as put-reads
 abbrev Inv-loop : tie.InvT-loop
 Inv-loop out₀ at xs k off₀ i₀ n out off i =
     (i ≤ n) × (n ≡ k) × (k ≤ length xs) × (at < 131072) × (off ≡ at + i) × (length out ≡ length out₀)
-    × (sets out₀ at (part 0 xs 0 k) ≡ sets out off (part 0 xs i (k - i)))
+    × (sets out₀ at (numberBytes xs 0 k) ≡ sets out off (numberBytes xs i (k - i)))
 
 abbrev μ-loop : tie.MeasureT-loop
 μ-loop out₀ at xs k off₀ i₀ n out off i = n - i
@@ -49,7 +49,7 @@ loop-again c = (
   search needs,
   omega arith,
   c .before .before .put .kept .0 ∙ c .before .before .before .before .before .before .loop .inv .5,
-  c .before .before .before .before .before .before .loop .inv .6 ∙ list-next (c .before .before .before .before .before .before .loop .out) _ (now (c .before .before .before .before .before .before .before .before .before .args .xs)) (c .before .before .before .before .before .before .loop .off) (c .before .before .before .before .before .before .before .before .before .args .k) (c .before .before .before .before .before .before .loop .i) (omega arith) (c .before .before .put .ensures),
+  c .before .before .before .before .before .before .loop .inv .6 ∙ list-next (c .before .before .before .before .before .before .loop .out) _ (now (c .before .before .before .before .before .before .before .before .before .args .xs)) (c .before .before .before .before .before .before .loop .off) (c .before .before .before .before .before .before .before .before .before .args .k) (c .before .before .before .before .before .before .loop .i) (omega arith) (omega (arith, c .before .before .before .shared-slice-known2 .given (c .before .before .before .before .before .before .loop .i))) (c .before .before .put .ensures),
 )
 
 same-length : tie.Need-same-length Inv-loop μ-loop

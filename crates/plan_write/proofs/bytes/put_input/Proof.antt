@@ -1,0 +1,42 @@
+-- The fields of an input.
+use native.Mathlib.Omega.{arith}
+use Rattle.wire.specs.Puts.{puts-none, puts-join, puts-byte}
+use Rattle.plan_write.specs.Bytes.{inputBytes}
+use borrow.Author.Needs.{needs}
+use Rattle.plan_write.proofs.bytes.put_input.Statement.{statement}
+use Rattle.plan_write.proofs.bytes.put_input.Tie as tie
+
+enum-told : tie.Need-enum-told
+enum-told c = search needs
+
+enum-known-input : tie.Need-enum-known-input
+enum-known-input c = search needs
+
+put-byte-requires : tie.Need-put-byte-requires
+put-byte-requires c κs = search needs
+
+put-byte-requires-2 : tie.Need-put-byte-requires-2
+put-byte-requires-2 c κs = search needs
+
+returns : tie.Need-returns
+unfolding inputBytes
+returns c = rw (c .enum-told .given .1) (puts-none _ _)
+
+same-length : tie.Need-same-length
+same-length c = search needs
+
+returns-2 : tie.Need-returns-2
+unfolding inputBytes
+returns-2 c = rw (c .before .before .before .before .before .before .before .before .before .input .given .1) (puts-join (puts-byte (omega arith) (c .before .before .before .before .before .before .put-byte .ensures)) (puts-byte (omega arith) (c .before .before .put-byte2 .ensures)))
+
+pub put-input-spec : {M : Type 1} → statement M
+put-input-spec =
+    tie.close
+    (tie.spec
+    enum-told
+    enum-known-input
+    put-byte-requires
+    put-byte-requires-2
+    returns
+    same-length
+    returns-2)

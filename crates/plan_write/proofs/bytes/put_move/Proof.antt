@@ -1,0 +1,50 @@
+-- A transition: its map, its states, its input, its output.
+use native.Mathlib.Omega.{arith}
+use mathlib.Core.Path.{ap}
+use Rattle.wire.specs.Puts.{puts-join, puts-byte}
+use mathlib.Core.List.{[]}
+use Rattle.plan_write.specs.Laws.Printed.{move-print, input-length}
+use Rattle.wire.specs.Number.{bytesOf}
+use Rattle.plan_write.specs.Laws.Left.{puts-as}
+use borrow.Author.Needs.{needs}
+use Rattle.plan_write.proofs.bytes.put_move.Statement.{statement}
+use Rattle.plan_write.proofs.bytes.put_move.Tie as tie
+
+move-map-requires : tie.Need-move-map-requires
+move-map-requires c κs = search needs
+
+put-byte-requires : tie.Need-put-byte-requires
+put-byte-requires c κs = search needs
+
+put-byte-requires-2 : tie.Need-put-byte-requires-2
+put-byte-requires-2 c κs = search needs
+
+put-byte-requires-3 : tie.Need-put-byte-requires-3
+put-byte-requires-3 c κs = search needs
+
+put-input-requires : tie.Need-put-input-requires
+put-input-requires c κs = search needs
+
+put-output-requires : tie.Need-put-output-requires
+put-output-requires c κs = omega (arith, input-length (c .before .before .before .before .before .before .before .before .before .before .before .before .before .before .before .before .before .before .before .args .t .input))
+
+same-length : tie.Need-same-length
+same-length c = search needs
+
+returns : tie.Need-returns
+returns c =
+    let t = c .before .before .before .before .before .before .before .before .before .before .before .before .before .before .before .before .before .before .before .before .before .before .args .t in
+    rw (move-print 0 [] 0 0 t) (puts-join (puts-as (ap (bytesOf 1) (c .before .before .before .before .before .before .before .before .before .before .before .before .before .before .before .before .before .before .before .before .move-map .ensures)) (puts-byte (omega arith) (c .before .before .before .before .before .before .before .before .before .before .before .before .before .before .before .before .before .before .put-byte .ensures))) (puts-join (puts-byte (omega arith) (c .before .before .before .before .before .before .before .before .before .before .before .before .before .before .put-byte2 .ensures)) (puts-join (puts-byte (omega arith) (c .before .before .before .before .before .before .before .before .before .before .put-byte3 .ensures)) (puts-join (c .before .before .before .before .before .before .put-input .ensures) (c .before .before .put-output .ensures)))))
+
+pub put-move-spec : {M : Type 1} → statement M
+put-move-spec =
+    tie.close
+    (tie.spec
+    move-map-requires
+    put-byte-requires
+    put-byte-requires-2
+    put-byte-requires-3
+    put-input-requires
+    put-output-requires
+    same-length
+    returns)

@@ -1,0 +1,48 @@
+-- The peripherals and the events.
+use native.Mathlib.Omega.{arith}
+use Rattle.wire.specs.Puts.{puts-join}
+use Rattle.wire.specs.Fields.{length-optional, length-numbers}
+use lib.ListN.{length-append}
+use borrow.Author.Needs.{needs}
+use Rattle.plan_write.proofs.bytes.put_named.Statement.{statement}
+use Rattle.plan_write.proofs.bytes.put_named.Tie as tie
+
+put-optional-requires : tie.Need-put-optional-requires
+put-optional-requires c κs = search needs
+
+slice-aggregate-put-list : tie.Need-slice-aggregate-put-list
+slice-aggregate-put-list c = search needs
+
+put-list-requires : tie.Need-put-list-requires
+put-list-requires c κs = (omega (arith, length-optional 1 (c .before .before .before .before .before .before .before .args .peripherals)), search needs)
+
+put-optional-requires-2 : tie.Need-put-optional-requires-2
+put-optional-requires-2 c κs = omega (arith, length-optional 1 (c .before .before .before .before .before .before .before .before .before .before .before .args .peripherals), length-numbers (c .before .before .before .before .before .before .before .before .before .before .before .args .t4) 0 (c .before .before .before .before .before .before .before .before .before .before .before .args .peripherals))
+
+slice-aggregate-put-list-2 : tie.Need-slice-aggregate-put-list-2
+slice-aggregate-put-list-2 c = search needs
+
+put-list-requires-2 : tie.Need-put-list-requires-2
+put-list-requires-2 c κs = (omega (arith, length-optional 1 (c .before .before .before .before .before .before .before .before .before .before .before .before .before .before .before .before .args .peripherals), length-numbers (c .before .before .before .before .before .before .before .before .before .before .before .before .before .before .before .before .args .t4) 0 (c .before .before .before .before .before .before .before .before .before .before .before .before .before .before .before .before .args .peripherals), length-optional 1 (c .before .before .before .before .before .before .before .before .before .before .before .before .before .before .before .before .args .events)), search needs)
+
+same-length : tie.Need-same-length
+same-length c = search needs
+
+returns : tie.Need-returns
+returns c =
+    let a = c .before .before .before .before .before .before .before .before .before .before .before .before .before .before .before .before .before .before .before .args in
+    let p = puts-join (puts-join (c .before .before .before .before .before .before .before .before .before .before .before .before .before .before .before .before .put-optional .ensures) (c .before .before .before .before .before .before .before .before .before .before .before .put-list .ensures)) (puts-join (c .before .before .before .before .before .before .before .put-optional2 .ensures) (c .before .before .put-list2 .ensures)) in
+    (omega (arith, p .past, simp length-append at (p .past), length-optional 1 (a .peripherals), length-numbers (a .t4) 0 (a .peripherals), length-optional 1 (a .events), length-numbers (a .t6) 0 (a .events)), p)
+
+pub put-named-spec : {M : Type 1} → statement M
+put-named-spec =
+    tie.close
+    (tie.spec
+    put-optional-requires
+    slice-aggregate-put-list
+    put-list-requires
+    put-optional-requires-2
+    slice-aggregate-put-list-2
+    put-list-requires-2
+    same-length
+    returns)

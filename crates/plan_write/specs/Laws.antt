@@ -1,0 +1,4 @@
+pub mod Sums
+pub mod Printed
+pub mod Left
+pub mod Back
