@@ -1,16 +1,20 @@
--- An activity copied node by node. Assumes nothing.
-use mathlib.Core.Path.{_≡_, sym, ap, _∙_}
+-- An activity copied, or put together, node by node. Assumes nothing.
+use mathlib.Core.Path.{_≡_, sym, ap, _∙_, subst}
 use mathlib.Core.List.{List, _++_}
 use Prim.Native.Nat.{ℕ, suc, _+_, _-_, _*_, _<_}
 use native.Mathlib.Omega.{arith}
-use lib.ListN.{getD, set, replicate}
-use lib.Seq.{set-at, append-snoc}
-use Rattle.basis.specs.Parts.{part, length-part}
+use borrow.Author.Count.{below-more}
+use lib.ListN.{length, getD, set, replicate, length-set}
+use lib.Seq.{set-at, append-snoc, ext-getD, getD-set-same, getD-set-other}
+use Rattle.basis.specs.Parts.{part, length-part, getD-part}
 use Rattle.basis.specs.Laws.Parts.{part-more}
-use Rattle.plan.specs.Plan.{pastNode}
+use Rattle.plan.specs.Plan.{pastNode, sizeOf, nodesOf, activityOf}
+use Rattle.plan.specs.Limits.{InLimits}
 use Rattle.plan.specs.declared.Node.{Node}
+use Rattle.plan.specs.declared.Activity.{Activity}
 use Rattle.plan.specs.declared.Plan.{Plan}
-use Rattle.activity.specs.Copied.{emptyNode, filled}
+use Rattle.activity.specs.Copied.{emptyNode, filled, copied}
+use Rattle.activity.specs.Fits.{NodeFits, Fits}
 
 pub filled-more : (p : Plan) (a n : ℕ) → n < 64 → set (filled p a n) n (getD (p .nodes) (64 * a + n) pastNode) ≡ filled p a (n + 1)
 filled-more p a n h =
@@ -21,3 +25,47 @@ filled-more p a n h =
     ∙ set-at l emptyNode (replicate (64 - (n + 1)) emptyNode) v n (length-part pastNode (p .nodes) (64 * a) n)
     ∙ sym (append-snoc l v (replicate (64 - (n + 1)) emptyNode))
     ∙ ap (λ (m : List Node). m ++ replicate (64 - (n + 1)) emptyNode) (sym (part-more pastNode (p .nodes) n (64 * a)))
+
+-- the first n of the nodes l are those of activity a
+pub record Gathers (p : Plan) (a n : ℕ) (l : List Node) : Type 0 where
+  pub long : length l ≡ 64
+  pub nodes : (m : ℕ) → m < n → getD l m pastNode ≡ getD (p .nodes) (64 * a + m) pastNode
+
+pub gathers-none : (p : Plan) (a : ℕ) (l : List Node) → length l ≡ 64 → Gathers p a 0 l
+gathers-none p a l e = record { long = e; nodes = λ m h. absurd (omega arith) }
+
+pub gathers-more : (p : Plan) (a n : ℕ) (l : List Node) → n < 64 → Gathers p a n l → Gathers p a (n + 1) (set l n (getD (p .nodes) (64 * a + n) pastNode))
+gathers-more p a n l h g =
+    record {
+      long = simp length-set (g .long);
+      nodes =
+          below-more _ n (λ m k. getD-set-other l n m v pastNode (λ e. omega arith) ∙ g .nodes m k)
+          (getD-set-same l n v pastNode (omega (arith, g .long)));
+    }
+  where
+    v : Node
+    v = getD (p .nodes) (64 * a + n) pastNode
+
+module _ (p : Plan) (a : ℕ) (l : List Node) (g : Gathers p a (sizeOf p a) l) where
+  abbrev whole : Activity
+  whole = record { count = sizeOf p a; nodes = l }
+
+  pub gathered : nodesOf whole ≡ activityOf p a
+  gathered =
+      ext-getD pastNode (nodesOf whole) (activityOf p a) (length-part pastNode l 0 (sizeOf p a) ∙ sym (length-part pastNode (p .nodes) (64 * a) (sizeOf p a)))
+      (λ i h. at i (omega (arith, length-part pastNode l 0 (sizeOf p a))))
+    where
+      at : (i : ℕ) → i < sizeOf p a → getD (nodesOf whole) i pastNode ≡ getD (activityOf p a) i pastNode
+      at i h =
+          let z : 0 + i ≡ i = omega arith in
+          getD-part pastNode l 0 (sizeOf p a) i h ∙ ap (λ (j : ℕ). getD l j pastNode) z ∙ g .nodes i h
+          ∙ sym (getD-part pastNode (p .nodes) (64 * a) (sizeOf p a) i h)
+
+  pub gathered-fits : InLimits p → a < p .activities → Fits whole
+  gathered-fits h k =
+      record {
+        small = h .sizes a k .1;
+        nodes = λ n j.
+            let i = h .nodes a n k j in
+            subst NodeFits (sym (g .nodes n j)) (record { few = i .few; arrows = λ m q. omega (arith, i .arrows m q, h .sizes a k .1) });
+      }

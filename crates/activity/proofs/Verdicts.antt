@@ -8,7 +8,6 @@ use Rattle.plan.specs.declared.Fault.{Fault}
 use Rattle.plan.specs.declared.Plan.{Plan}
 use Rattle.plan.specs.declared.Verdict.{Verdict}
 use Rattle.activity.specs.declared.Finding.{Finding}
-use Rattle.activity.specs.Copied.{copied, nodes-copied}
 use Rattle.activity.specs.Number.{faultOf, orNext, verdictFrom, activitiesVerdict}
 
 module _ (p : Plan) where
@@ -32,9 +31,8 @@ module _ (p : Plan) where
   pub verdict-bad : (i n : ℕ) → i < n → (f : Fault) → faultOf (resourceOf p) (activityOf p i) ≡ Finding.Bad f → verdictFrom p i (n - i) ≡ Verdict.Refused f i
   verdict-bad i n h f e = step i n h (Finding.Bad f) e
 
-  -- the finding of a copy is that of the activity
-  pub fault-copied :
-      (i : ℕ) (x : Activity) (f : Finding) → x ≡ copied p i → f ≡ faultOf (resourceOf p) (nodesOf x)
+  -- the finding of an activity that was put together is that of the plan's
+  pub fault-gathered :
+      (i : ℕ) (x : Activity) (f : Finding) → nodesOf x ≡ activityOf p i → f ≡ faultOf (resourceOf p) (nodesOf x)
       → faultOf (resourceOf p) (activityOf p i) ≡ f
-  fault-copied i x f e h =
-      sym (h ∙ ap (λ (y : Activity). faultOf (resourceOf p) (nodesOf y)) e ∙ ap (faultOf (resourceOf p)) (nodes-copied p i))
+  fault-gathered i x f e h = sym (h ∙ ap (faultOf (resourceOf p)) e)

@@ -1,6 +1,8 @@
 // "Before" of an activity as words, one of ancestors for each node, by Warshall's algorithm.
+ghost use mathlib.Core.Path.{_≡_};
 ghost use mathlib.Core.Logic.{_↔_};
 ghost use Prim.Native.Nat.{ℕ, _<_, _≤_};
+ghost use lib.ListN.{length};
 ghost use Rattle.basis.specs.Lists.{Among};
 ghost use Rattle.plan.specs.Plan.{predecessors, nodesOf};
 ghost use Rattle.activity.specs.Rules.{Arrow};
@@ -42,19 +44,18 @@ fn arrows(activity: Activity) -> [u64; 64]
     r
 }
 
-// The words after a pass through node k.
-fn through(a: [u64; 64], k: usize, count: usize) -> [u64; 64]
-    requires { ⌜ (k < count) × (count ≤ 64) ⌝ }
-    ensures { λ r. ⌜ Through a k count r ⌝ }
+// A pass through node k over the words of the first `count` nodes.
+fn through(r: &mut [u64; 64], k: usize, count: usize)
+    requires { ⌜ (k < count) × (count ≤ 64) × (length (now r) ≡ 64) ⌝ }
+    ensures { λ _. ⌜ Through (now (r .entry)) k count (now (r .exit)) × (length (now (r .exit)) ≡ 64) ⌝ }
 {
-    let mut r = a;
-    let row = a[k];
+    let row = r[k];
     let mut i: usize = 0;
     while i < count {
-        r[i] = step(a[i], row, k);
+        let w = r[i];
+        r[i] = step(w, row, k);
         i += 1;
     }
-    r
 }
 
 // "Before" means by one or more arrows: bit m of word n stands iff m is before n.
@@ -66,8 +67,7 @@ pub fn closure(activity: Activity) -> [u64; 64]
     let mut r = arrows(activity);
     let mut k: usize = 0;
     while k < count {
-        let next = through(r, k, count);
-        r = next;
+        through(&mut r, k, count);
         k += 1;
     }
     r

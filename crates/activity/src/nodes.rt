@@ -2,7 +2,7 @@
 ghost use mathlib.Core.Path.{_≡_};
 ghost use mathlib.Core.List.{List};
 ghost use Prim.Native.Nat.{ℕ, _<_, _≤_};
-ghost use lib.ListN.{getD};
+ghost use lib.ListN.{length, getD};
 ghost use Rattle.plan.specs.Plan.{nodesOf};
 ghost use Rattle.plan.specs.declared.Node.{Node};
 ghost use Rattle.plan.specs.declared.Kind.{Kind};
@@ -60,9 +60,9 @@ pub(crate) fn labels(activity: Activity) -> [u16; 64]
 }
 
 // The word of the nodes with a label.
-fn like(labels: [u16; 64], count: usize, wanted: u16) -> u64
+fn like(labels: &[u16; 64], count: usize, wanted: u16) -> u64
     requires { ⌜ count ≤ 64 ⌝ }
-    ensures { λ w. ⌜ Marks w (λ m. (m < count) × (getD labels m 0 ≡ wanted)) ⌝ }
+    ensures { λ w. ⌜ Marks w (λ m. (m < count) × (getD (now (labels .entry)) m 0 ≡ wanted)) ⌝ }
 {
     let mut w: u64 = 0;
     let mut m: usize = 0;
@@ -74,9 +74,9 @@ fn like(labels: [u16; 64], count: usize, wanted: u16) -> u64
 }
 
 // The word of the nodes that n is before.
-fn after(before: [u64; 64], count: usize, n: usize) -> u64
+fn after(before: &[u64; 64], count: usize, n: usize) -> u64
     requires { ⌜ (count ≤ 64) × (n < 64) ⌝ }
-    ensures { λ w. ⌜ Marks w (λ m. (m < count) × Rel before n m) ⌝ }
+    ensures { λ w. ⌜ Marks w (λ m. (m < count) × Rel (now (before .entry)) n m) ⌝ }
 {
     let mut w: u64 = 0;
     let mut m: usize = 0;
@@ -88,8 +88,9 @@ fn after(before: [u64; 64], count: usize, n: usize) -> u64
 }
 
 // The resource of an action's peripheral, of a claim or of a release.
-pub(crate) fn held(k: Kind, belongs: [u8; 64]) -> u8
-    ensures { λ r. ⌜ r ≡ heldOf (λ p. getD belongs p 0) k ⌝ }
+pub(crate) fn held(k: Kind, belongs: &[u8; 64]) -> u8
+    requires { ⌜ length (now belongs) ≡ 64 ⌝ }
+    ensures { λ r. ⌜ r ≡ heldOf (λ p. getD (now (belongs .entry)) p 0) k ⌝ }
 {
     match k {
         Kind::Action(_, p) => {
@@ -107,15 +108,15 @@ pub(crate) fn held(k: Kind, belongs: [u8; 64]) -> u8
 
 // What is seen of node n, whose kind is k.
 pub(crate) fn look(
-    before: [u64; 64],
-    labels: [u16; 64],
+    before: &[u64; 64],
+    labels: &[u16; 64],
     count: usize,
     k: Kind,
     resource: u8,
     n: usize,
 ) -> Sight
     requires { ⌜ (count ≤ 64) × (n < count) ⌝ }
-    ensures { λ s. ⌜ Looks before labels count k resource n s ⌝ }
+    ensures { λ s. ⌜ Looks (now (before .entry)) (now (labels .entry)) count k resource n s ⌝ }
 {
     let own = label(k);
     let r = 4 * (resource as u16);

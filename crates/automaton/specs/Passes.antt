@@ -122,6 +122,10 @@ module _ (gives : Output → ℕ → ℕ) (C : List ℕ) (from to : ℕ) (n : In
   pub advance-starts : length C ≡ 1024 → Advanced gives C from to n o 0 C
   advance-starts l = record { cells = l; there = λ e h. absurd (omega arith); others = λ k h. refl; small = λ b h k. omega (arith, h k) }
 
+  -- the counts of the other state stay
+  pub advance-from : (i : ℕ) (D : List ℕ) → (from ≡ to → ⊥) → i < 16 → Advanced gives C from to n o i D → at D (16 * from + i) ≡ at C (16 * from + i)
+  advance-from i D ne l d = d .others (16 * from + i) (λ e h q. ne (omega arith))
+
   pub advance-steps : (i : ℕ) (D : List ℕ) (x g : ℕ) → i < 16 → to < 64 → x ≡ takes n i → g ≡ gives o i → takes n i ≤ at C (16 * from + i) → g ≤ 64
       → Advanced gives C from to n o i D → Advanced gives C from to n o (i + 1) (set D (16 * to + i) (at C (16 * from + i) - x + g))
   advance-steps i D x g l m xs gs low high d = record {

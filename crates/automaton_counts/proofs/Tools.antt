@@ -19,7 +19,7 @@ use Rattle.automaton.specs.Number.{lowest, toFinal, pathVerdict, wayVerdict}
 use Rattle.automaton.specs.OnPaths.{same-on-paths, path-verdict}
 use Rattle.automaton.specs.Lowest.{none-found}
 use Rattle.automaton.specs.Decides.{tells-24}
-use Rattle.automaton_counts.specs.Emits.{Either, gives, Few, Judged, gives-small, gives-bounded}
+use Rattle.automaton_counts.specs.Emits.{finalBit, Either, gives, Few, Judged, gives-small, gives-bounded}
 
 pub sure : {P Q : Type 0} → P → Either true P Q
 sure p = record { yea = λ e. p; nay = λ e. absurd (true-false e) }
@@ -30,6 +30,10 @@ fails q = record { yea = λ e. absurd (true-false (sym e)); nay = λ e. q }
 -- the flag at a place whose number is known
 pub moved : (D : List Bool) {x y : ℕ} {v : Bool} → x ≡ y → flag D x ≡ v → flag D y ≡ v
 moved D {x} {y} {v} e h = subst (λ (z : ℕ). flag D z ≡ v) e h
+
+-- a flag that stands and one that does not are two
+pub flags-apart : (D : List Bool) {x y : ℕ} → flag D x ≡ true → flag D y ≡ false → x ≡ y → ⊥
+flags-apart D h f e = true-false (sym h ∙ ap (flag D) e ∙ f)
 
 pub move-ok : (a : Automaton) → InRange a → (i : ℕ) → i < a .count → MoveOk 64 (move a i)
 move-ok a ok i l =
@@ -82,3 +86,7 @@ pub no-left : (a : Automaton) (R : List Bool) (C : List ℕ) → ((j : ℕ) → 
 no-left a R C h c =
     let e : c .state ≡ (16 * c .state + c .event) / 16 = omega (arith, c .named) in
     omega (arith, c .some, h (16 * c .state + c .event) (omega (arith, c .low, c .named)) (subst (λ (s : ℕ). flag R s ≡ true) e (c .reached)) (subst (λ (s : ℕ). isFinal a s ≡ true) e (c .final)))
+
+-- finality goes by the final-state bits alone
+pub final-same : (a : Automaton) (finals : ℕ) → a .finals ≡ finals → (s : ℕ) → isFinal a s ≡ finalBit finals s
+final-same a finals e s = ap (λ (w : ℕ). finalBit w s) e

@@ -27,6 +27,10 @@ gives em (Output.Activity k) e = pick (ltb e 16) (at em (16 * k + e)) 0
 abbrev pub Few : List ℕ → Type 0
 Few em = (k : ℕ) → at em k ≤ 64
 
+-- of the flags only the first `states` may stand
+abbrev pub Within : ℕ → List Bool → Type 0
+Within states R = (s : ℕ) → flag R s ≡ true → s < states
+
 -- bit s of the final-state bits
 abbrev pub finalBit : ℕ → ℕ → Bool
 finalBit finals s = eqb (finals / 2 ^ s % 2) 1

@@ -9,6 +9,7 @@ use plan::Output;
 ghost use mathlib.Core.Bool.{false};
 ghost use mathlib.Core.Path.{_≡_};
 ghost use Prim.Native.Nat.{ℕ, _+_, _*_, _<_, _≤_};
+ghost use lib.ListN.{length};
 ghost use Rattle.automaton.specs.Tests.{at, Tells};
 ghost use Rattle.automaton.specs.Rules.{takes};
 ghost use Rattle.automaton.specs.Counts.{InputOk, OutputOk, InRange, Ready, Known};
@@ -59,51 +60,42 @@ fn blank() -> [u16; 1024]
     [0u16; 1024]
 }
 
-// The counts with those of the state to set, from those of the state from: a transition processes first, then emits.
+// Sets the counts of the state to, from those of the state from: a transition processes first, then emits.
 fn advance(
-    counts: [u16; 1024],
+    counts: &mut [u16; 1024],
     from: usize,
     to: usize,
     input: Input,
     output: Output,
     emits: &[u8; 512],
-) -> [u16; 1024]
-    requires { ⌜ (from < 64) × (to < 64) × OutputOk output ⌝ }
-    requires { ⌜ ((e : ℕ) → e < 16 → takes input e ≤ at counts (16 * from + e)) ⌝ }
-    requires { ⌜ ((k : ℕ) → at counts k ≤ 4096) ⌝ }
+)
+    requires { ⌜ (from < 64) × (to < 64) × (from ≡ to → ⊥) × OutputOk output ⌝ }
+    requires { ⌜ ((e : ℕ) → e < 16 → takes input e ≤ at (now counts) (16 * from + e)) ⌝ }
+    requires { ⌜ (length (now counts) ≡ 1024) × ((k : ℕ) → at (now counts) k ≤ 4096) ⌝ }
     requires { ⌜ Few (now emits) ⌝ }
-    ensures { λ r. ⌜ Advanced (gives (now (emits .entry))) counts from to input output 16 r ⌝ }
+    ensures { λ _. ⌜ Advanced (gives (now (emits .entry))) (now (counts .entry)) from to input output 16 (now (counts .exit)) ⌝ }
 {
-    let mut r = counts;
     let mut e: usize = 0;
     while e < 16 {
         let g = given(output, emits, e);
         let x = taken(input, e);
         let was = 16 * from + e;
         let place = 16 * to + e;
-        r[place] = counts[was] - x + g;
+        let c = counts[was];
+        counts[place] = c - x + g;
         e += 1;
     }
-    r
-}
-
-// The states reached and their counts after a pass over the transitions, and whether the pass reached one.
-pub struct Passed {
-    pub reached: [bool; 64],
-    pub counts: [u16; 1024],
-    pub changed: bool,
 }
 
 // One pass over the transitions: one that leaves a reached state, where what it processes is pending, reaches its to-state.
-fn pass(a: Automaton, emits: [u8; 512], before: [bool; 64], pending: [u16; 1024]) -> Passed
+// Whether the pass reached one.
+fn pass(a: Automaton, emits: &[u8; 512], reached: &mut [bool; 64], counts: &mut [u16; 1024]) -> bool
     requires { ⌜ InRange a ⌝ }
-    requires { ⌜ Few emits ⌝ }
-    requires { ⌜ Going a (gives emits) before 0 before pending false ⌝ }
-    ensures { λ r. ⌜ Going a (gives emits) before (a .count) (r .reached) (r .counts) (r .changed) ⌝ }
+    requires { ⌜ Few (now emits) ⌝ }
+    requires { ⌜ Going a (gives (now emits)) (now reached) 0 (now reached) (now counts) false ⌝ }
+    ensures { λ r. ⌜ Going a (gives (now (emits .entry))) (now (reached .entry)) (a .count) (now (reached .exit)) (now (counts .exit)) r ⌝ }
 {
     let count = long(a.count);
-    let mut counts = pending;
-    let mut reached = before;
     let mut changed = false;
     let mut i: usize = 0;
     while i < count {
@@ -118,39 +110,29 @@ fn pass(a: Automaton, emits: [u8; 512], before: [bool; 64], pending: [u16; 1024]
             continue;
         }
         let input = t.input;
-        if !ready(input, &counts, from) {
+        if !ready(input, counts, from) {
             continue;
         }
         let output = t.output;
-        let next = advance(counts, from, to, input, output, &emits);
-        counts = next;
+        advance(counts, from, to, input, output, emits);
         reached[to] = true;
         changed = true;
     }
-    Passed {
-        reached,
-        counts,
-        changed,
-    }
+    changed
 }
 
 // One count of each event for each state that a path from the initial one reaches, until a pass over the transitions reaches nothing new.
-pub(crate) fn explore(a: Automaton, emits: [u8; 512]) -> Explored
+pub(crate) fn explore(a: Automaton, emits: &[u8; 512]) -> Explored
     requires { ⌜ InRange a ⌝ }
-    requires { ⌜ Few emits ⌝ }
-    ensures { λ r. ⌜ Known a (gives emits) (r .reached) (r .counts) ⌝ }
+    requires { ⌜ Few (now emits) ⌝ }
+    ensures { λ r. ⌜ Known a (gives (now (emits .entry))) (r .reached) (r .counts) ⌝ }
 {
     let first = wide(a.initial);
     let mut counts = blank();
     let mut reached = [false; 64];
     reached[first] = true;
     loop {
-        let r = pass(a, emits, reached, counts);
-        let known = r.reached;
-        let there = r.counts;
-        reached = known;
-        counts = there;
-        if !r.changed {
+        if !pass(a, emits, &mut reached, &mut counts) {
             return Explored {
                 reached: reached,
                 counts: counts,

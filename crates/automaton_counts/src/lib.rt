@@ -16,7 +16,8 @@ ghost use Prim.Native.Nat.{ℕ, _<_, _≤_};
 ghost use Rattle.automaton.specs.Tests.{at, Tells};
 ghost use Rattle.automaton.specs.Number.{wayVerdict};
 ghost use Rattle.automaton.specs.Counts.{MoveOk, InRange, Kept, Keeps, Clash, Left, Crowd};
-ghost use Rattle.automaton_counts.specs.Emits.{gives, Few, Unkept, Either, Judged};
+ghost use Rattle.plan.specs.declared.Automaton.{Automaton};
+ghost use Rattle.automaton_counts.specs.Emits.{gives, Few, Within, Unkept, Either, Judged};
 
 mod counting;
 mod final_states;
@@ -50,11 +51,11 @@ fn kept(t: Transition, emits: &[u8; 512], counts: &[u16; 1024]) -> bool
     true
 }
 
-fn keeps(a: Automaton, emits: [u8; 512], reached: [bool; 64], counts: [u16; 1024]) -> bool
+fn keeps(a: Automaton, emits: &[u8; 512], reached: &[bool; 64], counts: &[u16; 1024]) -> bool
     requires { ⌜ InRange a ⌝ }
-    requires { ⌜ ((k : ℕ) → at counts k ≤ 4096) ⌝ }
-    requires { ⌜ Few emits ⌝ }
-    ensures { λ r. ⌜ Either r (Keeps a (gives emits) reached counts) (Clash a (gives emits) reached counts) ⌝ }
+    requires { ⌜ ((k : ℕ) → at (now counts) k ≤ 4096) ⌝ }
+    requires { ⌜ Few (now emits) ⌝ }
+    ensures { λ r. ⌜ Either r (Keeps a (gives (now (emits .entry))) (now (reached .entry)) (now (counts .entry))) (Clash a (gives (now (emits .entry))) (now (reached .entry)) (now (counts .entry))) ⌝ }
 {
     let count = long(a.count);
     let mut i: usize = 0;
@@ -65,20 +66,21 @@ fn keeps(a: Automaton, emits: [u8; 512], reached: [bool; 64], counts: [u16; 1024
         if !reached[from] {
             continue;
         }
-        if !kept(t, &emits, &counts) {
+        if !kept(t, emits, counts) {
             return false;
         }
     }
     true
 }
 
-// Whether something is left at a reached final state.
-fn left(a: Automaton, reached: [bool; 64], counts: [u16; 1024]) -> bool
-    ensures { λ r. ⌜ Tells r (Left a reached counts) ⌝ }
+// Whether something is left at a reached final state, of the first `states`.
+fn left(finals: u64, states: usize, reached: &[bool; 64], counts: &[u16; 1024]) -> bool
+    requires { ⌜ (states ≤ 64) × Within states (now reached) ⌝ }
+    ensures { λ r. ⌜ ((a : Automaton) → a .finals ≡ finals → Tells r (Left a (now (reached .entry)) (now (counts .entry)))) ⌝ }
 {
-    let finals = a.finals;
+    let end = 16 * states;
     let mut k: usize = 0;
-    while k < 1024 {
+    while k < end {
         let at = k;
         let s = k / 16;
         k += 1;
@@ -95,12 +97,14 @@ fn left(a: Automaton, reached: [bool; 64], counts: [u16; 1024]) -> bool
     false
 }
 
-// Whether more than 8 of an event are pending at a reached state.
-fn crowded(reached: [bool; 64], counts: [u16; 1024]) -> bool
-    ensures { λ r. ⌜ Tells r (Crowd reached counts) ⌝ }
+// Whether more than 8 of an event are pending at a reached state, of the first `states`.
+fn crowded(states: usize, reached: &[bool; 64], counts: &[u16; 1024]) -> bool
+    requires { ⌜ (states ≤ 64) × Within states (now reached) ⌝ }
+    ensures { λ r. ⌜ Tells r (Crowd (now (reached .entry)) (now (counts .entry))) ⌝ }
 {
+    let end = 16 * states;
     let mut k: usize = 0;
-    while k < 1024 {
+    while k < end {
         let at = k;
         let s = k / 16;
         k += 1;
@@ -115,31 +119,32 @@ fn crowded(reached: [bool; 64], counts: [u16; 1024]) -> bool
 }
 
 // Numbers 25 and 26.
-fn pending(a: Automaton, emits: [u8; 512]) -> Verdict
+fn pending(a: Automaton, emits: &[u8; 512]) -> Verdict
     requires { ⌜ InRange a ⌝ }
-    requires { ⌜ Few emits ⌝ }
-    ensures { λ v. ⌜ Judged a emits v ⌝ }
+    requires { ⌜ Few (now emits) ⌝ }
+    ensures { λ v. ⌜ Judged a (now (emits .entry)) v ⌝ }
 {
     let x = explore(a, emits);
     let reached = x.reached;
     let counts = x.counts;
-    if !keeps(a, emits, reached, counts) {
+    if !keeps(a, emits, &reached, &counts) {
         return Verdict::Refused(Fault::Unbalanced, 0);
     }
-    if left(a, reached, counts) {
+    let states = wide(a.states);
+    if left(a.finals, states, &reached, &counts) {
         return Verdict::Refused(Fault::Unbalanced, 0);
     }
-    if crowded(reached, counts) {
+    if crowded(states, &reached, &counts) {
         return Verdict::Refused(Fault::TooManyPending, 0);
     }
     Verdict::Accepted
 }
 
 // Numbers 24 to 26: emits has at 16 * activity + event how many of the event the activity emits.
-pub fn ways(a: Automaton, emits: [u8; 512]) -> Verdict
+pub fn ways(a: Automaton, emits: &[u8; 512]) -> Verdict
     requires { ⌜ InRange a ⌝ }
-    requires { ⌜ Few emits ⌝ }
-    ensures { λ r. ⌜ r ≡ wayVerdict a (gives emits) ⌝ }
+    requires { ⌜ Few (now emits) ⌝ }
+    ensures { λ r. ⌜ r ≡ wayVerdict a (gives (now (emits .entry))) ⌝ }
 {
     let states = wide(a.states);
     let done = to_final(a);

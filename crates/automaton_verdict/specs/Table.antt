@@ -1,5 +1,5 @@
 -- What the activities of a plan emit, as a table.
-use mathlib.Core.Path.{_≡_, refl, sym, _∙_}
+use mathlib.Core.Path.{_≡_, refl, sym, ap, _∙_}
 use mathlib.Core.List.{List}
 use Prim.Native.Nat.{ℕ, _+_, _*_, _<_}
 use native.Mathlib.Omega.{arith}
@@ -7,12 +7,14 @@ use native.Mathlib.Decide.{decLt}
 use Rattle.plan.specs.declared.Kind.{Kind}
 use Rattle.plan.specs.declared.Output.{Output}
 use Rattle.plan.specs.declared.Plan.{Plan}
-use Rattle.plan.specs.Plan.{activityOf, move}
+use Rattle.plan.specs.Plan.{activityOf, move, outcomesOf}
 use Rattle.plan.specs.Limits.{OutputNames, InLimits}
 use Rattle.automaton.specs.Tests.{at}
 use Rattle.automaton.specs.Rules.{eventsIn, emits}
-use Rattle.automaton.specs.Bounds.{emits-bounded}
-use Rattle.automaton_counts.specs.Emits.{gives, Few, gives-at, gives-bounded}
+use Rattle.automaton.specs.Bounds.{in-range, emits-bounded, emits-small}
+use Rattle.automaton.specs.Number.{stateVerdict, wayVerdict, automatonVerdict}
+use Rattle.automaton.specs.Decides.{way-same}
+use Rattle.automaton_counts.specs.Emits.{gives, Few, gives-at, gives-small, gives-bounded}
 
 -- at 16 * k + e stands how many nodes of event e activity k has
 pub record Table (p : Plan) (em : List ℕ) : Type 0 where
@@ -37,3 +39,12 @@ table-gives p h em t i e l = elim (decLt e 16) [
     go : e < 16 → (o : Output) → OutputNames p o → gives em o e ≡ emits p o e
     go n Output.Empty x = refl
     go n (Output.Activity k) x = gives-at em k e n ∙ t .counts k e x n
+
+-- the verdict by the table is the verdict on the plan's automaton
+pub table-verdict : (p : Plan) → InLimits p → (em : List ℕ) → Table p em
+    → stateVerdict (p .automaton) (outcomesOf p) (wayVerdict (p .automaton) (gives em)) ≡ automatonVerdict p
+unfolding automatonVerdict
+table-verdict p h em t =
+    let a = p .automaton in
+    ap (stateVerdict a (outcomesOf p))
+    (way-same a (gives em) (emits p) (in-range p h) (gives-small a em (t .few)) (gives-bounded a em) (emits-small p h) (emits-bounded p h) (table-gives p h em t))

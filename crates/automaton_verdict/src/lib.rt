@@ -5,9 +5,9 @@ ghost use Rattle.plan.specs.Limits.{InLimits};
 ghost use Rattle.automaton.specs.Tests.{at, all};
 ghost use Rattle.automaton.specs.Scan.{rest};
 ghost use Rattle.automaton.specs.Next.{chosenOf};
-ghost use Rattle.automaton.specs.Number.{lowest, isEnded, noWayOut, apart, apartFrom, branches, isMove, serves, stateVerdict, automatonVerdict};
+ghost use Rattle.automaton.specs.Number.{lowest, isEnded, noWayOut, apart, apartFrom, branches, isMove, serves, stateVerdict, wayVerdict};
 ghost use Rattle.automaton.specs.Counts.{InRange};
-ghost use Rattle.automaton_counts.specs.Emits.{finalBit};
+ghost use Rattle.automaton_counts.specs.Emits.{finalBit, gives, Few};
 ghost use Rattle.automaton_verdict.specs.Table.{eventNumber, Table};
 use automaton::Chosen;
 use automaton::Next;
@@ -242,7 +242,7 @@ fn event_of(kind: Kind) -> usize
 }
 
 // At 16 * activity + event how many nodes of the event the activity has.
-fn emissions(plan: Plan) -> [u8; 512]
+pub fn emissions(plan: Plan) -> [u8; 512]
     requires { ⌜ InLimits plan ⌝ }
     ensures { λ r. ⌜ Table plan r ⌝ }
 {
@@ -269,17 +269,15 @@ fn emissions(plan: Plan) -> [u8; 512]
     em
 }
 
-// The verdict on the automaton of a plan that is within the limits.
-pub fn automaton(plan: Plan) -> Verdict
-    requires { ⌜ InLimits plan ⌝ }
-    ensures { λ r. ⌜ r ≡ automatonVerdict plan ⌝ }
+// The verdict on an automaton of events with these outcomes; emits has at 16 * activity + event how many of the event the activity emits.
+pub fn automaton(a: Automaton, outcomes: [u8; 16], emits: &[u8; 512]) -> Verdict
+    requires { ⌜ InRange a ⌝ }
+    requires { ⌜ Few (now emits) ⌝ }
+    ensures { λ r. ⌜ r ≡ stateVerdict a (at outcomes) (wayVerdict a (gives (now (emits .entry)))) ⌝ }
 {
-    let a = plan.automaton;
-    let outcomes = plan.outcomes;
     let v = state_verdict(a, outcomes);
     let Verdict::Accepted = v else {
         return v;
     };
-    let em = emissions(plan);
-    automaton_counts::ways(a, em)
+    automaton_counts::ways(a, emits)
 }

@@ -85,9 +85,7 @@ pub extern "C" fn jidlekuvo_activities(bytes: &[u8]) -> u64
 pub extern "C" fn jidlekuvo_judge(bytes: &[u8]) -> u64
     ensures { λ r. ⌜ r ≡ codeOf (judgeOf (now (bytes .entry)) .verdict) ⌝ }
 {
-    let judged = judge::judge(bytes);
-    let v = judged.verdict;
-    code(v)
+    code(judge::verdict(bytes))
 }
 
 // The writer's answer as a number.

@@ -1,3 +1,4 @@
 -- The whole verdict on bytes.
 pub mod Judge
+pub mod Inner
 pub mod Laws

@@ -17,7 +17,7 @@ ghost use mathlib.Core.Path.{_≡_};
 ghost use Prim.Native.Nat.{_≤_, _<_};
 ghost use Rattle.plan.specs.Plan.{nodesOf};
 ghost use Rattle.times.specs.Times.{orderOf};
-ghost use Rattle.times.specs.Engine.{lastPosition, raisedOf, heldOf, leftOf, aboveOf, beyondOf, closedOf, advanceOf};
+ghost use Rattle.times.specs.Engine.{lastPosition, raisedOf, leftOf, aboveOf, beyondOf, advanceOf};
 ghost use Rattle.times.specs.Limits.{StepFits};
 ghost use Rattle.times.specs.Inner.{Leaving};
 
@@ -35,18 +35,6 @@ fn raised(available: [Specified; 16], count: u8, c: Specified) -> [Specified; 16
         i += 1;
     }
     out
-}
-
-// Every resource is held back to the completion c of the processed instance.
-fn held(resources: u8, c: Specified, g: Progress) -> Progress
-    requires { ⌜ resources ≤ 16 ⌝ }
-    ensures { λ r. ⌜ r ≡ heldOf resources (c .0) g ⌝ }
-{
-    let before = g.available;
-    let available = raised(before, resources, c);
-    let mut h = g;
-    h.available = available;
-    h
 }
 
 // What the nodes that are done leave: availabilities, last completions and queues.
@@ -143,26 +131,8 @@ fn beyond(resources: u8, size: u8, end: [Specified; 64], g: Progress) -> bool
     above(available, resources)
 }
 
-// The answer, with the position and the state of the next transition.
-fn closed(resources: u8, size: u8, to: u8, t: Schedule, g: Progress) -> Advanced
-    requires { ⌜ resources ≤ 16 ⌝ }
-    requires { ⌜ size ≤ 64 ⌝ }
-    requires { ⌜ g .position ≤ 1_000_000_001 ⌝ }
-    ensures { λ r. ⌜ r ≡ closedOf resources size to t g ⌝ }
-{
-    let end = t.end;
-    let past = beyond(resources, size, end, g);
-    let mut h = g;
-    h.position += 1;
-    h.state = to;
-    Advanced {
-        beyond: past,
-        schedule: t,
-        progress: h,
-    }
-}
-
-// One transition, which processes `input`, emits the activity and leads to the state `to`.
+// One transition, which processes `input`, emits the activity and leads to the state `to`. Every resource is held back to
+// the completion c of the processed instance.
 pub fn advance(
     resources: u8,
     activity: Activity,
@@ -174,12 +144,21 @@ pub fn advance(
     ensures { λ r. ⌜ r ≡ advanceOf resources (nodesOf activity) input to progress ⌝ }
 {
     let c = floor(input, progress);
-    let p = processed(input, progress);
-    let h = held(resources, c, p);
-    let available = h.available;
+    let mut h = processed(input, progress);
+    let before = h.available;
+    let available = raised(before, resources, c);
+    h.available = available;
     let latest = h.latest;
     let t = scheduled(activity, available, latest);
-    let g = left(activity, t, h);
+    let mut g = left(activity, t, h);
     let size = activity.count;
-    closed(resources, size, to, t, g)
+    let end = t.end;
+    let past = beyond(resources, size, end, g);
+    g.position += 1;
+    g.state = to;
+    Advanced {
+        beyond: past,
+        schedule: t,
+        progress: g,
+    }
 }

@@ -5,11 +5,12 @@ use plan::Kind;
 use plan::Node;
 use time::Specified;
 ghost use mathlib.Core.Path.{_≡_};
-ghost use Prim.Native.Nat.{max, _≤_, _<_};
+ghost use mathlib.Core.List.{List};
+ghost use Prim.Native.Nat.{max};
+ghost use Rattle.time.specs.declared.Specified.{Specified};
 ghost use Rattle.plan.specs.Plan.{predecessors, nodesOf};
-ghost use Rattle.times.specs.Times.{specified, readyOf, largestOf, startOf, roundOf, unscheduled, scheduleOf};
-ghost use Rattle.times.specs.Limits.{KindFits};
-ghost use Rattle.times.specs.Inner.{ArrowsFit, Timeable, Sound};
+ghost use Rattle.times.specs.Times.{specified, readyOf, largestOf, unscheduled, scheduleOf};
+ghost use Rattle.times.specs.Inner.{ArrowsFit, Timeable, numbers, claimOf, eventOf, startOn};
 
 pub fn wide(x: u8) -> usize
     ensures { λ r. ⌜ r ≡ x ⌝ }
@@ -31,9 +32,9 @@ pub fn later(x: Specified, y: Specified) -> Specified
 }
 
 // Whether every predecessor is done.
-fn ready(x: Node, done: [bool; 64]) -> bool
+fn ready(x: Node, done: &[bool; 64]) -> bool
     requires { ⌜ ArrowsFit x ⌝ }
-    ensures { λ r. ⌜ r ≡ readyOf done (predecessors x) ⌝ }
+    ensures { λ r. ⌜ r ≡ readyOf (now (done .entry)) (predecessors x) ⌝ }
 {
     let count = wide(x.count);
     let mut j: usize = 0;
@@ -47,73 +48,64 @@ fn ready(x: Node, done: [bool; 64]) -> bool
     true
 }
 
-// The largest completion among the predecessors, 0 where there is none.
-fn largest(x: Node, end: [Specified; 64]) -> Specified
+fn larger(x: u64, y: u64) -> u64
+    ensures { λ r. ⌜ r ≡ max x y ⌝ }
+{
+    if x < y { y } else { x }
+}
+
+// The largest completion among the predecessors, 0 where there is none; `ends` has the completions as numbers.
+fn largest(x: Node, ends: &[u64; 64]) -> u64
     requires { ⌜ ArrowsFit x ⌝ }
-    ensures { λ r. ⌜ r ≡ specified (largestOf end (predecessors x)) ⌝ }
+    ensures { λ r. ⌜ ((end : List Specified) → now (ends .entry) ≡ numbers end → r ≡ largestOf end (predecessors x)) ⌝ }
 {
     let count = wide(x.count);
-    let mut best = Specified(0);
+    let mut best: u64 = 0;
     let mut j: usize = 0;
     while j < count {
         let m = wide(x.preds[j]);
-        let t = end[m];
-        best = later(best, t);
+        let t = ends[m];
+        best = larger(best, t);
         j += 1;
     }
     best
 }
 
-// When a node starts whose predecessors complete at `end`.
-fn starting(
-    x: Node,
-    available: [Specified; 16],
-    latest: [Specified; 16],
-    end: [Specified; 64],
-) -> Specified
-    requires { ⌜ ArrowsFit x ⌝ }
-    requires { ⌜ KindFits 16 16 (x .kind) ⌝ }
-    ensures { λ r. ⌜ r ≡ specified (startOf available latest end x) ⌝ }
+// The resource of a claim, 0 for another node.
+fn claim_of(k: Kind) -> usize
+    ensures { λ r. ⌜ r ≡ claimOf k ⌝ }
 {
-    let k = x.kind;
     match k {
-        Kind::Action(_, _) => largest(x, end),
-        Kind::Claim(r) => available[wide(r)],
-        Kind::Release(_) => largest(x, end),
-        Kind::Event(e) => later(largest(x, end), latest[wide(e)]),
+        Kind::Action(_, _) => 0,
+        Kind::Claim(r) => wide(r),
+        Kind::Release(_) => 0,
+        Kind::Event(_) => 0,
     }
 }
 
-// One round: every node in turn.
-fn round(a: Activity, available: [Specified; 16], latest: [Specified; 16], t: Schedule) -> Schedule
-    requires { ⌜ Timeable a available latest ⌝ }
-    requires { ⌜ Sound (a .count) t ⌝ }
-    ensures { λ r. ⌜ r ≡ roundOf available latest 0 (nodesOf a) t ⌝ }
+// The event of an event's node, 0 for another node.
+fn event_of(k: Kind) -> usize
+    ensures { λ r. ⌜ r ≡ eventOf k ⌝ }
 {
-    let count = wide(a.count);
-    let mut u = t;
-    let mut n: usize = 0;
-    while n < count {
-        let at = n;
-        n += 1;
-        if u.done[at] {
-            continue;
-        }
-        let x = a.nodes[at];
-        let done = u.done;
-        if !ready(x, done) {
-            continue;
-        }
-        let end = u.end;
-        let s = starting(x, available, latest, end);
-        let next = wide(u.count);
-        u.start[at] = s;
-        u.end[at] = Specified(s.0 + long(x.duration));
-        u.done[at] = true;
-        u.order[next] = at as u8;
-        u.count += 1;
+    match k {
+        Kind::Action(_, _) => 0,
+        Kind::Claim(_) => 0,
+        Kind::Release(_) => 0,
+        Kind::Event(e) => wide(e),
     }
-    u
+}
+
+// When a node starts whose predecessors complete at m at the latest: `free` is when its resource is available, `last` the
+// last completion of its event.
+fn starting(k: Kind, m: u64, free: Specified, last: Specified) -> Specified
+    ensures { λ r. ⌜ r ≡ specified (startOn k m (free .0) (last .0)) ⌝ }
+{
+    match k {
+        Kind::Action(_, _) => Specified(m),
+        Kind::Claim(_) => free,
+        Kind::Release(_) => Specified(m),
+        Kind::Event(_) => later(Specified(m), last),
+    }
 }
 
 // No node is done.
@@ -129,20 +121,48 @@ fn unstarted() -> Schedule
     }
 }
 
-// The times of an activity: rounds up to one that changes nothing.
+// The times of an activity: rounds, each over every node in turn, up to one that changes nothing.
 pub fn scheduled(a: Activity, available: [Specified; 16], latest: [Specified; 16]) -> Schedule
     requires { ⌜ Timeable a available latest ⌝ }
     ensures { λ r. ⌜ r ≡ scheduleOf available latest (nodesOf a) ⌝ }
 {
-    let mut t = unstarted();
-    let mut left = a.count;
-    while 0 < left {
-        let u = round(a, available, latest, t);
-        if u.count == t.count {
-            return t;
+    let count = wide(a.count);
+    let mut u = unstarted();
+    let mut ends = [0u64; 64];
+    let mut rounds = a.count;
+    let mut from: u8 = 0;
+    let mut n: usize = 0;
+    while 0 < rounds {
+        if n == count {
+            if u.count == from {
+                return u;
+            }
+            from = u.count;
+            rounds -= 1;
+            n = 0;
+            continue;
         }
-        t = u;
-        left -= 1;
+        let at = n;
+        n += 1;
+        if u.done[at] {
+            continue;
+        }
+        let x = a.nodes[at];
+        if !ready(x, &u.done) {
+            continue;
+        }
+        let k = x.kind;
+        let free = available[claim_of(k)];
+        let last = latest[event_of(k)];
+        let s = starting(k, largest(x, &ends), free, last);
+        let end = s.0 + long(x.duration);
+        let next = wide(u.count);
+        ends[at] = end;
+        u.start[at] = s;
+        u.end[at] = Specified(end);
+        u.done[at] = true;
+        u.order[next] = at as u8;
+        u.count += 1;
     }
-    t
+    u
 }

@@ -1,35 +1,89 @@
--- `activities` meets its contract. The loop's invariant: the whole verdict is the verdict on the activities from a on. Assumes nothing.
-use Prim.Native.Nat.{_<_, _≤_, _-_}
-use mathlib.Core.Path.{_≡_, sym, _∙_, subst}
+-- `activities` meets its contract. The loop's invariant: the whole verdict is the verdict on the activities from a on, whose
+-- first n nodes are put together. Assumes nothing.
+use Prim.Native.Nat.{_+_, _<_, _≤_, _-_, _*_}
+use mathlib.Core.Path.{_≡_, refl, sym, _∙_}
 use native.Mathlib.Omega.{arith}
-use Rattle.activity.specs.Fits.{Fits}
+use Rattle.plan.specs.Plan.{sizeOf}
 use Rattle.activity.specs.Number.{verdictFrom, activitiesVerdict}
-use Rattle.activity.specs.Copied.{fits-copied}
-use Rattle.activity.proofs.Verdicts.{verdict-start, verdict-end, verdict-next, verdict-bad, fault-copied}
+use Rattle.activity.proofs.Copying.{Gathers, gathers-none, gathers-more, gathered, gathered-fits}
+use Rattle.activity.proofs.Verdicts.{verdict-start, verdict-end, verdict-next, verdict-bad, fault-gathered}
 use borrow.Author.Needs.{needs}
 use Rattle.activity.proofs.activities.Statement.{statement}
 use Rattle.activity.proofs.activities.Tie as tie
 
 abbrev Inv-loop : tie.InvT-loop
-Inv-loop plan belongs count a₀ a = (a ≤ count) × (activitiesVerdict plan ≡ verdictFrom plan a (count - a))
+Inv-loop plan belongs count x₀ a₀ n₀ x a n =
+    (a ≤ count) × (n ≤ 64) × (a < count → n ≤ sizeOf plan a) × Gathers plan a n (x .nodes) × (activitiesVerdict plan ≡ verdictFrom plan a (count - a))
 
 abbrev μ-loop : tie.MeasureT-loop
-μ-loop plan belongs count a₀ a = count - a
+μ-loop plan belongs count x₀ a₀ n₀ x a n = 65 * (count - a) - n
+
+empty-node-requires : tie.Need-empty-node-requires Inv-loop μ-loop
+empty-node-requires c κs = search needs
 
 loop-holds : tie.Need-loop-holds Inv-loop μ-loop
-loop-holds c = (search needs, verdict-start (c .before .args .plan))
+loop-holds c =
+    let p = c .before .before .args .t1 in
+    (search needs, omega arith, λ l. omega arith, gathers-none p 0 _ refl, verdict-start p)
 
-activity-of-requires : tie.Need-activity-of-requires Inv-loop μ-loop
-activity-of-requires c κs =
-    let s = c .before .before .before in
-    let l : c .before .loop .a < s .args .plan .activities = omega arith in
-    (omega (arith, s .pre .activities), s .pre .sizes (c .before .loop .a) l .1)
+cast-i : tie.Need-cast-i Inv-loop μ-loop
+cast-i c = search needs
+
+element-copy-out-size : tie.Need-element-copy-out-size Inv-loop μ-loop
+element-copy-out-size c = omega (arith, c .before .before .before .before .pre .activities)
+
+cast-m : tie.Need-cast-m Inv-loop μ-loop
+cast-m c = omega arith
+
+mul-node : tie.Need-mul-node Inv-loop μ-loop
+mul-node c = search needs
+
+add-node : tie.Need-add-node Inv-loop μ-loop
+add-node c = search needs
+
+mul-node-2 : tie.Need-mul-node-2 Inv-loop μ-loop
+mul-node-2 c = search needs
+
+element-copy-out-node : tie.Need-element-copy-out-node Inv-loop μ-loop
+element-copy-out-node c =
+    let s = c .before .before .before .before .before .before in
+    let l = c .before .before .before .loop in
+    omega (arith, s .pre .activities, s .pre .sizes (l .a) (omega arith) .1)
+
+mul-node-3 : tie.Need-mul-node-3 Inv-loop μ-loop
+mul-node-3 c = record { fits = omega arith }
+
+element-set-from-node : tie.Need-element-set-from-node Inv-loop μ-loop
+element-set-from-node c =
+    let s = c .before .before .before .before .before .before .before in
+    let l = c .before .before .before .before .loop in
+    omega (arith, s .pre .sizes (l .a) (omega arith) .1)
+
+add-n : tie.Need-add-n Inv-loop μ-loop
+add-n c =
+    let s = c .before .before .before .before .before .before .before in
+    let l = c .before .before .before .before .loop in
+    omega (arith, s .pre .sizes (l .a) (omega arith) .1)
+
+loop-less : tie.Need-loop-less Inv-loop μ-loop
+loop-less c =
+    let s = c .before .before .before .before .before .before .before in
+    let l = c .before .before .before .before .loop in
+    omega (arith, s .pre .sizes (l .a) (omega arith) .1)
+
+loop-again : tie.Need-loop-again Inv-loop μ-loop
+loop-again c =
+    let s = c .before .before .before .before .before .before .before in
+    let l = c .before .before .before .before .loop in
+    let small : l .n < 64 = omega (arith, s .pre .sizes (l .a) (omega arith) .1) in
+    (search needs, omega arith, λ h. omega arith, gathers-more (s .args .t1) (l .a) (l .n) (l .x .nodes) small (l .inv .3), l .inv .4)
 
 fault-requires : tie.Need-fault-requires Inv-loop μ-loop
 fault-requires c κs =
-    let s = c .before .before .before .before in
-    let l : c .before .before .loop .a < s .args .plan .activities = omega arith in
-    subst Fits (sym (c .activity-of .ensures)) (fits-copied (s .args .plan) (s .pre) (c .before .before .loop .a) l)
+    let s = c .before .before .before .before .before .before .before in
+    let l = c .before .before .before .before .loop in
+    let e : l .n ≡ sizeOf (s .args .t1) (l .a) = omega (arith, l .inv .2 (omega arith)) in
+    (gathered-fits (s .args .t1) (l .a) (l .x .nodes) (rw e at (l .inv .3)) (s .pre) (omega arith), search needs)
 
 enum-told : tie.Need-enum-told Inv-loop μ-loop
 enum-told c = search needs
@@ -37,37 +91,47 @@ enum-told c = search needs
 add-a : tie.Need-add-a Inv-loop μ-loop
 add-a c = search needs
 
-loop-less : tie.Need-loop-less Inv-loop μ-loop
-loop-less c = search needs
+loop-less-2 : tie.Need-loop-less-2 Inv-loop μ-loop
+loop-less-2 c =
+    let s = c .before .before .before .before .before .before .before .before .before .before in
+    let l = c .before .before .before .before .before .before .before .loop in
+    omega (arith, l .inv .2 (omega arith), s .pre .sizes (l .a) (omega arith) .1)
 
-loop-again : tie.Need-loop-again Inv-loop μ-loop
-loop-again c =
-    let p = c .before .before .before .before .before .before .before .args .plan in
-    let l = c .before .before .before .before .before .loop in
-    let copy = c .before .before .before .activity-of in
+loop-again-2 : tie.Need-loop-again-2 Inv-loop μ-loop
+loop-again-2 c =
+    let s = c .before .before .before .before .before .before .before .before .before .before in
+    let l = c .before .before .before .before .before .before .before .loop in
+    let p = s .args .t1 in
+    let e : l .n ≡ sizeOf p (l .a) = omega (arith, l .inv .2 (omega arith)) in
     let own = c .before .before .fault in
-    let f = fault-copied p (l .a) (copy .result) (own .result) (copy .ensures) (own .ensures) in
-    (search needs, l .inv .1 ∙ verdict-next p (l .a) (p .activities) (omega arith) (f ∙ c .enum-told .given .1))
+    let f = fault-gathered p (l .a) (record { count = sizeOf p (l .a); nodes = l .x .nodes }) (own .result) (gathered p (l .a) (l .x .nodes) (rw e at (l .inv .3))) (own .ensures) in (
+      search needs,
+      omega arith,
+      λ h. omega arith,
+      gathers-none p (l .a + 1) (l .x .nodes) (l .inv .3 .long),
+      l .inv .4 ∙ verdict-next p (l .a) (p .activities) (omega arith) (f ∙ c .enum-told .given .1),
+    )
 
 enum-known-found : tie.Need-enum-known-found Inv-loop μ-loop
 enum-known-found c = search needs
 
-cast-t9 : tie.Need-cast-t9 Inv-loop μ-loop
-cast-t9 c = search needs
+cast-t31 : tie.Need-cast-t31 Inv-loop μ-loop
+cast-t31 c = search needs
 
 returns : tie.Need-returns Inv-loop μ-loop
 returns c =
-    let p = c .before .before .before .before .before .before .before .before .args .plan in
-    let l = c .before .before .before .before .before .before .loop in
-    let copy = c .before .before .before .before .activity-of in
+    let s = c .before .before .before .before .before .before .before .before .before .before .before in
+    let l = c .before .before .before .before .before .before .before .before .loop in
+    let p = s .args .t1 in
+    let e : l .n ≡ sizeOf p (l .a) = omega (arith, l .inv .2 (omega arith)) in
     let own = c .before .before .before .fault in
-    let f = fault-copied p (l .a) (copy .result) (own .result) (copy .ensures) (own .ensures) in
-    sym (l .inv .1 ∙ verdict-bad p (l .a) (p .activities) (omega arith) _ (f ∙ c .before .found .given .1))
+    let f = fault-gathered p (l .a) (record { count = sizeOf p (l .a); nodes = l .x .nodes }) (own .result) (gathered p (l .a) (l .x .nodes) (rw e at (l .inv .3))) (own .ensures) in
+    sym (l .inv .4 ∙ verdict-bad p (l .a) (p .activities) (omega arith) _ (f ∙ c .before .found .given .1))
 
 returns-2 : tie.Need-returns-2 Inv-loop μ-loop
 returns-2 c =
-    let p = c .before .before .before .args .plan in
-    sym (c .before .loop .inv .1 ∙ verdict-end p (c .before .loop .a) (p .activities) (omega arith))
+    let p = c .before .before .before .before .args .t1 in
+    sym (c .before .loop .inv .4 ∙ verdict-end p (c .before .loop .a) (p .activities) (omega arith))
 
 pub activities-spec : {M : Type 1} → statement M
 activities-spec =
@@ -75,14 +139,26 @@ activities-spec =
     (tie.spec
     Inv-loop
     μ-loop
+    empty-node-requires
     loop-holds
-    activity-of-requires
+    cast-i
+    element-copy-out-size
+    cast-m
+    mul-node
+    add-node
+    mul-node-2
+    element-copy-out-node
+    mul-node-3
+    element-set-from-node
+    add-n
+    loop-less
+    loop-again
     fault-requires
     enum-told
     add-a
-    loop-less
-    loop-again
+    loop-less-2
+    loop-again-2
     enum-known-found
-    cast-t9
+    cast-t31
     returns
     returns-2)

@@ -27,8 +27,11 @@ element-copy-out-count c = search needs
 cast-size : tie.Need-cast-size Inv-loop μ-loop
 cast-size c = search needs
 
+empty-node-requires : tie.Need-empty-node-requires Inv-loop μ-loop
+empty-node-requires c κs = search needs
+
 loop-holds : tie.Need-loop-holds Inv-loop μ-loop
-loop-holds c = (search needs, refl)
+loop-holds c = (search needs, rw (c .empty-node .ensures))
 
 add-nodes : tie.Need-add-nodes Inv-loop μ-loop
 add-nodes c = search needs
@@ -54,7 +57,7 @@ loop-less c = search needs
 loop-again : tie.Need-loop-again Inv-loop μ-loop
 loop-again c =
     let l = c .before .before .loop in
-    let s = c .before .before .before .before .args in (
+    let s = c .before .before .before .before .before .args in (
       search needs,
       ap (λ x. set x (l .n) (getD (s .t1 .nodes) (64 * s .a + l .n) pastNode)) (l .inv .1) ∙ filled-more (s .t1) (s .a) (l .n) (omega arith),
     )
@@ -63,7 +66,7 @@ returns : tie.Need-returns Inv-loop μ-loop
 unfolding copied
 returns c =
     let l = c .before .loop in
-    let s = c .before .before .before .args in
+    let s = c .before .before .before .before .args in
     let e : l .n ≡ sizeOf (s .t1) (s .a) = omega arith in
     ap (λ (x : List Node). record { count = sizeOf (s .t1) (s .a); nodes = x }) (l .inv .1 ∙ ap (filled (s .t1) (s .a)) e)
 
@@ -76,6 +79,7 @@ activity-of-spec =
     mul-first
     element-copy-out-count
     cast-size
+    empty-node-requires
     loop-holds
     add-nodes
     mul-nodes

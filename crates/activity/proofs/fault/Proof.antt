@@ -13,7 +13,7 @@ judgement-requires : tie.Need-judgement-requires
 judgement-requires c κs = search needs
 
 returns : tie.Need-returns
-returns c = c .judgement .ensures _ _ (c .before .lowest .ensures (c .before .before .closure .ensures))
+returns c = c .judgement .ensures _ _ (c .before .lowest .ensures (c .before .before .before .closure .ensures))
 
 pub fault-spec : {M : Type 1} → statement M
 fault-spec = tie.close (tie.spec closure-requires lowest-requires judgement-requires returns)

@@ -1,6 +1,7 @@
 -- `lowest` meets its contract. The loop's invariant: `best` is the lowest number that the nodes below n break. Assumes nothing.
 use Prim.Native.Nat.{ℕ, _≤_, _-_}
 use native.Mathlib.Omega.{arith}
+use denote.Ref.{now}
 use lib.ListN.{getD}
 use Rattle.plan.specs.Plan.{nodesOf}
 use Rattle.activity.specs.Rules.{Is}
@@ -55,14 +56,14 @@ loop-less c = search needs
 
 loop-again : tie.Need-loop-again Inv-loop μ-loop
 loop-again c =
-    let s = c .before .before .before .before .before .before .before .before .args in
-    let l = c .before .before .before .before .before .before .loop in
+    let s = c .before .before .before .before .before .before .before .before .before .args in
+    let l = c .before .before .before .before .before .before .before .loop in
     let a = nodesOf (s .t1) in
-    let belongs : ℕ → ℕ = λ p. getD (s .belongs) p 0 in
+    let belongs : ℕ → ℕ = λ p. getD (now (s .belongs)) p 0 in
     let kind = kind-of (s .t1) (l .n) (omega arith) in
-    let named = c .before .before .before .before .before .before .before .labels .ensures in
+    let named = c .before .before .before .before .before .before .before .before .labels .ensures in
     let resource = c .before .before .before .held .ensures in
-    let seen : Closure a (s .before) → Seen belongs a (l .n) _ = λ h. c .before .before .look .ensures belongs a (count-of (s .t1)) h named kind resource in
+    let seen : Closure a (now (s .before)) → Seen belongs a (l .n) _ = λ h. c .before .before .look .ensures belongs a (count-of (s .t1)) h named kind resource in
     let is : Is a (l .n) _ = record { within = omega (arith, count-of (s .t1)); kind = kind } in
     let new = c .before .node-number .ensures belongs a is in
     (search needs, λ h. node-more belongs a (l .n) (l .best) _ _ (c .smaller .ensures) (l .inv .1 h) (new (seen h)))
@@ -71,7 +72,7 @@ returns : tie.Need-returns Inv-loop μ-loop
 returns c h =
     let s = c .before .before .before .args in
     let l = c .before .loop in
-    all-nodes (λ p. getD (s .belongs) p 0) (nodesOf (s .t1)) (l .n) (l .best) (omega (arith, count-of (s .t1))) (l .inv .1 h)
+    all-nodes (λ p. getD (now (s .belongs)) p 0) (nodesOf (s .t1)) (l .n) (l .best) (omega (arith, count-of (s .t1))) (l .inv .1 h)
 
 pub lowest-spec : {M : Type 1} → statement M
 lowest-spec =

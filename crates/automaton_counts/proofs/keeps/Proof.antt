@@ -6,6 +6,7 @@ use Rattle.automaton_counts.proofs.Tools.{moved, move-ok, sure, fails}
 use Rattle.plan.specs.Plan.{move}
 use borrow.Author.Count.{below-more}
 use borrow.Author.Tests.{not-true, not-false}
+use denote.Ref.{now}
 use mathlib.Core.Bool.{true}
 use Prim.Native.Nat.{ℕ, _-_, _≤_, _<_}
 use mathlib.Core.Path.{_≡_, sym, _∙_}
@@ -15,10 +16,10 @@ use Rattle.automaton_counts.proofs.keeps.Statement.{statement}
 use Rattle.automaton_counts.proofs.keeps.Tie as tie
 
 abbrev Inv-loop : tie.InvT-loop
-Inv-loop a emits reached counts count i₀ i = (i ≤ count) × ((j : ℕ) → j < i → (e : ℕ) → e < 16 → flag reached (move a j .from) ≡ true → Kept (gives emits) counts (move a j) e)
+Inv-loop emits reached counts a count i₀ i = (i ≤ count) × ((j : ℕ) → j < i → (e : ℕ) → e < 16 → flag reached (move a j .from) ≡ true → Kept (gives emits) counts (move a j) e)
 
 abbrev μ-loop : tie.MeasureT-loop
-μ-loop a emits reached counts count i₀ i = count - i
+μ-loop emits reached counts a count i₀ i = count - i
 
 long-requires : tie.Need-long-requires Inv-loop μ-loop
 long-requires c κs = search needs
@@ -38,28 +39,28 @@ add-i c = search needs
 wide-requires : tie.Need-wide-requires Inv-loop μ-loop
 wide-requires c κs = search needs
 
-array-read-if1 : tie.Need-array-read-if1 Inv-loop μ-loop
-array-read-if1 c = omega (arith, c .wide .ensures, move-ok _ (c .before .before .before .before .before .pre .0) (c .before .before .before .loop .i) (omega arith) .from)
+element-copy-out-if1 : tie.Need-element-copy-out-if1 Inv-loop μ-loop
+element-copy-out-if1 c = omega (arith, c .wide .ensures, move-ok _ (c .before .before .before .before .before .pre .0) (c .before .before .before .loop .i) (omega arith) .from)
 
 loop-less : tie.Need-loop-less Inv-loop μ-loop
 loop-less c = search needs
 
 loop-again : tie.Need-loop-again Inv-loop μ-loop
-loop-again c = (omega arith, below-more _ _ (c .before .before .before .before .loop .inv .1) (λ e n h. absurd (true-false (sym h ∙ moved (c .before .before .before .before .before .before .args .t3) (c .before .wide .ensures) (not-true _ (c .if1 .taken))))))
+loop-again c = (omega arith, below-more _ _ (c .before .before .before .before .before .loop .inv .1) (λ e n h. absurd (true-false (sym h ∙ moved (now (c .before .before .before .before .before .before .before .args .reached)) (c .before .before .wide .ensures) (not-true _ (c .if1 .taken))))))
 
 kept-requires : tie.Need-kept-requires Inv-loop μ-loop
-kept-requires c κs = (move-ok _ (c .before .before .before .before .before .before .before .before .pre .0) (c .before .before .before .before .before .before .loop .i) (omega arith), (c .before .before .before .before .before .before .before .before .pre .1 .0, c .before .before .before .before .before .before .before .before .pre .1 .1))
+kept-requires c κs = (move-ok _ (c .before .before .before .before .before .before .before .pre .0) (c .before .before .before .before .before .loop .i) (omega arith), (c .before .before .before .before .before .before .before .pre .1 .0, c .before .before .before .before .before .before .before .pre .1 .1))
 
 returns : tie.Need-returns Inv-loop μ-loop
 returns c =
     let k = c .before .kept .ensures .nay (not-true _ (c .if2 .taken)) in
-    fails record { index = c .before .before .before .before .before .before .before .before .loop .i; event = k .event; low = omega arith; named = k .named; reached = moved (c .before .before .before .before .before .before .before .before .before .before .args .t3) (c .before .before .before .before .before .wide .ensures) (not-false _ (c .before .before .before .before .if1 .left)); clash = k .clash }
+    fails record { index = c .before .before .before .before .before .before .before .loop .i; event = k .event; low = omega arith; named = k .named; reached = moved (now (c .before .before .before .before .before .before .before .before .before .args .reached)) (c .before .before .before .before .wide .ensures) (not-false _ (c .before .before .if1 .left)); clash = k .clash }
 
 loop-less-2 : tie.Need-loop-less-2 Inv-loop μ-loop
 loop-less-2 c = search needs
 
 loop-again-2 : tie.Need-loop-again-2 Inv-loop μ-loop
-loop-again-2 c = (omega arith, below-more _ _ (c .before .before .before .before .before .before .before .before .loop .inv .1) (λ e n h. c .before .kept .ensures .yea (not-false _ (c .if2 .left)) e n))
+loop-again-2 c = (omega arith, below-more _ _ (c .before .before .before .before .before .before .before .loop .inv .1) (λ e n h. c .before .kept .ensures .yea (not-false _ (c .if2 .left)) e n))
 
 returns-2 : tie.Need-returns-2 Inv-loop μ-loop
 returns-2 c = sure (λ i e l n h. c .before .loop .inv .1 i (omega arith) e n h)
@@ -76,7 +77,7 @@ keeps-spec =
     element-copy-out-t
     add-i
     wide-requires
-    array-read-if1
+    element-copy-out-if1
     loop-less
     loop-again
     kept-requires

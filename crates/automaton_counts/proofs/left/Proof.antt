@@ -8,16 +8,19 @@ use borrow.Author.Tests.{not-true, not-false}
 use Rattle.basis.specs.Inner.Tells.{holds, fails}
 use Rattle.automaton.specs.Tests.{at, flag, true-false}
 use Rattle.automaton_counts.specs.Emits.{finalBit}
-use Rattle.automaton_counts.proofs.Tools.{left-at, no-left}
+use Rattle.automaton_counts.proofs.Tools.{left-at, no-left, final-same}
 use borrow.Author.Needs.{needs}
 use Rattle.automaton_counts.proofs.left.Statement.{statement}
 use Rattle.automaton_counts.proofs.left.Tie as tie
 
 abbrev Inv-loop : tie.InvT-loop
-Inv-loop reached counts finals k₀ k = (k ≤ 1024) × ((j : ℕ) → j < k → flag reached (j / 16) ≡ true → finalBit finals (j / 16) ≡ true → at counts j ≡ 0)
+Inv-loop finals states reached counts end k₀ k = (k ≤ end) × ((j : ℕ) → j < k → flag reached (j / 16) ≡ true → finalBit finals (j / 16) ≡ true → at counts j ≡ 0)
 
 abbrev μ-loop : tie.MeasureT-loop
-μ-loop reached counts finals k₀ k = 1024 - k
+μ-loop finals states reached counts end k₀ k = end - k
+
+mul-end : tie.Need-mul-end Inv-loop μ-loop
+mul-end c = search needs
 
 loop-holds : tie.Need-loop-holds Inv-loop μ-loop
 loop-holds c = (omega arith, λ j l. absurd (omega arith))
@@ -28,38 +31,38 @@ add-k c = search needs
 mul-if1 : tie.Need-mul-if1 Inv-loop μ-loop
 mul-if1 c = search needs
 
-array-read-if1 : tie.Need-array-read-if1 Inv-loop μ-loop
-array-read-if1 c = search needs
+element-copy-out-if1 : tie.Need-element-copy-out-if1 Inv-loop μ-loop
+element-copy-out-if1 c = search needs
 
 loop-less : tie.Need-loop-less Inv-loop μ-loop
 loop-less c = search needs
 
 loop-again : tie.Need-loop-again Inv-loop μ-loop
-loop-again c = (omega arith, below-more _ _ (c .before .before .loop .inv .1) (λ _ _. c .if1 .taken))
+loop-again c = (omega arith, below-more _ _ (c .before .before .before .loop .inv .1) (λ _ _. c .if1 .taken))
 
-array-read-if2 : tie.Need-array-read-if2 Inv-loop μ-loop
-array-read-if2 c = search needs
+element-copy-out-if2 : tie.Need-element-copy-out-if2 Inv-loop μ-loop
+element-copy-out-if2 c = search needs
 
 loop-less-2 : tie.Need-loop-less-2 Inv-loop μ-loop
 loop-less-2 c = search needs
 
 loop-again-2 : tie.Need-loop-again-2 Inv-loop μ-loop
-loop-again-2 c = (omega arith, below-more _ _ (c .before .before .before .loop .inv .1) (λ h. absurd (true-false (sym h ∙ not-true _ (c .if2 .taken)))))
+loop-again-2 c = (omega arith, below-more _ _ (c .before .before .before .before .before .loop .inv .1) (λ h. absurd (true-false (sym h ∙ not-true _ (c .if2 .taken)))))
 
 is-final-requires : tie.Need-is-final-requires Inv-loop μ-loop
 is-final-requires c κs = search needs
 
 returns : tie.Need-returns Inv-loop μ-loop
-returns c = holds (left-at _ _ _ (c .before .before .before .before .before .loop .k) (omega arith) (not-false _ (c .before .before .if2 .left)) (sym (c .before .is-final .ensures) ∙ c .if3 .taken) (c .before .before .before .if1 .left))
+returns c a same = holds (left-at a _ _ (c .before .before .before .before .before .before .before .loop .k) (omega arith) (not-false _ (c .before .before .if2 .left)) (final-same a _ same (c .before .before .before .before .before .before .before .loop .k / 16) ∙ sym (c .before .is-final .ensures) ∙ c .if3 .taken) (c .before .before .before .before .if1 .left))
 
 loop-less-3 : tie.Need-loop-less-3 Inv-loop μ-loop
 loop-less-3 c = search needs
 
 loop-again-3 : tie.Need-loop-again-3 Inv-loop μ-loop
-loop-again-3 c = (omega arith, below-more _ _ (c .before .before .before .before .before .loop .inv .1) (λ _ h. absurd (true-false (sym h ∙ sym (c .before .is-final .ensures) ∙ c .if3 .left))))
+loop-again-3 c = (omega arith, below-more _ _ (c .before .before .before .before .before .before .before .loop .inv .1) (λ _ h. absurd (true-false (sym h ∙ sym (c .before .is-final .ensures) ∙ c .if3 .left))))
 
 returns-2 : tie.Need-returns-2 Inv-loop μ-loop
-returns-2 c = fails (no-left _ _ _ (λ j l. c .before .loop .inv .1 j (omega arith)))
+returns-2 c a same = fails (no-left a _ _ (λ j l r f. c .before .loop .inv .1 j (omega (arith, c .before .before .pre .1 (j / 16) r)) r (sym (final-same a _ same (j / 16)) ∙ f)))
 
 pub left-spec : {M : Type 1} → statement M
 left-spec =
@@ -67,13 +70,14 @@ left-spec =
     (tie.spec
     Inv-loop
     μ-loop
+    mul-end
     loop-holds
     add-k
     mul-if1
-    array-read-if1
+    element-copy-out-if1
     loop-less
     loop-again
-    array-read-if2
+    element-copy-out-if2
     loop-less-2
     loop-again-2
     is-final-requires

@@ -1,6 +1,7 @@
 -- `ways` answers 24 at the first state without a path to a final one, and otherwise what the counts say.
 use native.Mathlib.Omega.{arith}
 use mathlib.Core.Path.{ap, _∙_}
+use denote.Ref.{now}
 use mathlib.Core.Bool.{Bool}
 use mathlib.Core.List.{List}
 use Rattle.automaton.specs.Tests.{flag}
@@ -24,7 +25,7 @@ returns c =
     let s = c .before .before .before .before in
     let a = s .args .a in
     let e = c .before .first-unmarked .ensures ∙ ap (λ (D : List Bool). lowest (flag D) 0 (c .before .before .before .wide .result)) (c .before .before .to-final .ensures) ∙ ap (lowest (flag (toFinal a)) 0) (c .before .before .before .wide .ensures) in
-    way-stops a (s .args .emits) (s .pre .0) (s .pre .1) (c .before .first-unmarked .result) e (omega arith)
+    way-stops a (now (s .args .emits)) (s .pre .0) (s .pre .1) (c .before .first-unmarked .result) e (omega arith)
 
 pending-requires : tie.Need-pending-requires
 pending-requires c κs = search needs
@@ -35,7 +36,7 @@ returns-2 c =
     let a = s .args .a in
     let b = c .before .before in
     let e = b .first-unmarked .ensures ∙ ap (λ (D : List Bool). lowest (flag D) 0 (b .before .before .wide .result)) (b .before .to-final .ensures) ∙ ap (lowest (flag (toFinal a)) 0) (b .before .before .wide .ensures) in
-    way-goes a (s .args .emits) (s .pre .0) (s .pre .1) (b .first-unmarked .result) e (λ l. omega arith) (c .pending .result) (c .pending .ensures)
+    way-goes a (now (s .args .emits)) (s .pre .0) (s .pre .1) (b .first-unmarked .result) e (λ l. omega arith) (c .pending .result) (c .pending .ensures)
 
 pub ways-spec : {M : Type 1} → statement M
 ways-spec =

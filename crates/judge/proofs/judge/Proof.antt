@@ -1,15 +1,14 @@
+-- The verdict on a plan file: reading, then the verdict on the plan, which is handed on where it is accepted.
+use mathlib.Core.Path.{sym, _∙_}
 use native.Mathlib.Omega.{arith}
 use denote.Ref.{now}
+use Rattle.plan.specs.declared.Verdict.{Verdict}
 use Rattle.judge.specs.Judge.{judgeOf}
+use Rattle.judge.specs.Inner.{by-verdict}
 use Rattle.judge.specs.Laws.{read-limits}
 use borrow.Author.Needs.{needs}
 use Rattle.judge.proofs.judge.Statement.{statement}
 use Rattle.judge.proofs.judge.Tie as tie
-use Rattle.judge.proofs.judge.Reads as reads
-use Rattle.judge.proofs.judge.Lts as lts
-use Rattle.judge.proofs.judge_plan.Reads as judge-plan-reads
-use Rattle.plan_read.proofs.no_plan.Reads as no-plan-reads
-use Rattle.plan_read.proofs.read.Reads as read-reads
 
 read-requires : tie.Need-read-requires
 read-requires c κs = search needs
@@ -23,10 +22,19 @@ no-plan-requires c κs = search needs
 enum-told : tie.Need-enum-told
 enum-told c = search needs
 
-judge-plan-requires : tie.Need-judge-plan-requires
-judge-plan-requires c κs =
+plan-verdict-requires : tie.Need-plan-verdict-requires
+plan-verdict-requires c κs =
     read-limits (now (c .before .before .before .before .before .args .bytes)) (λ k. omega (arith, c .before .before .before .before .shared-slice-known .given k))
     (c .before .before .before .read .result) (c .before .before .before .read .ensures) (c .before .enum-told .given .1)
+
+enum-known-w : tie.Need-enum-known-w
+enum-known-w c = search needs
+
+no-plan-requires-2 : tie.Need-no-plan-requires-2
+no-plan-requires-2 c κs = search needs
+
+enum-told-2 : tie.Need-enum-told-2
+enum-told-2 c = search needs
 
 returns : tie.Need-returns
 unfolding judgeOf
@@ -34,7 +42,17 @@ returns c = rw (← c .before .before .before .before .read .ensures, c .before 
 
 returns-2 : tie.Need-returns-2
 unfolding judgeOf
-returns-2 c = rw (← c .before .before .before .before .read .ensures, c .before .before .enum-told .given .1) (c .judge-plan .ensures)
+returns-2 c =
+    rw (← c .before .before .before .before .before .before .before .before .read .ensures, c .before .before .before .before .before .before .enum-told .given .1)
+    (c .no-plan2 .ensures ∙ sym (by-verdict (c .before .before .before .before .before .before .before .before .read .result .plan) _ (sym (c .before .before .before .before .plan-verdict .ensures) ∙ c .before .before .w .given .1)))
+
+returns-3 : tie.Need-returns-3
+unfolding judgeOf
+returns-3 c =
+    let r = c .before .before .before .before .before .before .read in
+    let e = c .before .before .before .before .enum-told .given .1 in
+    rw (← r .ensures, e)
+    (sym (by-verdict (r .result .plan) Verdict.Accepted (sym (c .before .before .plan-verdict .ensures) ∙ c .enum-told2 .given .1)))
 
 pub judge-spec : {M : Type 1} → statement M
 judge-spec =
@@ -44,6 +62,10 @@ judge-spec =
     enum-known-v
     no-plan-requires
     enum-told
-    judge-plan-requires
+    plan-verdict-requires
+    enum-known-w
+    no-plan-requires-2
+    enum-told-2
     returns
-    returns-2)
+    returns-2
+    returns-3)

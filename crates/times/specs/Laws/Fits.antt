@@ -21,7 +21,7 @@ use Rattle.times.specs.declared.Schedule.{Schedule}
 use Rattle.times.specs.declared.Advanced.{Advanced}
 use Rattle.times.specs.Times.{specified, at, unscheduled, scheduleOf, orderOf}
 use Rattle.times.specs.Queues.{pendingOf, processedOf, floorOf, queuedOf}
-use Rattle.times.specs.Engine.{lastPosition, raisedOf, heldOf, leftBy, leftOf, closedOf, emitsOf, timedOf, advanceOf}
+use Rattle.times.specs.Engine.{lastPosition, raisedOf, heldOf, leftBy, leftOf, beyondOf, movedOf, closedOf, emitsOf, timedOf, advanceOf}
 use Rattle.times.specs.Limits.{InputFits, StepFits}
 use Rattle.times.specs.Inner.{Timeable, Leaving}
 use Rattle.times.specs.Laws.Rounds.{at-set-le, rounds-sound, unscheduled-sound}
@@ -119,6 +119,25 @@ leaving a available latest h =
 
 pub held-as : (R : ℕ) (i : Input) (g : Progress) {c : Specified} {p h : Progress} → c ≡ specified (floorOf i g) → p ≡ processedOf i g → h ≡ heldOf R (c .0) p → h ≡ heldOf R (floorOf i g) (processedOf i g)
 held-as R i g e1 e2 e3 = rw (e3, e2, e1)
+
+-- the progress with these availabilities
+abbrev pub withAvailable : Progress → List Specified → Progress
+withAvailable g ts = record {
+  available = ts;
+  latest = g .latest;
+  lengths = g .lengths;
+  pending = g .pending;
+  position = g .position;
+  state = g .state;
+}
+
+pub held-parts : (R c : ℕ) (p : Progress) {ts : List Specified} → ts ≡ raisedOf c 0 R (p .available) → withAvailable p ts ≡ heldOf R c p
+unfolding heldOf
+held-parts R c p e = ap (withAvailable p) e
+
+pub closed-parts : (R size to : ℕ) (t : Schedule) (g : Progress) {b : Bool} → b ≡ beyondOf R size (t .end) g → record { beyond = b; schedule = t; progress = movedOf to g } ≡ closedOf R size to t g
+unfolding closedOf
+closed-parts R size to t g e = ap (λ (x : Bool). record { beyond = x; schedule = t; progress = movedOf to g }) e
 
 pub assembled : (R to : ℕ) (a : Activity) (i : Input) (g : Progress) {c : Specified} {p h q : Progress} {t : Schedule} {r : Advanced} → c ≡ specified (floorOf i g) → p ≡ processedOf i g → h ≡ heldOf R (c .0) p → t ≡ scheduleOf (h .available) (h .latest) (nodesOf a) → q ≡ leftOf (nodesOf a) (t .end) (orderOf t) h → r ≡ closedOf R (a .count) to t q → r ≡ advanceOf R (nodesOf a) i to g
 unfolding timedOf emitsOf

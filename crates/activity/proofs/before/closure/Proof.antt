@@ -13,7 +13,7 @@ use Rattle.activity.proofs.before.closure.Statement.{statement}
 use Rattle.activity.proofs.before.closure.Tie as tie
 
 abbrev Inv-loop : tie.InvT-loop
-Inv-loop count r₀ k₀ r k = (k ≤ count) × ((a : List Node) → length a ≡ count → Closing a 0 r₀ → Closing a k r)
+Inv-loop count r₀ k₀ r k = (k ≤ count) × (length r ≡ 64) × ((a : List Node) → length a ≡ count → Closing a 0 r₀ → Closing a k r)
 
 abbrev μ-loop : tie.MeasureT-loop
 μ-loop count r₀ k₀ r k = count - k
@@ -25,7 +25,7 @@ arrows-requires : tie.Need-arrows-requires Inv-loop μ-loop
 arrows-requires c κs = search needs
 
 loop-holds : tie.Need-loop-holds Inv-loop μ-loop
-loop-holds c = (search needs, λ a e h. h)
+loop-holds c = (search needs, search needs, λ a e h. h)
 
 through-requires : tie.Need-through-requires Inv-loop μ-loop
 through-requires c κs = search needs
@@ -38,15 +38,15 @@ loop-less c = search needs
 
 loop-again : tie.Need-loop-again Inv-loop μ-loop
 loop-again c =
-    let l = c .before .before .loop in
-    (search needs, λ a e h. passing a (l .k) (l .r) (c .through .result) (l .inv .1 a e h) (rw e (c .through .ensures)))
+    let l = c .before .before .before .loop in
+    (search needs, c .through .ensures .1, λ a e h. passing a (l .k) (l .r) _ (l .inv .2 a e h) (rw e (c .through .ensures .0)))
 
 returns : tie.Need-returns Inv-loop μ-loop
 returns c =
     let a = c .before .before .before .before .args .activity in
     let r = c .before .before .arrows in
     let e : c .before .loop .k ≡ length (nodesOf a) = omega (arith, count-of a) in
-    let done = c .before .loop .inv .1 (nodesOf a) (count-of a) (opening (nodesOf a) (r .result) (r .ensures)) in
+    let done = c .before .loop .inv .2 (nodesOf a) (count-of a) (opening (nodesOf a) (r .result) (r .ensures)) in
     shut (rw e at done)
 
 pub closure-spec : {M : Type 1} → statement M

@@ -2,6 +2,7 @@
 use Prim.Native.Nat.{_<_, _≤_, _-_}
 use mathlib.Core.Path.{_≡_}
 use native.Mathlib.Omega.{arith}
+use denote.Ref.{now}
 use Rattle.activity.specs.Sight.{Marks}
 use Rattle.activity.specs.Closure.{Rel}
 use Rattle.activity.proofs.Marking.{nothing-marked, one-more-marked}
@@ -10,10 +11,10 @@ use Rattle.activity.proofs.nodes.after.Statement.{statement}
 use Rattle.activity.proofs.nodes.after.Tie as tie
 
 abbrev Inv-loop : tie.InvT-loop
-Inv-loop count n before w₀ m₀ w m = (m ≤ count) × Marks w (λ j. (j < m) × Rel before n j)
+Inv-loop before count n w₀ m₀ w m = (m ≤ count) × Marks w (λ j. (j < m) × Rel before n j)
 
 abbrev μ-loop : tie.MeasureT-loop
-μ-loop count n before w₀ m₀ w m = count - m
+μ-loop before count n w₀ m₀ w m = count - m
 
 loop-holds : tie.Need-loop-holds Inv-loop μ-loop
 loop-holds c = (search needs, nothing-marked _)
@@ -21,8 +22,8 @@ loop-holds c = (search needs, nothing-marked _)
 mul-has : tie.Need-mul-has Inv-loop μ-loop
 mul-has c = search needs
 
-array-read-has : tie.Need-array-read-has Inv-loop μ-loop
-array-read-has c = search needs
+element-copy-out-has : tie.Need-element-copy-out-has Inv-loop μ-loop
+element-copy-out-has c = search needs
 
 has-requires : tie.Need-has-requires Inv-loop μ-loop
 has-requires c κs = search needs
@@ -38,10 +39,10 @@ loop-less c = search needs
 
 loop-again : tie.Need-loop-again Inv-loop μ-loop
 loop-again c =
-    let l = c .before .before .before .loop in
-    let s = c .before .before .before .before .args in (
+    let l = c .before .before .before .before .loop in
+    let s = c .before .before .before .before .before .args in (
       search needs,
-      one-more-marked (λ j. Rel (s .t1) (s .n) j) (l .w) (c .marked .result) (l .m) (c .before .has .ensures) (l .inv .1) (c .marked .ensures),
+      one-more-marked (λ j. Rel (now (s .before)) (s .n) j) (l .w) (c .marked .result) (l .m) (c .before .has .ensures) (l .inv .1) (c .marked .ensures),
     )
 
 returns : tie.Need-returns Inv-loop μ-loop
@@ -55,7 +56,7 @@ after-spec =
     μ-loop
     loop-holds
     mul-has
-    array-read-has
+    element-copy-out-has
     has-requires
     marked-requires
     add-m

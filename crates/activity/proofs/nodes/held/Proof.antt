@@ -2,6 +2,7 @@
 use mathlib.Core.Path.{_≡_, sym}
 use Prim.Native.Nat.{_≤_}
 use native.Mathlib.Omega.{arith}
+use denote.Ref.{now}
 use lib.ListN.{length, List·getD-eq-default}
 use borrow.Author.Needs.{needs}
 use Rattle.activity.proofs.nodes.held.Statement.{statement}
@@ -13,11 +14,11 @@ enum-known-k c = search needs
 cast-x : tie.Need-cast-x
 cast-x c = search needs
 
-array-read-result : tie.Need-array-read-result
-array-read-result c = search needs
+element-copy-out-result : tie.Need-element-copy-out-result
+element-copy-out-result c = search needs
 
 returns : tie.Need-returns
-returns c = rw (c .before .before .k .given .1)
+returns c = rw (c .before .before .before .k .given .1)
 
 enum-known-k-2 : tie.Need-enum-known-k-2
 enum-known-k-2 c = search needs
@@ -32,9 +33,9 @@ returns-2 : tie.Need-returns-2
 returns-2 c =
     let s = c .before .before .before .before .args in
     let p = c .before .before .k .given in
-    let long : length (s .t2) ≡ 64 = search needs in
-    let ge : length (s .t2) ≤ p .0 .1 .0 = omega arith in
-    rw (p .1) (sym (List·getD-eq-default (s .t2) 0 ge))
+    let long : length (now (s .belongs)) ≡ 64 = c .before .before .before .before .pre in
+    let ge : length (now (s .belongs)) ≤ p .0 .1 .0 = omega arith in
+    rw (p .1) (sym (List·getD-eq-default (now (s .belongs)) 0 ge))
 
 returns-3 : tie.Need-returns-3
 returns-3 c = search needs
@@ -51,7 +52,7 @@ held-spec =
     (tie.spec
     enum-known-k
     cast-x
-    array-read-result
+    element-copy-out-result
     returns
     enum-known-k-2
     enum-known-k-3

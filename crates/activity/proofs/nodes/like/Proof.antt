@@ -2,6 +2,7 @@
 use Prim.Native.Nat.{_<_, _≤_, _-_}
 use mathlib.Core.Path.{_≡_}
 use native.Mathlib.Omega.{arith}
+use denote.Ref.{now}
 use lib.ListN.{getD}
 use Rattle.activity.specs.Sight.{Marks}
 use Rattle.activity.specs.Tells.{tells-eqb}
@@ -11,10 +12,10 @@ use Rattle.activity.proofs.nodes.like.Statement.{statement}
 use Rattle.activity.proofs.nodes.like.Tie as tie
 
 abbrev Inv-loop : tie.InvT-loop
-Inv-loop count wanted labels w₀ m₀ w m = (m ≤ count) × Marks w (λ j. (j < m) × (getD labels j 0 ≡ wanted))
+Inv-loop labels count wanted w₀ m₀ w m = (m ≤ count) × Marks w (λ j. (j < m) × (getD labels j 0 ≡ wanted))
 
 abbrev μ-loop : tie.MeasureT-loop
-μ-loop count wanted labels w₀ m₀ w m = count - m
+μ-loop labels count wanted w₀ m₀ w m = count - m
 
 loop-holds : tie.Need-loop-holds Inv-loop μ-loop
 loop-holds c = (search needs, nothing-marked _)
@@ -22,8 +23,8 @@ loop-holds c = (search needs, nothing-marked _)
 mul-marked : tie.Need-mul-marked Inv-loop μ-loop
 mul-marked c = search needs
 
-array-read-marked : tie.Need-array-read-marked Inv-loop μ-loop
-array-read-marked c = search needs
+element-copy-out-marked : tie.Need-element-copy-out-marked Inv-loop μ-loop
+element-copy-out-marked c = search needs
 
 marked-requires : tie.Need-marked-requires Inv-loop μ-loop
 marked-requires c κs = search needs
@@ -36,10 +37,10 @@ loop-less c = search needs
 
 loop-again : tie.Need-loop-again Inv-loop μ-loop
 loop-again c =
-    let l = c .before .before .loop in
-    let s = c .before .before .before .args in (
+    let l = c .before .before .before .loop in
+    let s = c .before .before .before .before .args in (
       search needs,
-      one-more-marked (λ j. getD (s .t1) j 0 ≡ s .wanted) (l .w) (c .marked .result) (l .m) (tells-eqb (getD (s .t1) (l .m) 0) (s .wanted)) (l .inv .1) (c .marked .ensures),
+      one-more-marked (λ j. getD (now (s .labels)) j 0 ≡ s .wanted) (l .w) (c .marked .result) (l .m) (tells-eqb (getD (now (s .labels)) (l .m) 0) (s .wanted)) (l .inv .1) (c .marked .ensures),
     )
 
 returns : tie.Need-returns Inv-loop μ-loop
@@ -53,7 +54,7 @@ like-spec =
     μ-loop
     loop-holds
     mul-marked
-    array-read-marked
+    element-copy-out-marked
     marked-requires
     add-m
     loop-less

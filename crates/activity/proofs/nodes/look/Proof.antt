@@ -1,5 +1,6 @@
 -- `nodes::look` meets its contract: each word is what the function that made it says, for every activity with these labels. Assumes nothing.
 use mathlib.Core.Path.{sym, ap, _∙_}
+use denote.Ref.{now}
 use Prim.Native.Nat.{ℕ, _*_, _+_}
 use Rattle.activity.specs.Sight.{labelOf, heldOf}
 use Rattle.activity.proofs.Seeing.{label-marks, after-marks}
@@ -13,11 +14,11 @@ label-requires c κs = search needs
 mul-r : tie.Need-mul-r
 mul-r c = search needs
 
-mul-t11 : tie.Need-mul-t11
-mul-t11 c = search needs
+mul-t10 : tie.Need-mul-t10
+mul-t10 c = search needs
 
-array-read-t14 : tie.Need-array-read-t14
-array-read-t14 c = search needs
+element-copy-out-t13 : tie.Need-element-copy-out-t13
+element-copy-out-t13 c = search needs
 
 after-requires : tie.Need-after-requires
 after-requires c κs = search needs
@@ -39,14 +40,14 @@ like-requires-3 c κs = search needs
 
 returns : tie.Need-returns
 returns c belongs a long closed named own held =
-    let l = c .before .before .before .before .before .args in
-    let mark = label-marks a (l .count) long (l .labels) in
+    let l = c .before .before .before .before .before .before .args in
+    let mark = label-marks a (l .count) long (now (l .labels)) in
     let kind = ap labelOf (sym own) in
     let resource = held ∙ ap (heldOf belongs) (sym own) in
     record {
       before = λ m. closed m (l .n);
-      after = after-marks a (l .count) long (l .t1) _ (l .n) closed (c .before .before .before .after .ensures);
-      same = mark _ _ _ named (c .before .before .before .before .label .ensures ∙ kind) (c .before .before .like .ensures);
+      after = after-marks a (l .count) long (now (l .before)) _ (l .n) closed (c .before .before .before .after .ensures);
+      same = mark _ _ _ named (c .before .before .before .before .before .label .ensures ∙ kind) (c .before .before .like .ensures);
       claims = mark _ _ _ named (ap (λ (x : ℕ). 4 * x + 1) resource) (c .before .like2 .ensures);
       releases = mark _ _ _ named (ap (λ (x : ℕ). 4 * x + 2) resource) (c .like3 .ensures);
     }
@@ -57,8 +58,8 @@ look-spec =
     (tie.spec
     label-requires
     mul-r
-    mul-t11
-    array-read-t14
+    mul-t10
+    element-copy-out-t13
     after-requires
     like-requires
     add-like

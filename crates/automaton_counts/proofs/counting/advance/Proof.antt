@@ -1,6 +1,6 @@
 -- `advance` sets the counts of one state event by event.
-use Rattle.automaton.specs.Passes.{advance-starts, advance-steps, Advanced}
-use Rattle.automaton.specs.Tests.{at}
+use Rattle.automaton.specs.Passes.{advance-starts, advance-from, advance-steps, Advanced}
+use denote.Ref.{now}
 use Rattle.automaton_counts.specs.Emits.{gives-few}
 use Rattle.automaton_counts.specs.Emits.{gives}
 use Prim.Native.Nat.{_+_, _*_, _-_, _≤_}
@@ -11,16 +11,16 @@ use Rattle.automaton_counts.proofs.counting.advance.Statement.{statemen
 use Rattle.automaton_counts.proofs.counting.advance.Tie as tie
 
 abbrev Inv-loop : tie.InvT-loop
-Inv-loop from to input output emits counts r₀ e₀ r e = (e ≤ 16) × Advanced (gives emits) counts from to input output e r
+Inv-loop counts₀ from to input output emits e₀ counts e = (e ≤ 16) × Advanced (gives emits) counts₀ from to input output e counts
 
 abbrev μ-loop : tie.MeasureT-loop
-μ-loop from to input output emits counts r₀ e₀ r e = 16 - e
+μ-loop counts₀ from to input output emits e₀ counts e = 16 - e
 
 loop-holds : tie.Need-loop-holds Inv-loop μ-loop
-loop-holds c = (omega arith, advance-starts _ _ _ _ _ _ (search needs))
+loop-holds c = (omega arith, advance-starts _ _ _ _ _ _ (c .pre .1 .1 .0 .0))
 
 given-requires : tie.Need-given-requires Inv-loop μ-loop
-given-requires c κs = (c .before .before .pre .0 .2, omega arith)
+given-requires c κs = (c .before .before .pre .0 .3, omega arith)
 
 taken-requires : tie.Need-taken-requires Inv-loop μ-loop
 taken-requires c κs = search needs
@@ -37,26 +37,29 @@ mul-place c = search needs
 add-place : tie.Need-add-place Inv-loop μ-loop
 add-place c = search needs
 
-mul-r : tie.Need-mul-r Inv-loop μ-loop
-mul-r c = search needs
+mul-c : tie.Need-mul-c Inv-loop μ-loop
+mul-c c = search needs
 
-array-read-r : tie.Need-array-read-r Inv-loop μ-loop
-array-read-r c = search needs
+element-copy-out-c : tie.Need-element-copy-out-c Inv-loop μ-loop
+element-copy-out-c c = search needs
 
-sub-r : tie.Need-sub-r Inv-loop μ-loop
-sub-r c = omega (arith, c .taken .ensures, c .before .before .before .before .pre .1 .0 (c .before .before .before .loop .e) (omega arith))
+sub-counts : tie.Need-sub-counts Inv-loop μ-loop
+sub-counts c =
+    let s = c .before .before .before .before .before in
+    let l = c .before .before .before .before .loop in
+    omega (arith, c .before .taken .ensures, s .pre .1 .0 (l .e) (omega arith), advance-from _ _ _ _ _ _ (l .e) (l .counts) (s .pre .0 .2) (omega arith) (l .inv .1))
 
-add-r : tie.Need-add-r Inv-loop μ-loop
-add-r c =
-    let s = c .before .before .before .before in
-    let l = c .before .before .before .loop in
-    omega (arith, s .pre .1 .1 .0 (16 * s .args .from + l .e), c .before .given .ensures, gives-few (s .args .emits .now) (s .args .output) (l .e) (s .pre .1 .1 .1))
+add-counts : tie.Need-add-counts Inv-loop μ-loop
+add-counts c =
+    let s = c .before .before .before .before .before in
+    let l = c .before .before .before .before .loop in
+    omega (arith, s .pre .1 .1 .0 .1 (16 * s .args .from + l .e), c .before .before .given .ensures, gives-few (now (s .args .emits)) (s .args .output) (l .e) (s .pre .1 .1 .1), advance-from _ _ _ _ _ _ (l .e) (l .counts) (s .pre .0 .2) (omega arith) (l .inv .1))
 
-mul-r-2 : tie.Need-mul-r-2 Inv-loop μ-loop
-mul-r-2 c = search needs
+mul-counts : tie.Need-mul-counts Inv-loop μ-loop
+mul-counts c = search needs
 
-array-write-r : tie.Need-array-write-r Inv-loop μ-loop
-array-write-r c = search needs
+element-write-counts : tie.Need-element-write-counts Inv-loop μ-loop
+element-write-counts c = search needs
 
 add-e : tie.Need-add-e Inv-loop μ-loop
 add-e c = search needs
@@ -66,11 +69,12 @@ loop-less c = search needs
 
 loop-again : tie.Need-loop-again Inv-loop μ-loop
 loop-again c =
-    let s = c .before .before .before .before in
-    let l = c .before .before .before .loop in (
+    let s = c .before .before .before .before .before in
+    let l = c .before .before .before .before .loop in (
       omega arith,
-      advance-steps _ _ _ _ _ _ (l .e) (l .r) (c .taken .result) (c .before .given .result) (omega arith) (s .pre .0 .1) (c .taken .ensures) (c .before .given .ensures) (s .pre .1 .0 (l .e) (omega arith))
-          (omega (arith, c .before .given .ensures, gives-few (s .args .emits .now) (s .args .output) (l .e) (s .pre .1 .1 .1))) (l .inv .1),
+      rw (advance-from _ _ _ _ _ _ (l .e) (l .counts) (s .pre .0 .2) (omega arith) (l .inv .1))
+          (advance-steps _ _ _ _ _ _ (l .e) (l .counts) (c .before .taken .result) (c .before .before .given .result) (omega arith) (s .pre .0 .1) (c .before .taken .ensures) (c .before .before .given .ensures) (s .pre .1 .0 (l .e) (omega arith))
+          (omega (arith, c .before .before .given .ensures, gives-few (now (s .args .emits)) (s .args .output) (l .e) (s .pre .1 .1 .1))) (l .inv .1)),
     )
 
 returns : tie.Need-returns Inv-loop μ-loop
@@ -91,12 +95,12 @@ advance-spec =
     add-was
     mul-place
     add-place
-    mul-r
-    array-read-r
-    sub-r
-    add-r
-    mul-r-2
-    array-write-r
+    mul-c
+    element-copy-out-c
+    sub-counts
+    add-counts
+    mul-counts
+    element-write-counts
     add-e
     loop-less
     loop-again

@@ -29,18 +29,18 @@ loop-holds : tie.Need-loop-holds Inv-loop μ-loop
 loop-holds c = rw (c .before .wide .ensures) (going-starts _ _ (c .before .before .pre .0) (c .blank .result) (search needs) (c .blank .ensures))
 
 pass-requires : tie.Need-pass-requires Inv-loop μ-loop
-pass-requires c κs = (c .before .before .before .pre .0, (c .before .before .before .pre .1, c .loop .inv))
+pass-requires c κs = (c .before .before .before .before .before .pre .0, (c .before .before .before .before .before .pre .1, c .before .before .loop .inv))
 
 returns : tie.Need-returns Inv-loop μ-loop
 returns c =
-    let f : c .before .before .before .before .pass .result .changed ≡ false = not-true _ (c .if1 .taken) in
-    going-ends _ _ (c .before .before .before .before .before .before .before .before .pre .0) _ _ _ (rw f at (c .before .before .before .before .pass .ensures))
+    let f : c .before .pass .result ≡ false = not-true _ (c .if1 .taken) in
+    going-ends _ _ (c .before .before .before .before .before .before .before .pre .0) _ _ _ (rw f at (c .before .pass .ensures))
 
 loop-less : tie.Need-loop-less Inv-loop μ-loop
-loop-less c = c .before .before .before .before .pass .ensures .fewer (not-false _ (c .if1 .left))
+loop-less c = c .before .pass .ensures .fewer (not-false _ (c .if1 .left))
 
 loop-again : tie.Need-loop-again Inv-loop μ-loop
-loop-again c = going-round _ _ (c .before .before .before .before .before .before .before .before .pre .0) _ _ _ _ _ (c .before .before .before .before .pass .ensures)
+loop-again c = going-round _ _ (c .before .before .before .before .before .before .before .pre .0) _ _ _ _ _ (c .before .pass .ensures)
 
 pub explore-spec : {M : Type 1} → statement M
 explore-spec =

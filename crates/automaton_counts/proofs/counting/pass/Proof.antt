@@ -2,8 +2,8 @@
 use Rattle.automaton_counts.specs.Emits.{gives}
 use Rattle.automaton.specs.Counts.{ready-takes}
 use Rattle.automaton.specs.Passes.{going-stays, going-stores, Going}
-use Rattle.automaton.specs.Tests.{true-false, told-true, told-false, at}
-use Rattle.automaton_counts.proofs.Tools.{moved, move-ok, not-ready}
+use Rattle.automaton.specs.Tests.{true-false, told-true, told-false}
+use Rattle.automaton_counts.proofs.Tools.{moved, move-ok, not-ready, flags-apart}
 use Rattle.plan.specs.Plan.{move}
 use borrow.Author.Tests.{not-true, not-false}
 use Prim.Native.Nat.{_-_, _≤_}
@@ -14,10 +14,10 @@ use Rattle.automaton_counts.proofs.counting.pass.Statement.{statement}
 use Rattle.automaton_counts.proofs.counting.pass.Tie as tie
 
 abbrev Inv-loop : tie.InvT-loop
-Inv-loop a emits count counts₀ reached₀ changed₀ i₀ counts reached changed i = (i ≤ count) × Going a (gives emits) reached₀ i reached counts changed
+Inv-loop emits reached₀ counts₀ a count changed₀ i₀ reached counts changed i = (i ≤ count) × Going a (gives emits) reached₀ i reached counts changed
 
 abbrev μ-loop : tie.MeasureT-loop
-μ-loop a emits count counts₀ reached₀ changed₀ i₀ counts reached changed i = count - i
+μ-loop emits reached₀ counts₀ a count changed₀ i₀ reached counts changed i = count - i
 
 long-requires : tie.Need-long-requires Inv-loop μ-loop
 long-requires c κs = search needs
@@ -40,69 +40,72 @@ wide-requires c κs = search needs
 wide-requires-2 : tie.Need-wide-requires-2 Inv-loop μ-loop
 wide-requires-2 c κs = search needs
 
-array-read-if1 : tie.Need-array-read-if1 Inv-loop μ-loop
-array-read-if1 c = omega (arith, c .before .wide .ensures, move-ok _ (c .before .before .before .before .before .before .pre .0) (c .before .before .before .before .loop .i) (omega arith) .from)
+element-copy-out-if1 : tie.Need-element-copy-out-if1 Inv-loop μ-loop
+element-copy-out-if1 c = omega (arith, c .before .wide .ensures, move-ok _ (c .before .before .before .before .before .before .pre .0) (c .before .before .before .before .loop .i) (omega arith) .from)
 
 loop-less : tie.Need-loop-less Inv-loop μ-loop
 loop-less c = search needs
 
 loop-again : tie.Need-loop-again Inv-loop μ-loop
 loop-again c =
-    let l = c .before .before .before .before .before .loop in
-    (omega arith, going-stays _ _ (c .before .before .before .before .before .before .before .pre .0) _ _ _ _ _ (l .inv .1) (λ h r. absurd (true-false (sym h ∙ moved (l .reached) (c .before .before .wide .ensures) (not-true _ (c .if1 .taken))))))
+    let l = c .before .before .before .before .before .before .loop in
+    (omega arith, going-stays _ _ (c .before .before .before .before .before .before .before .before .pre .0) _ _ _ _ _ (l .inv .1) (λ h r. absurd (true-false (sym h ∙ moved (l .reached) (c .before .before .before .wide .ensures) (not-true _ (c .if1 .taken))))))
 
-array-read-if2 : tie.Need-array-read-if2 Inv-loop μ-loop
-array-read-if2 c = omega (arith, c .before .wide2 .ensures, move-ok _ (c .before .before .before .before .before .before .before .pre .0) (c .before .before .before .before .before .loop .i) (omega arith) .to)
+element-copy-out-if2 : tie.Need-element-copy-out-if2 Inv-loop μ-loop
+element-copy-out-if2 c = omega (arith, c .before .before .wide2 .ensures, move-ok _ (c .before .before .before .before .before .before .before .before .pre .0) (c .before .before .before .before .before .before .loop .i) (omega arith) .to)
 
 loop-less-2 : tie.Need-loop-less-2 Inv-loop μ-loop
 loop-less-2 c = search needs
 
 loop-again-2 : tie.Need-loop-again-2 Inv-loop μ-loop
 loop-again-2 c =
-    let l = c .before .before .before .before .before .before .loop in
-    (omega arith, going-stays _ _ (c .before .before .before .before .before .before .before .before .pre .0) _ _ _ _ _ (l .inv .1) (λ h r. moved (l .reached) (c .before .before .wide2 .ensures) (c .if2 .taken)))
+    let l = c .before .before .before .before .before .before .before .before .loop in
+    (omega arith, going-stays _ _ (c .before .before .before .before .before .before .before .before .before .before .pre .0) _ _ _ _ _ (l .inv .1) (λ h r. moved (l .reached) (c .before .before .before .before .wide2 .ensures) (c .if2 .taken)))
 
 ready-requires : tie.Need-ready-requires Inv-loop μ-loop
 ready-requires c κs =
-    let k = move-ok _ (c .before .before .before .before .before .before .before .before .before .pre .0) (c .before .before .before .before .before .before .before .loop .i) (omega arith) in
-    (k .input, omega (arith, c .before .before .before .before .wide .ensures, k .from))
+    let k = move-ok _ (c .before .before .before .before .before .before .before .before .before .before .before .pre .0) (c .before .before .before .before .before .before .before .before .before .loop .i) (omega arith) in
+    (k .input, omega (arith, c .before .before .before .before .before .before .wide .ensures, k .from))
 
 loop-less-3 : tie.Need-loop-less-3 Inv-loop μ-loop
 loop-less-3 c = search needs
 
 loop-again-3 : tie.Need-loop-again-3 Inv-loop μ-loop
 loop-again-3 c =
-    let l = c .before .before .before .before .before .before .before .before .before .loop in (
+    let l = c .before .before .before .before .before .before .before .before .before .before .before .loop in (
       omega arith,
-      going-stays _ _ (c .before .before .before .before .before .before .before .before .before .before .before .pre .0) _ _ _ _ _ (l .inv .1)
-          (λ h r. absurd (not-ready (l .counts) (move (c .before .before .before .before .before .before .before .before .before .before .before .args .t1) (l .i) .input) (c .before .before .before .before .before .before .wide .ensures) (told-false (c .before .ready .ensures) (not-true (c .before .ready .result) (c .if3 .taken))) r)),
+      going-stays _ _ (c .before .before .before .before .before .before .before .before .before .before .before .before .before .pre .0) _ _ _ _ _ (l .inv .1)
+          (λ h r. absurd (not-ready (l .counts) (move (c .before .before .before .before .before .before .before .before .before .before .before .before .before .args .t1) (l .i) .input) (c .before .before .before .before .before .before .before .before .wide .ensures) (told-false (c .before .ready .ensures) (not-true (c .before .ready .result) (c .if3 .taken))) r)),
     )
 
 advance-requires : tie.Need-advance-requires Inv-loop μ-loop
 advance-requires c κs =
-    let l = c .before .before .before .before .before .before .before .before .before .before .loop in
-    let k = move-ok _ (c .before .before .before .before .before .before .before .before .before .before .before .before .pre .0) (l .i) (omega arith) in (
-      (omega (arith, c .before .before .before .before .before .before .before .wide .ensures, k .from), omega (arith, c .before .before .before .before .before .before .wide2 .ensures, k .to), k .output),
+    let s = c .before .before .before .before .before .before .before .before .before .before .before .before .before .before in
+    let l = c .before .before .before .before .before .before .before .before .before .before .before .before .loop in
+    let from = c .before .before .before .before .before .before .before .before .before .wide in
+    let to = c .before .before .before .before .before .before .before .before .wide2 in
+    let k = move-ok _ (s .pre .0) (l .i) (omega arith) in (
+      (omega (arith, from .ensures, k .from), omega (arith, to .ensures, k .to), flags-apart (l .reached) (not-false _ (c .before .before .before .before .before .before .if1 .left)) (c .before .before .before .before .if2 .left), k .output),
       (
-        λ e n. ready-takes (l .counts) (c .before .before .before .before .before .before .before .wide .result) (move (c .before .before .before .before .before .before .before .before .before .before .before .before .args .t1) (l .i) .input) e (told-true (c .before .before .ready .ensures) (not-false (c .before .before .ready .result) (c .before .if3 .left))),
-        (λ k. omega (arith, l .inv .1 .small k), c .before .before .before .before .before .before .before .before .before .before .before .before .pre .1 .0),
+        λ e n. ready-takes (l .counts) (from .result) (move (s .args .t1) (l .i) .input) e (told-true (c .before .before .ready .ensures) (not-false (c .before .before .ready .result) (c .before .if3 .left))),
+        ((l .inv .1 .cells, λ k. omega (arith, l .inv .1 .small k)), s .pre .1 .0),
       ),
     )
 
-array-write-reached : tie.Need-array-write-reached Inv-loop μ-loop
-array-write-reached c = omega (arith, c .before .before .before .before .before .before .before .wide2 .ensures, move-ok _ (c .before .before .before .before .before .before .before .before .before .before .before .before .before .pre .0) (c .before .before .before .before .before .before .before .before .before .before .before .loop .i) (omega arith) .to)
+element-write-reached : tie.Need-element-write-reached Inv-loop μ-loop
+element-write-reached c = omega (arith, c .before .before .before .before .before .before .before .before .before .wide2 .ensures, move-ok _ (c .before .before .before .before .before .before .before .before .before .before .before .before .before .before .before .pre .0) (c .before .before .before .before .before .before .before .before .before .before .before .before .before .loop .i) (omega arith) .to)
 
 loop-less-4 : tie.Need-loop-less-4 Inv-loop μ-loop
 loop-less-4 c = search needs
 
 loop-again-4 : tie.Need-loop-again-4 Inv-loop μ-loop
 loop-again-4 c =
-    let l = c .before .before .before .before .before .before .before .before .before .before .before .loop in
-    let w = c .before .before .before .before .before .before .before .before .wide .ensures in
-    let z = c .before .before .before .before .before .before .before .wide2 .ensures in (
+    let l = c .before .before .before .before .before .before .before .before .before .before .before .before .before .loop in
+    let w = c .before .before .before .before .before .before .before .before .before .before .wide .ensures in
+    let z = c .before .before .before .before .before .before .before .before .before .wide2 .ensures in (
       omega arith,
       rw z
-          (going-stores _ _ (c .before .before .before .before .before .before .before .before .before .before .before .before .before .pre .0) _ _ _ _ _ (l .inv .1) (c .advance .result) (omega arith) (moved (l .reached) w (not-false _ (c .before .before .before .before .before .before .if1 .left))) (moved (l .reached) z (c .before .before .before .before .before .if2 .left))
+          (going-stores _ _ (c .before .before .before .before .before .before .before .before .before .before .before .before .before .before .before .pre .0) _ _ _ _ _ (l .inv .1) _ (omega arith) (moved (l .reached) w (not-false _ (c .before .before .before .before .before .before .before .if1 .left))) (moved (l .reached) z (c .before .before .before .before .before .if2 .left))
           (rw (w, z) at (c .advance .ensures))),
     )
 
@@ -125,17 +128,17 @@ pass-spec =
     add-i
     wide-requires
     wide-requires-2
-    array-read-if1
+    element-copy-out-if1
     loop-less
     loop-again
-    array-read-if2
+    element-copy-out-if2
     loop-less-2
     loop-again-2
     ready-requires
     loop-less-3
     loop-again-3
     advance-requires
-    array-write-reached
+    element-write-reached
     loop-less-4
     loop-again-4
     returns)

@@ -5,6 +5,7 @@ use native.Mathlib.Nat.{sub-zero}
 use native.Mathlib.Omega.{arith}
 use borrow.Author.Tests.{not-true, not-false}
 use borrow.Author.Needs.{needs}
+use denote.Ref.{now}
 use Rattle.basis.specs.Parts.{part}
 use Rattle.times.specs.Times.{flag, readyOf}
 use Rattle.times.specs.Laws.Loops.{ready-not, ready-on, ready-end}
@@ -12,10 +13,10 @@ use Rattle.times.proofs.times.ready.Statement.{statement}
 use Rattle.times.proofs.times.ready.Tie as tie
 
 abbrev Inv-loop : tie.InvT-loop
-Inv-loop x done count j₀ j = (j ≤ x .count) × (count ≡ x .count) × (readyOf done (part 0 (x .preds) 0 (x .count)) ≡ readyOf done (part 0 (x .preds) j (x .count - j)))
+Inv-loop done x count j₀ j = (j ≤ x .count) × (count ≡ x .count) × (readyOf done (part 0 (x .preds) 0 (x .count)) ≡ readyOf done (part 0 (x .preds) j (x .count - j)))
 
 abbrev μ-loop : tie.MeasureT-loop
-μ-loop x done count j₀ j = count - j
+μ-loop done x count j₀ j = count - j
 
 wide-requires : tie.Need-wide-requires Inv-loop μ-loop
 wide-requires c κs = search needs
@@ -29,14 +30,14 @@ element-copy-out-wide c = search needs
 wide-requires-2 : tie.Need-wide-requires-2 Inv-loop μ-loop
 wide-requires-2 c κs = search needs
 
-array-read-if1 : tie.Need-array-read-if1 Inv-loop μ-loop
-array-read-if1 c = let l = c .before .before .before .loop in
+element-copy-out-if1 : tie.Need-element-copy-out-if1 Inv-loop μ-loop
+element-copy-out-if1 c = let l = c .before .before .before .loop in
     omega (arith, c .wide2 .ensures, c .before .before .before .before .before .pre .within (l .j) (omega arith))
 
 returns : tie.Need-returns Inv-loop μ-loop
-returns c = let a = c .before .before .before .before .before .before .args in
-    let l = c .before .before .before .before .loop in
-    sym (l .inv .2 ∙ ready-not (a .t2) (a .t1 .preds) (l .j) (a .t1 .count) (omega arith) (ap (flag (a .t2)) (sym (c .before .wide2 .ensures)) ∙ not-true _ (c .if1 .taken)))
+returns c = let a = c .before .before .before .before .before .before .before .args in
+    let l = c .before .before .before .before .before .loop in
+    sym (l .inv .2 ∙ ready-not (now (a .done)) (a .t1 .preds) (l .j) (a .t1 .count) (omega arith) (ap (flag (now (a .done))) (sym (c .before .before .wide2 .ensures)) ∙ not-true _ (c .if1 .taken)))
 
 add-j : tie.Need-add-j Inv-loop μ-loop
 add-j c = search needs
@@ -45,14 +46,14 @@ loop-less : tie.Need-loop-less Inv-loop μ-loop
 loop-less c = search needs
 
 loop-again : tie.Need-loop-again Inv-loop μ-loop
-loop-again c = let a = c .before .before .before .before .before .before .args in
-    let l = c .before .before .before .before .loop in
-    (omega arith, omega arith, l .inv .2 ∙ ready-on (a .t2) (a .t1 .preds) (l .j) (a .t1 .count) (omega arith) (ap (flag (a .t2)) (sym (c .before .wide2 .ensures)) ∙ not-false _ (c .if1 .left)))
+loop-again c = let a = c .before .before .before .before .before .before .before .args in
+    let l = c .before .before .before .before .before .loop in
+    (omega arith, omega arith, l .inv .2 ∙ ready-on (now (a .done)) (a .t1 .preds) (l .j) (a .t1 .count) (omega arith) (ap (flag (now (a .done))) (sym (c .before .before .wide2 .ensures)) ∙ not-false _ (c .if1 .left)))
 
 returns-2 : tie.Need-returns-2 Inv-loop μ-loop
 returns-2 c = let a = c .before .before .before .args in
     let l = c .before .loop in
-    sym (l .inv .2 ∙ ready-end (a .t2) (a .t1 .preds) (l .j) (a .t1 .count) (omega arith))
+    sym (l .inv .2 ∙ ready-end (now (a .done)) (a .t1 .preds) (l .j) (a .t1 .count) (omega arith))
 
 pub ready-spec : {M : Type 1} → statement M
 ready-spec =
@@ -64,7 +65,7 @@ ready-spec =
     loop-holds
     element-copy-out-wide
     wide-requires-2
-    array-read-if1
+    element-copy-out-if1
     returns
     add-j
     loop-less

@@ -1,61 +1,211 @@
--- `scheduled` meets its contract. The loop's invariant: all rounds are the rounds that are left, from a sound schedule. Assumes nothing.
+-- `scheduled` meets its contract. The loop's invariant: all rounds are the rounds that are left, and the round at hand is its nodes that are
+-- left; the schedule is sound, so that no sum overflows and the order has room. Assumes nothing.
 use mathlib.Core.Path.{_≡_, sym, ap, _∙_, subst}
-use Prim.Native.Nat.{ℕ, _≤_, _-_}
+use Prim.Native.Nat.{ℕ, _+_, _*_, _-_, _≤_, _<_}
 use native.Mathlib.Omega.{arith}
-use borrow.Author.Needs.{needs}
-use Rattle.plan.specs.Plan.{nodesOf}
-use Rattle.times.specs.Laws.Rounds.{round-sound, unscheduled-sound, rounds-stop, rounds-on, schedule-begins}
-use Rattle.times.specs.Inner.{Sound}
-use Rattle.times.specs.Times.{roundOf, roundsOf, scheduleOf}
+use borrow.Author.Tests.{not-true, not-false}
+use lib.ListN.{getD, set}
+use Rattle.time.specs.declared.Specified.{Specified}
+use Rattle.plan.specs.Plan.{pastNode}
 use Rattle.times.specs.declared.Schedule.{Schedule}
+use Rattle.times.specs.Times.{specified, startOf}
+use Rattle.times.specs.Inner.{Sound, numbers, Rounding}
+use Rattle.times.specs.Laws.Rounds.{stored-placed, arrows-fit, kind-fits, visit-done, visit-waits, visit-placed, start-small, room, placed-sound}
+use Rattle.times.specs.Laws.Turns.{start-found, claim-low, event-low, number-set, rounding-starts, rounding-turn, rounding-stops, rounding-next, rounding-done}
+use borrow.Author.Needs.{needs}
 use Rattle.times.proofs.times.scheduled.Statement.{statement}
 use Rattle.times.proofs.times.scheduled.Tie as tie
 
 abbrev Inv-loop : tie.InvT-loop
-Inv-loop a available latest t₀ left₀ t left = (left ≤ a .count) × (scheduleOf available latest (nodesOf a) ≡ roundsOf available latest (nodesOf a) left t) × Sound (a .count) t
+Inv-loop a available latest count u₀ ends₀ rounds₀ from₀ n₀ u ends rounds from n =
+    (n ≤ count) × (count ≡ a .count) × (ends ≡ numbers (u .end)) × Rounding a available latest rounds from n u
 
 abbrev μ-loop : tie.MeasureT-loop
-μ-loop a available latest t₀ left₀ t left = left
+μ-loop a available latest count u₀ ends₀ rounds₀ from₀ n₀ u ends rounds from n = 65 * rounds + (count - n)
+
+wide-requires : tie.Need-wide-requires Inv-loop μ-loop
+wide-requires c κs = search needs
 
 unstarted-requires : tie.Need-unstarted-requires Inv-loop μ-loop
 unstarted-requires c κs = search needs
 
 loop-holds : tie.Need-loop-holds Inv-loop μ-loop
-loop-holds c = let a = c .before .args in
-    (omega arith, schedule-begins (a .available) (a .latest) (a .a) _ (c .unstarted .ensures), subst (Sound (a .a .count)) (sym (c .unstarted .ensures)) (unscheduled-sound (a .a .count)))
-
-round-requires : tie.Need-round-requires Inv-loop μ-loop
-round-requires c κs = (c .before .before .before .pre, c .before .loop .inv .2)
+loop-holds c =
+    let a = c .before .before .args in
+    (omega arith, c .before .wide .ensures, sym (ap (λ (z : Schedule). numbers (z .end)) (c .unstarted .ensures)), rounding-starts (a .t1) (a .t2) (a .t3) (c .unstarted .result) (c .unstarted .ensures))
 
 returns : tie.Need-returns Inv-loop μ-loop
-returns c = let a = c .before .before .before .before .before .before .before .args in
-    let l = c .before .before .before .before .before .loop in
-    let e : roundOf (a .available) (a .latest) 0 (nodesOf (a .a)) (l .t) .count ≡ l .t .count = ap (λ (z : Schedule). z .count) (sym (c .before .before .before .round .ensures)) ∙ c .if1 .taken in
-    sym (l .inv .1 ∙ rounds-stop (a .available) (a .latest) (nodesOf (a .a)) (l .t) (l .left) (omega arith) e)
+returns c =
+    let l = c .before .before .before .loop in
+    rounding-stops _ _ _ (l .rounds) (l .from) (l .n) (l .u) (omega arith) (l .inv .3) (omega arith) (c .if2 .taken)
 
-sub-left : tie.Need-sub-left Inv-loop μ-loop
-sub-left c = search needs
+sub-rounds : tie.Need-sub-rounds Inv-loop μ-loop
+sub-rounds c = search needs
 
 loop-less : tie.Need-loop-less Inv-loop μ-loop
-loop-less c = search needs
+loop-less c = omega (arith, c .before .before .before .before .before .before .pre .activity .count)
 
 loop-again : tie.Need-loop-again Inv-loop μ-loop
-loop-again c = let a = c .before .before .before .before .before .before .before .args in
-    let l = c .before .before .before .before .before .loop in
-    let r = c .before .before .before .round .ensures in (
+loop-again c =
+    let l = c .before .before .before .loop in
+    (omega arith, l .inv .1, l .inv .2, rounding-next _ _ _ (l .rounds) (l .from) (l .n) (l .u) (omega arith) (l .inv .3) (omega arith) (c .if2 .left))
+
+add-n : tie.Need-add-n Inv-loop μ-loop
+add-n c = omega (arith, c .before .before .before .before .before .pre .activity .count)
+
+element-copy-out-if3 : tie.Need-element-copy-out-if3 Inv-loop μ-loop
+element-copy-out-if3 c = omega (arith, c .if1 .left, c .before .before .before .before .before .pre .activity .count)
+
+loop-less-2 : tie.Need-loop-less-2 Inv-loop μ-loop
+loop-less-2 c = omega (arith, c .before .before .if1 .left)
+
+loop-again-2 : tie.Need-loop-again-2 Inv-loop μ-loop
+loop-again-2 c =
+    let l = c .before .before .before .before .loop in
+    let low : l .n < c .before .before .before .before .before .before .before .args .t1 .count = omega (arith, c .before .before .if1 .left) in
+    (omega arith, l .inv .1, l .inv .2, rounding-turn _ _ _ (l .rounds) (l .from) (l .n) (l .u) (omega arith) (l .inv .3) (l .u) low (visit-done _ _ _ _ _ (c .if3 .taken)) (l .inv .3 .sound))
+
+mul-x : tie.Need-mul-x Inv-loop μ-loop
+mul-x c = search needs
+
+element-copy-out-x : tie.Need-element-copy-out-x Inv-loop μ-loop
+element-copy-out-x c = omega (arith, c .before .before .if1 .left, c .before .before .before .before .before .before .before .pre .activity .count)
+
+ready-requires : tie.Need-ready-requires Inv-loop μ-loop
+ready-requires c κs =
+    let p = c .before .before .before .before .before .before .before .before .before .before .pre in
+    let l = c .before .before .before .before .before .before .before .loop in
+    let low : l .n < c .before .before .before .before .before .before .before .before .before .before .args .t1 .count = omega (arith, c .before .before .before .before .before .if1 .left) in
+    arrows-fit (p .activity .nodes (l .n) low) (p .activity .count)
+
+loop-less-3 : tie.Need-loop-less-3 Inv-loop μ-loop
+loop-less-3 c = omega (arith, c .before .before .before .before .before .before .before .if1 .left)
+
+loop-again-3 : tie.Need-loop-again-3 Inv-loop μ-loop
+loop-again-3 c =
+    let l = c .before .before .before .before .before .before .before .before .before .loop in
+    let low : l .n < c .before .before .before .before .before .before .before .before .before .before .before .before .args .t1 .count = omega (arith, c .before .before .before .before .before .before .before .if1 .left) in
+    (omega arith, l .inv .1, l .inv .2, rounding-turn _ _ _ (l .rounds) (l .from) (l .n) (l .u) (omega arith) (l .inv .3) (l .u) low (visit-waits _ _ _ _ _ (c .before .before .before .before .before .if3 .left) (sym (c .before .ready .ensures) ∙ not-true _ (c .if4 .taken))) (l .inv .3 .sound))
+
+claim-of-requires : tie.Need-claim-of-requires Inv-loop μ-loop
+claim-of-requires c κs = search needs
+
+claim-inside : (c : tie.After-claim-of Inv-loop μ-loop) → c .claim-of .result < 16
+claim-inside c =
+    let p = c .before .before .before .before .before .before .before .before .before .before .before .before .before .pre in
+    let l = c .before .before .before .before .before .before .before .before .before .before .loop in
+    let low : l .n < c .before .before .before .before .before .before .before .before .before .before .before .before .before .args .t1 .count = omega (arith, c .before .before .before .before .before .before .before .before .if1 .left) in
+    let kind = getD (c .before .before .before .before .before .before .before .before .before .before .before .before .before .args .t1 .nodes) (l .n) pastNode .kind in
+    omega (arith, c .claim-of .ensures, claim-low kind (kind-fits {R = p .resources} {E = p .events} kind (p .few-resources) (p .few-events) (p .activity .nodes (l .n) low .names)))
+
+mul-free : tie.Need-mul-free Inv-loop μ-loop
+mul-free c = omega (arith, claim-inside c)
+
+array-copy-out-free : tie.Need-array-copy-out-free Inv-loop μ-loop
+array-copy-out-free c = claim-inside c
+
+event-of-requires : tie.Need-event-of-requires Inv-loop μ-loop
+event-of-requires c κs = search needs
+
+event-inside : (c : tie.After-event-of Inv-loop μ-loop) → c .event-of .result < 16
+event-inside c =
+    let p = c .before .before .before .before .before .before .before .before .before .before .before .before .before .before .before .pre in
+    let l = c .before .before .before .before .before .before .before .before .before .before .before .before .loop in
+    let low : l .n < c .before .before .before .before .before .before .before .before .before .before .before .before .before .before .before .args .t1 .count = omega (arith, c .before .before .before .before .before .before .before .before .before .before .if1 .left) in
+    let kind = getD (c .before .before .before .before .before .before .before .before .before .before .before .before .before .before .before .args .t1 .nodes) (l .n) pastNode .kind in
+    omega (arith, c .event-of .ensures, event-low kind (kind-fits {R = p .resources} {E = p .events} kind (p .few-resources) (p .few-events) (p .activity .nodes (l .n) low .names)))
+
+mul-last : tie.Need-mul-last Inv-loop μ-loop
+mul-last c = omega (arith, event-inside c)
+
+array-copy-out-last : tie.Need-array-copy-out-last Inv-loop μ-loop
+array-copy-out-last c = event-inside c
+
+largest-requires : tie.Need-largest-requires Inv-loop μ-loop
+largest-requires c κs =
+    let p = c .before .before .before .before .before .before .before .before .before .before .before .before .before .before .before .before .before .pre in
+    let l = c .before .before .before .before .before .before .before .before .before .before .before .before .before .before .loop in
+    let low : l .n < c .before .before .before .before .before .before .before .before .before .before .before .before .before .before .before .before .before .args .t1 .count = omega (arith, c .before .before .before .before .before .before .before .before .before .before .before .before .if1 .left) in
+    arrows-fit (p .activity .nodes (l .n) low) (p .activity .count)
+
+starting-requires : tie.Need-starting-requires Inv-loop μ-loop
+starting-requires c κs = search needs
+
+long-requires : tie.Need-long-requires Inv-loop μ-loop
+long-requires c κs = search needs
+
+add-end : tie.Need-add-end Inv-loop μ-loop
+add-end c =
+    let s = c .before .before .before .before .before .before .before .before .before .before .before .before .before .before .before .before .before .before .before .before .before in
+    let l = c .before .before .before .before .before .before .before .before .before .before .before .before .before .before .before .before .before .before .loop in
+    let low : l .n < s .args .t1 .count = omega (arith, c .before .before .before .before .before .before .before .before .before .before .before .before .before .before .before .before .if1 .left) in
+    let start = ap (λ (z : Specified). z .0) (c .before .before .starting .ensures ∙ ap specified (start-found (s .args .t2) (s .args .t3) (l .u .end) (getD (s .args .t1 .nodes) (l .n) pastNode) (c .before .before .before .largest .ensures (l .u .end) (l .inv .2)) (c .before .before .before .before .before .before .before .before .claim-of .ensures) (c .before .before .before .before .before .before .event-of .ensures))) in
+    omega (arith, start, c .before .long .ensures, start-small _ _ _ (s .pre) (l .n) low (l .u) (l .inv .3 .sound), s .pre .activity .nodes (l .n) low .duration, room _ _ _ (s .pre) (l .n) low (l .u) (l .inv .3 .sound) (c .before .before .before .before .before .before .before .before .before .before .before .before .before .before .if3 .left))
+
+wide-requires-2 : tie.Need-wide-requires-2 Inv-loop μ-loop
+wide-requires-2 c κs = search needs
+
+mul-ends : tie.Need-mul-ends Inv-loop μ-loop
+mul-ends c = search needs
+
+array-write-ends : tie.Need-array-write-ends Inv-loop μ-loop
+array-write-ends c = omega (arith, c .before .before .before .before .before .before .before .before .before .before .before .before .before .before .before .before .before .if1 .left, c .before .before .before .before .before .before .before .before .before .before .before .before .before .before .before .before .before .before .before .before .before .before .pre .activity .count)
+
+mul-s : tie.Need-mul-s Inv-loop μ-loop
+mul-s c = search needs
+
+element-set-from-s : tie.Need-element-set-from-s Inv-loop μ-loop
+element-set-from-s c = omega (arith, c .before .before .before .before .before .before .before .before .before .before .before .before .before .before .before .before .before .if1 .left, c .before .before .before .before .before .before .before .before .before .before .before .before .before .before .before .before .before .before .before .before .before .before .pre .activity .count)
+
+mul-t29 : tie.Need-mul-t29 Inv-loop μ-loop
+mul-t29 c = search needs
+
+element-set-from-u : tie.Need-element-set-from-u Inv-loop μ-loop
+element-set-from-u c = omega (arith, c .before .before .before .before .before .before .before .before .before .before .before .before .before .before .before .before .before .if1 .left, c .before .before .before .before .before .before .before .before .before .before .before .before .before .before .before .before .before .before .before .before .before .before .pre .activity .count)
+
+element-write-u : tie.Need-element-write-u Inv-loop μ-loop
+element-write-u c = omega (arith, c .before .before .before .before .before .before .before .before .before .before .before .before .before .before .before .before .before .if1 .left, c .before .before .before .before .before .before .before .before .before .before .before .before .before .before .before .before .before .before .before .before .before .before .pre .activity .count)
+
+cast-u : tie.Need-cast-u Inv-loop μ-loop
+cast-u c = omega (arith, c .before .before .before .before .before .before .before .before .before .before .before .before .before .before .before .before .before .if1 .left, c .before .before .before .before .before .before .before .before .before .before .before .before .before .before .before .before .before .before .before .before .before .before .pre .activity .count)
+
+element-write-u-2 : tie.Need-element-write-u-2 Inv-loop μ-loop
+element-write-u-2 c =
+    let l = c .before .before .before .before .before .before .before .before .before .before .before .before .before .before .before .before .before .before .before .loop in
+    let low : l .n < c .before .before .before .before .before .before .before .before .before .before .before .before .before .before .before .before .before .before .before .before .before .before .args .t1 .count = omega (arith, c .before .before .before .before .before .before .before .before .before .before .before .before .before .before .before .before .before .if1 .left) in
+    omega (arith, c .wide2 .ensures, room _ _ _ (c .before .before .before .before .before .before .before .before .before .before .before .before .before .before .before .before .before .before .before .before .before .before .pre) (l .n) low (l .u) (l .inv .3 .sound) (c .before .before .before .before .before .before .before .before .before .before .before .before .before .before .before .if3 .left))
+
+add-u : tie.Need-add-u Inv-loop μ-loop
+add-u c =
+    let l = c .before .before .before .before .before .before .before .before .before .before .before .before .before .before .before .before .before .before .before .loop in
+    let low : l .n < c .before .before .before .before .before .before .before .before .before .before .before .before .before .before .before .before .before .before .before .before .before .before .args .t1 .count = omega (arith, c .before .before .before .before .before .before .before .before .before .before .before .before .before .before .before .before .before .if1 .left) in
+    omega (arith, room _ _ _ (c .before .before .before .before .before .before .before .before .before .before .before .before .before .before .before .before .before .before .before .before .before .before .pre) (l .n) low (l .u) (l .inv .3 .sound) (c .before .before .before .before .before .before .before .before .before .before .before .before .before .before .before .if3 .left))
+
+loop-less-4 : tie.Need-loop-less-4 Inv-loop μ-loop
+loop-less-4 c = omega (arith, c .before .before .before .before .before .before .before .before .before .before .before .before .before .before .before .before .before .if1 .left)
+
+loop-again-4 : tie.Need-loop-again-4 Inv-loop μ-loop
+loop-again-4 c =
+    let s = c .before .before .before .before .before .before .before .before .before .before .before .before .before .before .before .before .before .before .before .before .before .before in
+    let l = c .before .before .before .before .before .before .before .before .before .before .before .before .before .before .before .before .before .before .before .loop in
+    let low : l .n < s .args .t1 .count = omega (arith, c .before .before .before .before .before .before .before .before .before .before .before .before .before .before .before .before .before .if1 .left) in
+    let x = getD (s .args .t1 .nodes) (l .n) pastNode in
+    let start = c .before .before .before .starting .ensures ∙ ap specified (start-found (s .args .t2) (s .args .t3) (l .u .end) x (c .before .before .before .before .largest .ensures (l .u .end) (l .inv .2)) (c .before .before .before .before .before .before .before .before .before .claim-of .ensures) (c .before .before .before .before .before .before .before .event-of .ensures)) in
+    let e = stored-placed (l .n) (l .u) start (c .before .before .long .ensures) (c .wide2 .ensures) in (
       omega arith,
-      l .inv .1
-          ∙ rounds-on (a .available) (a .latest) (nodesOf (a .a)) (l .t) (l .left) (omega arith) (λ e. c .if1 .left (ap (λ (z : Schedule). z .count) r ∙ e))
-          ∙ ap (roundsOf (a .available) (a .latest) (nodesOf (a .a)) (l .left - 1)) (sym r),
-      subst (Sound (a .a .count)) (sym r) (round-sound (a .a) (a .available) (a .latest) (c .before .before .before .before .before .before .before .pre) (l .t) (l .inv .2)),
+      l .inv .1,
+      ap (λ z. set z (l .n) (c .before .before .before .starting .result .0 + c .before .before .long .result)) (l .inv .2) ∙ number-set (l .u .end) (l .n) (specified (c .before .before .before .starting .result .0 + c .before .before .long .result)),
+      rounding-turn _ _ _ (l .rounds) (l .from) (l .n) (l .u) (omega arith) (l .inv .3) _ low
+          (visit-placed _ _ _ _ _ (c .before .before .before .before .before .before .before .before .before .before .before .before .before .before .before .if3 .left) (sym (c .before .before .before .before .before .before .before .before .before .before .before .ready .ensures) ∙ not-false _ (c .before .before .before .before .before .before .before .before .before .before .if4 .left)) ∙ e)
+          (subst (Sound (s .args .t1 .count)) e (placed-sound _ _ _ (s .pre) (l .n) low (l .u) (l .inv .3 .sound) (c .before .before .before .before .before .before .before .before .before .before .before .before .before .before .before .if3 .left))),
     )
 
 returns-2 : tie.Need-returns-2 Inv-loop μ-loop
-unfolding roundsOf
-returns-2 c = let a = c .before .before .before .args in
+returns-2 c =
+    let a = c .before .before .before .before .args in
     let l = c .before .loop in
-    let z : l .left ≡ 0 = omega arith in
-    sym (l .inv .1 ∙ ap (λ (k : ℕ). roundsOf (a .available) (a .latest) (nodesOf (a .a)) k (l .t)) z)
+    let z : l .rounds ≡ 0 = omega arith in
+    rounding-done (a .t1) (a .t2) (a .t3) (l .from) (l .n) (l .u) (subst (λ (k : ℕ). Rounding (a .t1) (a .t2) (a .t3) k (l .from) (l .n) (l .u)) z (l .inv .3))
 
 pub scheduled-spec : {M : Type 1} → statement M
 scheduled-spec =
@@ -63,11 +213,43 @@ scheduled-spec =
     (tie.spec
     Inv-loop
     μ-loop
+    wide-requires
     unstarted-requires
     loop-holds
-    round-requires
     returns
-    sub-left
+    sub-rounds
     loop-less
     loop-again
+    add-n
+    element-copy-out-if3
+    loop-less-2
+    loop-again-2
+    mul-x
+    element-copy-out-x
+    ready-requires
+    loop-less-3
+    loop-again-3
+    claim-of-requires
+    mul-free
+    array-copy-out-free
+    event-of-requires
+    mul-last
+    array-copy-out-last
+    largest-requires
+    starting-requires
+    long-requires
+    add-end
+    wide-requires-2
+    mul-ends
+    array-write-ends
+    mul-s
+    element-set-from-s
+    mul-t29
+    element-set-from-u
+    element-write-u
+    cast-u
+    element-write-u-2
+    add-u
+    loop-less-4
+    loop-again-4
     returns-2)

@@ -1,0 +1,47 @@
+-- The verdict on a plan that was read: the activities, then the automaton by the table of what they emit.
+use mathlib.Core.Path.{sym, ap, _∙_}
+use Rattle.plan.specs.declared.Verdict.{Verdict}
+use Rattle.automaton.specs.Number.{automatonVerdict}
+use Rattle.automaton.specs.Bounds.{in-range}
+use Rattle.automaton_verdict.specs.Table.{table-verdict}
+use Rattle.judge.specs.Judge.{onVerdict}
+use borrow.Author.Needs.{needs}
+use Rattle.judge.proofs.plan_verdict.Statement.{statement}
+use Rattle.judge.proofs.plan_verdict.Tie as tie
+
+activities-requires : tie.Need-activities-requires
+activities-requires c κs = search needs
+
+enum-told : tie.Need-enum-told
+enum-told c = search needs
+
+enum-told-2 : tie.Need-enum-told-2
+enum-told-2 c = search needs
+
+returns : tie.Need-returns
+returns c =
+    let p = c .before .before .before .args .plan in
+    c .enum-told2 .given .1 ∙ sym (ap (λ (v : Verdict). onVerdict v (automatonVerdict p) Verdict.Refused) (sym (c .before .before .activities .ensures) ∙ c .enum-told2 .given .1))
+
+emissions-requires : tie.Need-emissions-requires
+emissions-requires c κs = search needs
+
+automaton-requires : tie.Need-automaton-requires
+automaton-requires c κs = (in-range _ (c .before .before .before .before .before .before .before .pre), c .before .before .before .emissions .ensures .few)
+
+returns-2 : tie.Need-returns-2
+returns-2 c =
+    let s = c .before .before .before .before .before .before .before .before in
+    rw (← c .before .before .before .before .before .before .before .activities .ensures, c .before .before .before .before .before .enum-told .given .1) (c .automaton2 .ensures ∙ table-verdict (s .args .plan) (s .pre) (c .before .before .before .before .emissions .result) (c .before .before .before .before .emissions .ensures))
+
+pub plan-verdict-spec : {M : Type 1} → statement M
+plan-verdict-spec =
+    tie.close
+    (tie.spec
+    activities-requires
+    enum-told
+    enum-told-2
+    returns
+    emissions-requires
+    automaton-requires
+    returns-2)

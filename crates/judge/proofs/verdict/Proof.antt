@@ -1,0 +1,37 @@
+-- The verdict alone is the verdict of the plan file's judgement.
+use mathlib.Core.Path.{sym, _∙_}
+use native.Mathlib.Omega.{arith}
+use denote.Ref.{now}
+use Rattle.judge.specs.Judge.{judgeOf}
+use Rattle.judge.specs.Inner.{verdict-alone}
+use Rattle.judge.specs.Laws.{read-limits}
+use borrow.Author.Needs.{needs}
+use Rattle.judge.proofs.verdict.Statement.{statement}
+use Rattle.judge.proofs.verdict.Tie as tie
+
+read-requires : tie.Need-read-requires
+read-requires c κs = search needs
+
+enum-told : tie.Need-enum-told
+enum-told c = search needs
+
+enum-told-2 : tie.Need-enum-told-2
+enum-told-2 c = search needs
+
+returns : tie.Need-returns
+unfolding judgeOf
+returns c = rw (← c .before .before .read .ensures, c .enum-told2 .given .1)
+
+plan-verdict-requires : tie.Need-plan-verdict-requires
+plan-verdict-requires c κs =
+    read-limits (now (c .before .before .before .before .before .args .bytes)) (λ k. omega (arith, c .before .before .before .before .shared-slice-known .given k))
+    (c .before .before .before .read .result) (c .before .before .before .read .ensures) (c .before .enum-told .given .1)
+
+returns-2 : tie.Need-returns-2
+unfolding judgeOf
+returns-2 c = rw (← c .before .before .before .before .read .ensures, c .before .before .enum-told .given .1) (c .plan-verdict .ensures ∙ sym (verdict-alone (c .before .before .before .before .read .result .plan)))
+
+pub verdict-spec : {M : Type 1} → statement M
+verdict-spec =
+    tie.close
+    (tie.spec read-requires enum-told enum-told-2 returns plan-verdict-requires returns-2)
