@@ -1,7 +1,8 @@
 -- "further ones while their outcomes are already reported": the way on from a waiting state.
-use Prim.Native.Nat.{ℕ}
+use mathlib.Core.Path.{_≡_}
+use Prim.Native.Nat.{ℕ, _≤_, _<_}
 use Rattle.plan.specs.declared.Automaton.{Automaton}
-use Rattle.automaton.specs.Next.{chosenOf}
+use Rattle.automaton.specs.Next.{nextOf, chosenOf}
 use Rattle.automaton.specs.declared.Next.{Next}
 use Rattle.automaton.specs.declared.Chosen.{Chosen}
 use Rattle.times.specs.declared.Told.{Told}
@@ -29,3 +30,8 @@ unfoldable pub wayOn : Automaton → Progress → Next → Next
 wayOn a g Next.Ended = Next.Ended
 wayOn a g (Next.Goes t) = Next.Ended
 wayOn a g (Next.Waits e) = byTold a (g .state) e (oldestTold g e)
+
+-- what looking for it asks of an automaton: the events that its states await have a queue
+pub record Awaits (a : Automaton) : Type 0 where
+  pub few : a .count ≤ 256
+  pub queued : (s e : ℕ) → nextOf a s ≡ Next.Waits e → e < 16

@@ -4,18 +4,16 @@ use automaton::Next;
 use automaton::chosen_of;
 use automaton::next_of;
 use plan::Automaton;
-use plan::Plan;
 use times::Instance;
 use times::Progress;
 use times::Told;
 use run_window::Entry;
 ghost use mathlib.Core.Path.{_≡_};
 ghost use Prim.Native.Nat.{_+_, _*_, _≤_, _<_};
-ghost use Rattle.plan.specs.Limits.{InLimits};
 ghost use Rattle.automaton.specs.Next.{nextOf};
 ghost use Rattle.times.specs.Queues.{pendingOf};
 ghost use Rattle.run_outcomes.specs.Told.{tell, isInstance, toldFrom, toldOf, oldestTold};
-ghost use Rattle.run_outcomes.specs.Way.{byChoice, byTold, wayOn};
+ghost use Rattle.run_outcomes.specs.Way.{Awaits, byChoice, byTold, wayOn};
 
 // ---- an outcome is stored
 
@@ -125,12 +123,11 @@ fn by_told(a: Automaton, s: u8, e: u8, told: Told) -> Next
 }
 
 // "further ones while their outcomes are already reported": the way on, if there is one.
-pub fn way_on(plan: Plan, g: Progress) -> Next
-    requires { ⌜ InLimits plan ⌝ }
-    ensures { λ r. ⌜ r ≡ wayOn (plan .automaton) g (nextOf (plan .automaton) (g .state)) ⌝ }
+pub fn way_on(a: Automaton, g: Progress) -> Next
+    requires { ⌜ Awaits a ⌝ }
+    ensures { λ r. ⌜ r ≡ wayOn a g (nextOf a (g .state)) ⌝ }
 {
-    let automaton = plan.automaton;
-    let next = next_of(automaton, g.state);
+    let next = next_of(a, g.state);
     match next {
         Next::Ended => {
             return Next::Ended;
@@ -140,7 +137,7 @@ pub fn way_on(plan: Plan, g: Progress) -> Next
         }
         Next::Waits(e) => {
             let told = oldest_told(g, e);
-            return by_told(automaton, g.state, e, told);
+            return by_told(a, g.state, e, told);
         }
     }
 }

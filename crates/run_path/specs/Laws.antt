@@ -2,4 +2,5 @@
 pub mod Collecting
 pub mod Emitting
 pub mod Stepping
+pub mod Storing
 pub mod InTime

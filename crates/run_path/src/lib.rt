@@ -7,6 +7,7 @@ use plan::Kind;
 use plan::Node;
 use plan::Output;
 use plan::Plan;
+use plan::Transition;
 use times::Progress;
 use times::Schedule;
 use times::engine::advance;
@@ -19,12 +20,23 @@ ghost use Rattle.plan.specs.Plan.{nodesOf};
 ghost use Rattle.plan.specs.Limits.{InLimits, OutputNames};
 ghost use Rattle.run_path.specs.Path.{isWork, entriesFrom, activityNumber, pathFrom, longestPath};
 ghost use Rattle.run_path.specs.Pathed.{ProgressIn, Leads, pathed};
-ghost use Rattle.run_path.specs.Inner.{emittedOf, collectedOf, Takes, takenOf};
+ghost use Rattle.activity.specs.Copied.{emptyNode};
+ghost use Rattle.times.specs.Limits.{StepFits};
+ghost use Rattle.run_path.specs.Inner.{emittedOf, emittedCount, broughtOf, steppedOf};
 
-// The entries of a path so far: all are counted, the first 512 are kept.
-pub struct Collected {
-    pub entries: [Entry; 512],
-    pub count: usize,
+// One transition of a path: the entries that it brings, and where the behaviour stands after it.
+struct Step {
+    // it passes a limit of time or position (number 44)
+    beyond: bool,
+    entries: [Entry; 64],
+    count: usize,
+    progress: Progress,
+}
+
+// The entries of one transition.
+struct Brought {
+    entries: [Entry; 64],
+    count: usize,
 }
 
 // A path: its entries, all counted and the first 512 kept, and where it ends.
@@ -70,6 +82,18 @@ pub fn activity_number(output: Output) -> u8
     }
 }
 
+// A node of zeros, for spare room.
+fn empty_node() -> Node
+    ensures { λ r. ⌜ r ≡ emptyNode ⌝ }
+{
+    Node {
+        kind: Kind::Action(0, 0),
+        duration: 0,
+        count: 0,
+        preds: [0u8; 8],
+    }
+}
+
 // The activity that a transition emits.
 pub fn emitted(plan: Plan, output: Output) -> Activity
     requires { ⌜ InLimits plan × OutputNames plan output ⌝ }
@@ -77,12 +101,7 @@ pub fn emitted(plan: Plan, output: Output) -> Activity
 {
     match output {
         Output::Empty => {
-            let empty = Node {
-                kind: Kind::Action(0, 0),
-                duration: 0,
-                count: 0,
-                preds: [0u8; 8],
-            };
+            let empty = empty_node();
             let nodes = [empty; 64];
             return Activity {
                 count: 0,
@@ -95,21 +114,25 @@ pub fn emitted(plan: Plan, output: Output) -> Activity
     }
 }
 
-// The entries of one transition, put after those that are there.
-fn collect(
-    position: u32,
-    number: u8,
-    times: Schedule,
-    activity: Activity,
-    before: Collected,
-) -> Collected
-    requires { ⌜ activity .count ≤ 64 ⌝ }
-    requires { ⌜ before .count ≤ 4096 ⌝ }
-    ensures { λ r. ⌜ r ≡ collectedOf before (entriesFrom position number times 0 (nodesOf activity)) ⌝ }
+// How many nodes a transition emits whose activity has `size` of them.
+fn emitted_count(output: Output, size: u8) -> u8
+    ensures { λ r. ⌜ r ≡ emittedCount output size ⌝ }
 {
+    match output {
+        Output::Empty => 0,
+        Output::Activity(_) => size,
+    }
+}
+
+// The entries of one transition.
+fn bring(position: u32, number: u8, times: Schedule, activity: Activity) -> Brought
+    requires { ⌜ activity .count ≤ 64 ⌝ }
+    ensures { λ r. ⌜ r ≡ broughtOf (entriesFrom position number times 0 (nodesOf activity)) ⌝ }
+{
+    let free = vacant();
     let size = wide(activity.count);
-    let mut entries = before.entries;
-    let mut count = before.count;
+    let mut entries = [free; 64];
+    let mut count: usize = 0;
     let mut n: usize = 0;
     while n < size {
         let node = n;
@@ -119,64 +142,44 @@ fn collect(
         if is_work(kind) {
             let start = times.start[node];
             let end = times.end[node];
-            let place = count;
+            entries[count] = Entry {
+                phase: Phase::Loaded,
+                position: position,
+                activity: number,
+                node: node as u8,
+                start: start,
+                end: end,
+            };
             count += 1;
-            if place < 512 {
-                entries[place] = Entry {
-                    phase: Phase::Loaded,
-                    position: position,
-                    activity: number,
-                    node: node as u8,
-                    start: start,
-                    end: end,
-                };
-                continue;
-            }
         }
     }
-    Collected {
+    Brought {
         entries: entries,
         count: count,
     }
 }
 
-// Transition t, taken after a part of a path.
-fn taken(plan: Plan, t: u16, before: Pathed) -> Pathed
-    requires { ⌜ Takes plan t before ⌝ }
-    ensures { λ r. ⌜ r ≡ takenOf plan t before ⌝ }
+// Transition m, which emits the activity of this number.
+fn stepped(resources: u8, number: u8, activity: Activity, m: Transition, before: Progress) -> Step
+    requires { ⌜ StepFits resources activity (m .input) before ⌝ }
+    ensures { λ r. ⌜ r ≡ steppedOf resources number activity m before ⌝ }
 {
-    let i = long(t);
-    let automaton = plan.automaton;
-    let m = automaton.moves[i];
-    let output = m.output;
     let input = m.input;
-    let activity = emitted(plan, output);
-    let progress = before.progress;
-    let advanced = advance(plan.resources, activity, input, m.to, progress);
-    if advanced.beyond {
-        let mut stopped = before;
-        stopped.beyond = true;
-        return stopped;
-    }
-    let after = advanced.progress;
+    let advanced = advance(resources, activity, input, m.to, before);
     let times = advanced.schedule;
-    let entries = before.entries;
-    let held = Collected {
-        entries: entries,
-        count: before.count,
-    };
-    let number = activity_number(output);
-    let collected = collect(progress.position, number, times, activity, held);
-    let all = collected.entries;
-    Pathed {
-        beyond: false,
-        entries: all,
-        count: collected.count,
-        progress: after,
+    let found = bring(before.position, number, times, activity);
+    let entries = found.entries;
+    let progress = advanced.progress;
+    Step {
+        beyond: advanced.beyond,
+        entries,
+        count: found.count,
+        progress,
     }
 }
 
-// The path from what a state does next, up to a waiting or final state.
+// The path from what a state does next, up to a waiting or final state. Its activities are copied out of the plan here: a
+// function that is handed a plan copies all of it.
 pub fn path(plan: Plan, next: Next, progress: Progress) -> Pathed
     requires { ⌜ InLimits plan ⌝ }
     requires { ⌜ Leads (plan .automaton .count) next ⌝ }
@@ -184,33 +187,52 @@ pub fn path(plan: Plan, next: Next, progress: Progress) -> Pathed
     ensures { λ r. ⌜ r ≡ pathed (pathFrom plan longestPath next progress) ⌝ }
 {
     let free = vacant();
-    let entries = [free; 512];
+    let empty = empty_node();
     let automaton = plan.automaton;
     let mut found = Pathed {
         beyond: false,
-        entries: entries,
+        entries: [free; 512],
         count: 0,
         progress: progress,
     };
     let mut to = next;
     let mut left: usize = 64;
     while 0 < left {
-        match to {
-            Next::Ended => {
-                return found;
-            }
-            Next::Waits(_) => {
-                return found;
-            }
-            Next::Goes(t) => {
-                found = taken(plan, t, found);
-                if found.beyond {
-                    return found;
-                }
-                to = next_of(automaton, found.progress.state);
-                left -= 1;
+        let Next::Goes(t) = to else {
+            return found;
+        };
+        let m = automaton.moves[long(t)];
+        let output = m.output;
+        let number = activity_number(output);
+        let a = wide(number);
+        let count = emitted_count(output, plan.sizes[a]);
+        let size = wide(count);
+        let mut nodes = [empty; 64];
+        let mut n: usize = 0;
+        while n < size {
+            nodes[n] = plan.nodes[64 * a + n];
+            n += 1;
+        }
+        let before = found.progress;
+        let taken = stepped(plan.resources, number, Activity { count, nodes }, m, before);
+        if taken.beyond {
+            found.beyond = true;
+            return found;
+        }
+        let mut j: usize = 0;
+        while j < taken.count {
+            let e = taken.entries[j];
+            let place = found.count;
+            j += 1;
+            found.count = place + 1;
+            if place < 512 {
+                found.entries[place] = e;
             }
         }
+        let after = taken.progress;
+        found.progress = after;
+        to = next_of(automaton, after.state);
+        left -= 1;
     }
     found
 }

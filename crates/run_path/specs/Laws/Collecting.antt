@@ -13,10 +13,11 @@ use Rattle.times.specs.declared.Schedule.{Schedule}
 use Rattle.times.specs.Laws.Loops.{part-step, part-end}
 use Rattle.run_window.specs.Window.{vacant}
 use Rattle.run_window.specs.declared.Entry.{Entry}
-use Rattle.run_path.specs.declared.Collected.{Collected}
+
+use Rattle.run_path.specs.declared.Brought.{Brought}
 use Rattle.run_path.specs.Path.{isWork, loaded, entriesFrom}
 use Rattle.run_path.specs.Pathed.{firsts}
-use Rattle.run_path.specs.Inner.{put, collectedOf}
+use Rattle.run_path.specs.Inner.{put, Collected, collectedOf, broughtOf}
 
 pub set-outside : {A : Type 0} (l : List A) (i : ℕ) (x : A) → length l ≤ i → set l i x ≡ l
 set-outside [] i x h = refl
@@ -50,9 +51,6 @@ module _ (position a : ℕ) (s : Schedule) (l : List Node) (size n : ℕ) (es : 
       e
       ∙ ap (collectedOf (collection es i)) (rest-on ∙ ap (λ (x : Bool). cond x (loaded position a s n ∷ rest position a s l size (n + 1)) (rest position a s l size (n + 1))) b)
       ∙ one-more es i (loaded position a s n) (rest position a s l size (n + 1))
-
-  pub turn-full : isWork (getD l n pastNode .kind) ≡ true → length es ≤ i → w ≡ collectedOf (collection es (i + 1)) (rest position a s l size (n + 1))
-  turn-full b f = turn-work b ∙ ap (λ (x : List Entry). collectedOf (collection x (i + 1)) (rest position a s l size (n + 1))) (set-outside es i (loaded position a s n) f)
 
   pub turn-none : isWork (getD l n pastNode .kind) ≡ false → w ≡ collectedOf (collection es i) (rest position a s l size (n + 1))
   turn-none b = e ∙ ap (collectedOf (collection es i)) (rest-on ∙ ap (λ (x : Bool). cond x (loaded position a s n ∷ rest position a s l size (n + 1)) (rest position a s l size (n + 1))) b)
@@ -108,6 +106,16 @@ firsts-none (suc n) = ap (λ (m : List Entry). vacant ∷ m) (firsts-none n)
 -- put into vacant places, they are the first ones
 pub put-vacant : (n : ℕ) (es : List Entry) → put (replicate n vacant) 0 es ≡ firsts n es
 put-vacant n es = ap (λ (l : List Entry). put l 0 es) (firsts-none n) ∙ put-firsts n [] es
+
+-- what `bring` hands over
+pub brought-all : (e : Entry) → e ≡ vacant → (es l : List Entry) (i : ℕ) → collectedOf (collection (replicate 64 e) 0) es ≡ collection l i → _≡_ {A = Brought} (record { entries = l; count = i }) (broughtOf es)
+unfolding collectedOf broughtOf
+brought-all e v es l i q =
+    let z : 0 + length es ≡ length es = omega arith in
+    ap (λ (c : Collected). record { entries = c .entries; count = c .count }) (sym q)
+    ∙ ap (λ (x : Entry). record { entries = put (replicate 64 x) 0 es; count = 0 + length es }) v
+    ∙ ap (λ (k : ℕ). record { entries = put (replicate 64 vacant) 0 es; count = k }) z
+    ∙ ap (λ (m : List Entry). record { entries = m; count = length es }) (put-vacant 64 es)
 
 -- as many of the first n as there are, are all of them
 pub take-firsts : (n : ℕ) (es : List Entry) → length es ≤ n → take (length es) (firsts n es) ≡ es

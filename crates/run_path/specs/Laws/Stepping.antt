@@ -24,12 +24,11 @@ use Rattle.times.specs.declared.Progress.{Progress}
 use Rattle.times.specs.declared.Advanced.{Advanced}
 use Rattle.run_window.specs.Window.{vacant}
 use Rattle.run_window.specs.declared.Entry.{Entry}
-use Rattle.run_path.specs.declared.Collected.{Collected}
 use Rattle.run_path.specs.declared.Pathed.{Pathed}
-use Rattle.run_path.specs.Path.{Path, entriesFrom, activityNumber, takenBy, entriesBy, ends, after, pathFrom}
+use Rattle.run_path.specs.Path.{Path, activityNumber, takenBy, entriesBy, ends, after, pathFrom}
 use Rattle.run_path.specs.Pathed.{ProgressIn, Leads, firsts, pathed}
-use Rattle.run_path.specs.Inner.{emittedOf, put, collectedOf, onto, stopped, step, Takes, takenOf}
-use Rattle.run_path.specs.Laws.Collecting.{collection, put-append, put-vacant, entries-few}
+use Rattle.run_path.specs.Inner.{emittedOf, put, onto, stopped, step, takenOf}
+use Rattle.run_path.specs.Laws.Collecting.{put-append, put-vacant, entries-few}
 use Rattle.run_path.specs.Laws.Emitting.{emitted-nodes, emitted-fits, step-fits}
 
 -- ---- what a state does next is a transition of the plan
@@ -75,6 +74,16 @@ module _ (p : Plan) (t : ℕ) (g : Progress) where
       subst (λ (v : Advanced). ProgressIn p (v .progress)) z
       (kept (p .resources) (emittedOf p o) (move (p .automaton) t .input) (move (p .automaton) t .to) g (step-fits p h t l g k) (h .moves t l .to) (ap (λ (v : Advanced). v .beyond) z ∙ e))
 
+  -- it brings at most 64 entries
+  pub entries-by : InLimits p → t < p .automaton .count → length (entriesBy p t g) ≤ 64
+  entries-by h l =
+      let o = move (p .automaton) t .output in
+      let u = entries-few (g .position) (activityNumber o) (takenBy p t g .schedule) 0 (emittedBy p o) in
+      let w = emitted-fits p h o (h .moves t l .output) .count in
+      let x = ap length (emitted-nodes p o) in
+      let y = length-part pastNode (emittedOf p o .nodes) 0 (emittedOf p o .count) in
+      omega arith
+
 module _ (p : Plan) (t : ℕ) (f : Pathed) where
   pub taken-stops : takenBy p t (f .progress) .beyond ≡ true → takenOf p t f ≡ stopped f
   unfolding takenOf
@@ -84,29 +93,10 @@ module _ (p : Plan) (t : ℕ) (f : Pathed) where
   unfolding takenOf
   taken-goes e = ap (λ (b : Bool). cond b (stopped f) (onto f (step p t f))) e
 
-  -- what the code hands over
-  pub taken-on : (v : Advanced) (n : ℕ) (a : Activity) (c : Collected) → v ≡ takenBy p t (f .progress) → v .beyond ≡ false → n ≡ activityNumber (move (p .automaton) t .output) → nodesOf a ≡ emittedBy p (move (p .automaton) t .output) → c ≡ collectedOf (collection (f .entries) (f .count)) (entriesFrom (f .progress .position) n (v .schedule) 0 (nodesOf a)) → _≡_ {A = Pathed} (record { beyond = false; entries = c .entries; count = c .count; progress = v .progress }) (takenOf p t f)
-  unfolding onto collectedOf
-  taken-on v n a c ev e en ea ec =
-      let w = ec
-      ∙ ap (λ (ns : List Node). collectedOf (collection (f .entries) (f .count)) (entriesFrom (f .progress .position) n (v .schedule) 0 ns)) ea
-      ∙ ap (λ (k : ℕ). collectedOf (collection (f .entries) (f .count)) (entriesFrom (f .progress .position) k (v .schedule) 0 (emittedBy p (move (p .automaton) t .output)))) en
-      ∙ ap (λ (x : Advanced). collectedOf (collection (f .entries) (f .count)) (entriesFrom (f .progress .position) (activityNumber (move (p .automaton) t .output)) (x .schedule) 0 (emittedBy p (move (p .automaton) t .output)))) ev in
-      ap (λ (x : Collected). record { beyond = false; entries = x .entries; count = x .count; progress = v .progress }) w
-      ∙ ap (λ (x : Advanced). record { beyond = false; entries = onto f (step p t f) .entries; count = onto f (step p t f) .count; progress = x .progress }) ev
-      ∙ sym (taken-goes (sym (ap (λ (x : Advanced). x .beyond) ev) ∙ e))
-
   -- a transition adds at most 64 entries
   pub taken-few : InLimits p → t < p .automaton .count → takenBy p t (f .progress) .beyond ≡ false → takenOf p t f .count ≤ f .count + 64
   unfolding onto
-  taken-few h l e =
-      let o = move (p .automaton) t .output in
-      let u = entries-few (f .progress .position) (activityNumber o) (takenBy p t (f .progress) .schedule) 0 (emittedBy p o) in
-      let w = emitted-fits p h o (h .moves t l .output) .count in
-      let x = ap length (emitted-nodes p o) in
-      let y = length-part pastNode (emittedOf p o .nodes) 0 (emittedOf p o .count) in
-      let z = ap (λ (r : Pathed). r .count) (taken-goes e) in
-      omega arith
+  taken-few h l e = let u = entries-by p t (f .progress) h l in let z = ap (λ (r : Pathed). r .count) (taken-goes e) in omega arith
 
 -- ---- a path
 
@@ -182,9 +172,6 @@ module _ (p : Plan) (q : Path) (left : ℕ) (f : Pathed) where
   module _ (t : ℕ) {next : Next} (w : Walking p q left next f) (is : next ≡ Next.Goes t) (h : 0 < left) (limits : InLimits p) where
     pub named : t < p .automaton .count
     named = subst (Leads (p .automaton .count)) is (w .leads)
-
-    pub takes : Takes p t f
-    takes = record { plan = limits; named = named; progress = w .limits; few = let u = w .count in omega arith }
 
     opens : pathed q ≡ onto f (cond (takenBy p t (f .progress) .beyond) (record { beyond = true; entries = []; progress = f .progress }) (after (entriesBy p t (f .progress)) (pathFrom p (left - 1) (nextOf (p .automaton) (takenBy p t (f .progress) .progress .state)) (takenBy p t (f .progress) .progress))))
     unfolding pathFrom
