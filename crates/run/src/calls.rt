@@ -12,6 +12,7 @@ use time::Clock;
 use times::Progress;
 use run_window::Entry;
 use run_window::Found;
+use run_window::Sought;
 ghost use mathlib.Core.Bool.{true};
 ghost use mathlib.Core.Path.{_≡_};
 ghost use Prim.Native.Nat.{_<_};
@@ -131,7 +132,7 @@ pub fn asked(run: Run, t: Clock) -> Answer
 {
     let window = run.window;
     let psi = run.psi;
-    let found = run_window::first_due(window, psi, t);
+    let found = run_window::first(window, Sought::Due(psi, t));
     match found {
         Found::Nothing => {
             return idle(run, t);

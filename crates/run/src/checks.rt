@@ -11,8 +11,10 @@ use time::Clock;
 use run_window::Entry;
 use run_window::Found;
 use run_window::Phase;
+use run_window::Sought;
 ghost use mathlib.Core.Path.{_≡_};
 ghost use Rattle.run_window.specs.Window.{isStarted};
+ghost use Rattle.run_window.specs.Times.{AllInTime};
 ghost use Rattle.run.specs.Checks.{Timed, lateCheck, overdueCheck, orElse, readingCheck, checkOf, startedReport, reportOf};
 
 // 41: "the reading exceeds Ψ + start + slack of an unstarted node, naming the one with the earliest start"
@@ -22,7 +24,7 @@ fn check_late(run: Run, t: Clock) -> Check
 {
     let window = run.window;
     let psi = run.psi;
-    let found = run_window::first_late(window, psi, run.slack, t);
+    let found = run_window::first(window, Sought::Late(psi, run.slack, t));
     match found {
         Found::Nothing => {
             return Check::Goes;
@@ -41,7 +43,7 @@ fn check_overdue(run: Run, t: Clock) -> Check
 {
     let window = run.window;
     let psi = run.psi;
-    let found = run_window::first_overdue(window, psi, t);
+    let found = run_window::first(window, Sought::Overdue(psi, t));
     match found {
         Found::Nothing => {
             return Check::Goes;
@@ -120,10 +122,11 @@ fn started_report(i: usize, e: Entry) -> Report
 
 // 52: "no such node in the window"; then 53.
 pub fn report_of(run: Run, position: u32, node: u8) -> Report
+    requires { ⌜ AllInTime (run .window) ⌝ }
     ensures { λ r. ⌜ r ≡ reportOf run position node ⌝ }
 {
     let window = run.window;
-    let found = run_window::first_node(window, position, node);
+    let found = run_window::first(window, Sought::Node(position, node));
     match found {
         Found::Nothing => {
             return Report::Refuses(Refusal::NoSuchNode);

@@ -1,14 +1,36 @@
--- The order of ties over either time, as one definition.
+-- What a call looks for in the window, and the first place that holds it: one definition for all of them.
 use mathlib.Core.Bool.{Bool}
-use Prim.Native.Nat.{ℕ}
+use mathlib.Core.List.{List}
+use Prim.Native.Nat.{ℕ, _≤_}
+use Rattle.time.specs.Time.{horizon}
 use Rattle.run_window.specs.declared.Entry.{Entry}
-use Rattle.run_window.specs.declared.Earliest.{Earliest}
-use Rattle.run_window.specs.Window.{before}
+use Rattle.run_window.specs.declared.Found.{Found}
+use Rattle.run_window.specs.declared.Sought.{Sought}
+use Rattle.run_window.specs.Window.{isOverdue, isLate, isDue, isNode, before, first}
 
--- "the earliest specified start", for ask and 41; "the earliest completion", for 42
-abbrev pub timeOf : Earliest → Entry → ℕ
-timeOf Earliest.Start e = e .start .0
-timeOf Earliest.Completion e = e .end .0
+abbrev pub isSought : Sought → Entry → Bool
+isSought (Sought.Overdue psi t) = isOverdue psi t
+isSought (Sought.Late psi slack t) = isLate psi slack t
+isSought (Sought.Due psi t) = isDue psi t
+isSought (Sought.Node position node) = isNode position node
 
-abbrev pub sooner : Earliest → Entry → Entry → Bool
-sooner by a b = before (timeOf by a) (timeOf by b) a b
+-- "the earliest completion", for 42; "the earliest specified start", for ask and 41
+abbrev pub timeOf : Sought → Entry → ℕ
+timeOf (Sought.Overdue psi t) = λ e. e .end .0
+timeOf (Sought.Late psi slack t) = λ e. e .start .0
+timeOf (Sought.Due psi t) = λ e. e .start .0
+timeOf (Sought.Node position node) = λ e. e .start .0
+
+abbrev pub sooner : Sought → Entry → Entry → Bool
+sooner sought a b = before (timeOf sought a) (timeOf sought b) a b
+
+-- of the places that hold what is sought, the first in the order of ties
+abbrev pub firstOf : Sought → List Entry → Found
+firstOf sought w = first (isSought sought) (sooner sought) 0 w
+
+-- the times that are added to what a place stores lie within the horizon, so that every sum fits
+abbrev pub SoughtInTime : Sought → Type 0
+SoughtInTime (Sought.Overdue psi t) = psi .0 ≤ horizon
+SoughtInTime (Sought.Late psi slack t) = (psi .0 ≤ horizon) × (slack ≤ horizon)
+SoughtInTime (Sought.Due psi t) = psi .0 ≤ horizon
+SoughtInTime (Sought.Node position node) = Unit {0}

@@ -4,9 +4,9 @@ use time::Specified;
 ghost use mathlib.Core.Path.{_≡_};
 ghost use Prim.Native.Nat.{_≤_, _<_};
 ghost use Rattle.time.specs.Time.{horizon};
-ghost use Rattle.run_window.specs.Window.{vacant, isFree, startedOf, isOverdue, isLate, isDue, isNode, before, startsBefore, endsBefore, better, first};
+ghost use Rattle.run_window.specs.Window.{vacant, isFree, startedOf, isOverdue, isLate, isDue, isNode, before, better};
 ghost use Rattle.run_window.specs.Times.{InTime, AllInTime};
-ghost use Rattle.run_window.specs.Search.{timeOf, sooner};
+ghost use Rattle.run_window.specs.Search.{isSought, SoughtInTime, timeOf, sooner, firstOf};
 
 mod places; // the whole window
 
@@ -37,10 +37,16 @@ pub enum Found {
     At(usize, Entry),
 }
 
-// Which time comes first: "the earliest specified start", "the earliest completion".
-enum Earliest {
-    Start,
-    Completion,
+// What a call looks for in the window.
+pub enum Sought {
+    // Ψ and the reading
+    Overdue(Clock, Clock),
+    // Ψ, slack and the reading
+    Late(Clock, u64, Clock),
+    // Ψ and the reading
+    Due(Clock, Clock),
+    // position and node
+    Node(u32, u8),
 }
 
 // ---- one place
@@ -162,25 +168,40 @@ pub fn before(x: u64, y: u64, a: Entry, b: Entry) -> bool
     x < y
 }
 
-fn time_of(by: Earliest, e: Entry) -> u64
-    ensures { λ r. ⌜ r ≡ timeOf by e ⌝ }
+// "the earliest completion" of those that are overdue, "the earliest specified start" of the others.
+fn time_of(sought: Sought, e: Entry) -> u64
+    ensures { λ r. ⌜ r ≡ timeOf sought e ⌝ }
 {
-    match by {
-        Earliest::Start => e.start.0,
-        Earliest::Completion => e.end.0,
+    match sought {
+        Sought::Overdue(_, _) => e.end.0,
+        Sought::Late(_, _, _) => e.start.0,
+        Sought::Due(_, _) => e.start.0,
+        Sought::Node(_, _) => e.start.0,
+    }
+}
+
+fn is_sought(sought: Sought, e: Entry) -> bool
+    requires { ⌜ SoughtInTime sought × InTime e ⌝ }
+    ensures { λ r. ⌜ r ≡ isSought sought e ⌝ }
+{
+    match sought {
+        Sought::Overdue(psi, t) => is_overdue(psi, t, e),
+        Sought::Late(psi, slack, t) => is_late(psi, slack, t, e),
+        Sought::Due(psi, t) => is_due(psi, t, e),
+        Sought::Node(position, node) => is_node(position, node, e),
     }
 }
 
 // Entry e at place i, unless what was found behind it goes before it.
-fn better(by: Earliest, i: usize, e: Entry, rest: Found) -> Found
-    ensures { λ r. ⌜ r ≡ better (sooner by) i e rest ⌝ }
+fn better(sought: Sought, i: usize, e: Entry, rest: Found) -> Found
+    ensures { λ r. ⌜ r ≡ better (sooner sought) i e rest ⌝ }
 {
     match rest {
         Found::Nothing => {
             return Found::At(i, e);
         }
         Found::At(_, f) => {
-            if before(time_of(by, f), time_of(by, e), f, e) {
+            if before(time_of(sought, f), time_of(sought, e), f, e) {
                 return rest;
             }
             return Found::At(i, e);
@@ -188,68 +209,18 @@ fn better(by: Earliest, i: usize, e: Entry, rest: Found) -> Found
     }
 }
 
-// The started node with the earliest completion whose completion has come.
-pub fn first_overdue(window: [Entry; 512], psi: Clock, t: Clock) -> Found
-    requires { ⌜ (psi .0 ≤ horizon) × AllInTime window ⌝ }
-    ensures { λ r. ⌜ r ≡ first (isOverdue psi t) endsBefore 0 window ⌝ }
+// Of the places that hold what is sought, the first in the order of ties; of two like places the lower one.
+pub fn first(window: [Entry; 512], sought: Sought) -> Found
+    requires { ⌜ SoughtInTime sought × AllInTime window ⌝ }
+    ensures { λ r. ⌜ r ≡ firstOf sought window ⌝ }
 {
     let mut best = Found::Nothing;
     let mut i: usize = 512;
     while 0 < i {
         i -= 1;
         let e = window[i];
-        if is_overdue(psi, t, e) {
-            best = better(Earliest::Completion, i, e, best);
-        }
-    }
-    best
-}
-
-// The unstarted node with the earliest start that is past by more than the slack.
-pub fn first_late(window: [Entry; 512], psi: Clock, slack: u64, t: Clock) -> Found
-    requires { ⌜ (psi .0 ≤ horizon) × (slack ≤ horizon) × AllInTime window ⌝ }
-    ensures { λ r. ⌜ r ≡ first (isLate psi slack t) startsBefore 0 window ⌝ }
-{
-    let mut best = Found::Nothing;
-    let mut i: usize = 512;
-    while 0 < i {
-        i -= 1;
-        let e = window[i];
-        if is_late(psi, slack, t, e) {
-            best = better(Earliest::Start, i, e, best);
-        }
-    }
-    best
-}
-
-// "the due, unstarted node with the earliest specified start"
-pub fn first_due(window: [Entry; 512], psi: Clock, t: Clock) -> Found
-    requires { ⌜ (psi .0 ≤ horizon) × AllInTime window ⌝ }
-    ensures { λ r. ⌜ r ≡ first (isDue psi t) startsBefore 0 window ⌝ }
-{
-    let mut best = Found::Nothing;
-    let mut i: usize = 512;
-    while 0 < i {
-        i -= 1;
-        let e = window[i];
-        if is_due(psi, t, e) {
-            best = better(Earliest::Start, i, e, best);
-        }
-    }
-    best
-}
-
-// The node with this identity.
-pub fn first_node(window: [Entry; 512], position: u32, node: u8) -> Found
-    ensures { λ r. ⌜ r ≡ first (isNode position node) startsBefore 0 window ⌝ }
-{
-    let mut best = Found::Nothing;
-    let mut i: usize = 512;
-    while 0 < i {
-        i -= 1;
-        let e = window[i];
-        if is_node(position, node, e) {
-            best = better(Earliest::Start, i, e, best);
+        if is_sought(sought, e) {
+            best = better(sought, i, e, best);
         }
     }
     best

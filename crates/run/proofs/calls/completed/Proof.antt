@@ -3,7 +3,7 @@ use mathlib.Core.Path.{_≡_, sym, _∙_, ap}
 use lib.ListN.{length}
 use Rattle.plan.specs.declared.Kind.{Kind}
 use Rattle.run.specs.Calls.{kindOf, completedBy, completed}
-use Rattle.run.proofs.Checking.{unmapped, named-at, reported-names, reported-refuses}
+use Rattle.run.proofs.Checking.{unmapped, timed, named-at, reported-names, reported-refuses}
 use borrow.Author.Needs.{needs}
 use Rattle.run.proofs.calls.completed.Statement.{statement}
 use Rattle.run.proofs.calls.completed.Tie as tie
@@ -12,7 +12,7 @@ long : (c : tie.Start) → length (c .args .run .window) ≡ 512
 long c = search unmapped
 
 report-of-requires : tie.Need-report-of-requires
-report-of-requires c κs = search needs
+report-of-requires c κs = timed (c .args .run) (c .pre) .2
 
 enum-known-report : tie.Need-enum-known-report
 enum-known-report c = search needs

@@ -5,23 +5,23 @@ use borrow.Author.Needs.{needs}
 use Rattle.run.proofs.checks.check_overdue.Statement.{statement}
 use Rattle.run.proofs.checks.check_overdue.Tie as tie
 
-first-overdue-requires : tie.Need-first-overdue-requires
-first-overdue-requires c κs = (c .before .before .pre .0, c .before .before .pre .2)
+first-requires : tie.Need-first-requires
+first-requires c κs = (c .before .before .pre .0, c .before .before .pre .2)
 
 enum-told : tie.Need-enum-told
 enum-told c = search needs
 
 returns : tie.Need-returns
 unfolding overdueCheck
-returns c = simp (sym (c .before .before .first-overdue .ensures) ∙ c .enum-told .given .1)
+returns c = simp (sym (c .before .before .first .ensures) ∙ c .enum-told .given .1)
 
 enum-known-found : tie.Need-enum-known-found
 enum-known-found c = search needs
 
 returns-2 : tie.Need-returns-2
 unfolding overdueCheck
-returns-2 c = simp (sym (c .before .before .before .first-overdue .ensures) ∙ c .before .found .given .1)
+returns-2 c = simp (sym (c .before .before .before .first .ensures) ∙ c .before .found .given .1)
 
 pub check-overdue-spec : {M : Type 1} → statement M
 check-overdue-spec =
-    tie.close (tie.spec first-overdue-requires enum-told returns enum-known-found returns-2)
+    tie.close (tie.spec first-requires enum-told returns enum-known-found returns-2)

@@ -5,15 +5,15 @@ use borrow.Author.Needs.{needs}
 use Rattle.run.proofs.checks.report_of.Statement.{statement}
 use Rattle.run.proofs.checks.report_of.Tie as tie
 
-first-node-requires : tie.Need-first-node-requires
-first-node-requires c κs = search needs
+first-requires : tie.Need-first-requires
+first-requires c κs = search needs
 
 enum-told : tie.Need-enum-told
 enum-told c = search needs
 
 returns : tie.Need-returns
 unfolding reportOf
-returns c = simp (sym (c .before .before .first-node .ensures) ∙ c .enum-told .given .1)
+returns c = simp (sym (c .before .before .first .ensures) ∙ c .enum-told .given .1)
 
 enum-known-found : tie.Need-enum-known-found
 enum-known-found c = search needs
@@ -23,13 +23,13 @@ started-report-requires c κs = search needs
 
 returns-2 : tie.Need-returns-2
 unfolding reportOf
-returns-2 c = simp (sym (c .before .before .before .before .first-node .ensures) ∙ c .before .before .found .given .1) (c .started-report .ensures)
+returns-2 c = simp (sym (c .before .before .before .before .first .ensures) ∙ c .before .before .found .given .1) (c .started-report .ensures)
 
 pub report-of-spec : {M : Type 1} → statement M
 report-of-spec =
     tie.close
     (tie.spec
-    first-node-requires
+    first-requires
     enum-told
     returns
     enum-known-found

@@ -4,7 +4,7 @@ use lib.ListN.{length}
 use Rattle.plan.specs.declared.Kind.{Kind}
 use Rattle.plan.specs.Limits.{KindNames}
 use Rattle.run.specs.Calls.{kindOf, learnsBy, learns}
-use Rattle.run.proofs.Checking.{unmapped, loads-in-limits, named-at, reported-names, reported-refuses}
+use Rattle.run.proofs.Checking.{unmapped, timed, loads-in-limits, named-at, reported-names, reported-refuses}
 use borrow.Author.Needs.{needs}
 use Rattle.run.proofs.learning.learns.Statement.{statement}
 use Rattle.run.proofs.learning.learns.Tie as tie
@@ -13,7 +13,7 @@ long : (c : tie.Start) → length (c .args .run .window) ≡ 512
 long c = search unmapped
 
 report-of-requires : tie.Need-report-of-requires
-report-of-requires c κs = search needs
+report-of-requires c κs = timed (c .args .run) (c .pre) .2
 
 enum-known-report : tie.Need-enum-known-report
 enum-known-report c = search needs
