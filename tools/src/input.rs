@@ -16,7 +16,7 @@ pub struct Source {
 }
 
 /// What a file is. A plan file begins with a byte from 10 to 1F (hexadecimal), which stands in no text: so a file
-/// without control characters is text, and one of hexadecimal digits alone is hexadecimal.
+/// without control characters is text, and one of hexadecimal digits alone (and comments) is hexadecimal.
 #[derive(Clone, Debug, PartialEq, Eq)]
 pub enum Content {
     Text(String),
@@ -46,7 +46,8 @@ pub fn recognised(bytes: Vec<u8>) -> Result<Content, String> {
         Ok(text) => return Ok(Content::Bytes(text.into_bytes())),
         Err(not_text) => return Ok(Content::Bytes(not_text.into_bytes())),
     };
-    let digits: Vec<u8> = text.bytes().filter(|c| !c.is_ascii_whitespace()).collect();
+    let said = text.lines().map(|line| line.split('#').next().unwrap_or(""));
+    let digits: Vec<u8> = said.flat_map(str::bytes).filter(|c| !c.is_ascii_whitespace()).collect();
     if digits.is_empty() || !digits.iter().all(u8::is_ascii_hexdigit) {
         return Ok(Content::Text(text));
     }

@@ -109,6 +109,11 @@ fn quick_answers_by_the_rust_build_and_says_so() {
 }
 
 #[test]
+fn the_program_runs_with_no_proof() {
+    holds("with no proof");
+}
+
+#[test]
 fn packages_and_readme_name_their_versions() {
     holds("versions");
 }

@@ -42,6 +42,15 @@ impl Folder {
         path
     }
 
+    /// Another text in a file of the folder, where the mutation is one.
+    pub fn apply(&self, mutation: Mutation) {
+        let Mutation::Edit { file, old, new } = mutation else { return };
+        let path = self.path(file);
+        let text = fs::read_to_string(&path).expect("it is there");
+        assert_eq!(text.matches(old).count(), 1, "'{old}' stands once in {file}");
+        fs::write(&path, text.replace(old, new)).expect("it can be written");
+    }
+
     /// A shell script.
     pub fn script(&self, name: &str, text: &str) -> PathBuf {
         let path = self.write(name, format!("#!/bin/sh\n{text}"));
@@ -162,7 +171,7 @@ impl Repository {
         }
         let repository = Repository { folder, machine: Folder::new() };
         repository.stubs();
-        repository.apply(mutation);
+        repository.folder.apply(mutation);
         repository
     }
 
@@ -179,14 +188,6 @@ impl Repository {
         self.machine.write("rt-check", RT_CHECK);
         self.machine.write("rt-staticlib", RT_STATICLIB);
         self.machine.write("kit", "kit 1\n");
-    }
-
-    fn apply(&self, mutation: Mutation) {
-        let Mutation::Edit { file, old, new } = mutation else { return };
-        let path = self.folder.path(file);
-        let text = fs::read_to_string(&path).expect("it is there");
-        assert_eq!(text.matches(old).count(), 1, "'{old}' stands once in {file}");
-        fs::write(&path, text.replace(old, new)).expect("it can be written");
     }
 
     /// A script of the repository with these on the PATH: "rt cargo", "rt", "cargo" or "".

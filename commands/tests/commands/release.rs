@@ -26,7 +26,18 @@ impl Packing {
         let mut packing = Packing { repository, commit: String::new() };
         packing.git(&["init", "--quiet"]);
         packing.git(&["add", "--all"]);
-        packing.git(&["-c", "user.name=a", "-c", "user.email=a@b", "commit", "--quiet", "--message", "a"]);
+        packing.git(&[
+            "-c",
+            "user.name=a",
+            "-c",
+            "user.email=a@b",
+            "-c",
+            "commit.gpgsign=false",
+            "commit",
+            "--quiet",
+            "--message",
+            "a",
+        ]);
         packing.commit = packing.git(&["rev-parse", "HEAD"]).trim().to_string();
         packing
     }

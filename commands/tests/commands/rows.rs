@@ -131,6 +131,15 @@ pub const ROWS: &[Row] = &[
         ],
     ),
     Row(
+        "with no proof",
+        set_up::with_no_proof,
+        &[Edit {
+            file: "crates/plan/src/lib.rt",
+            old: "pub mod numbers;",
+            new: "pub mod wire;\npub mod numbers;",
+        }],
+    ),
+    Row(
         "versions",
         set_up::versions,
         &[

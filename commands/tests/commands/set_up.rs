@@ -169,6 +169,38 @@ pub fn quick(mutation: Mutation) -> Answer {
     is("what quick builds", repository.asked() == format!("{BUILD} --features quick --bin quick\n"))
 }
 
+/// `rt try` runs the program with no proof: no module bears the name of a crate.
+pub fn with_no_proof(mutation: Mutation) -> Answer {
+    let folder = Folder::new();
+    fs::copy(root().join("crates.txt"), folder.path("crates.txt")).expect("it can be copied");
+    fs::create_dir_all(folder.path("crates/plan/src")).expect("a folder can be made");
+    for entry in
+        fs::read_dir(root().join("crates")).expect("it is there").map(|entry| entry.expect("it is there"))
+    {
+        if entry.file_name() != "plan" {
+            symlink(entry.path(), folder.path("crates").join(entry.file_name())).expect("a link can be made");
+        }
+    }
+    for entry in fs::read_dir(root().join("crates/plan/src"))
+        .expect("it is there")
+        .map(|entry| entry.expect("it is there"))
+    {
+        fs::copy(entry.path(), folder.path("crates/plan/src").join(entry.file_name()))
+            .expect("it can be copied");
+    }
+    if let Mutation::Edit { .. } = mutation {
+        folder.write("crates/plan/src/wire.rt", "// nothing\n");
+    }
+    folder.apply(mutation);
+    let mut rt = Command::new("rt");
+    rt.args(["try", "timetable"]).current_dir(&folder.0);
+    let said = ask(rt);
+    is(
+        &format!("{said:?}"),
+        said.status == Some(0) && said.out.matches("\nok: the native program").count() == 3,
+    )
+}
+
 /// Every package says which Rust it needs, README the same, and the versions are that of VERSION.
 pub fn versions(mutation: Mutation) -> Answer {
     let repository = Repository::new(mutation);
