@@ -77,7 +77,7 @@ impl Digits {
     fn digit(&mut self, digit: u8) {
         self.group += 1;
         if broken(Broken::SlowDigits) {
-            std::thread::sleep(std::time::Duration::from_micros(50));
+            std::thread::sleep(std::time::Duration::from_micros(500));
         }
         match self.first.take() {
             None => self.first = Some(digit),

@@ -12,7 +12,7 @@ macro_rules! toggles {
 }
 
 toggles! {
-    SlowDigits: "a digit of a hexadecimal plan takes 50 microseconds",
+    SlowDigits: "a digit of a hexadecimal plan takes half a millisecond",
     SlowOutcomes: "an outcome takes a millisecond",
     OutcomeAbove255: "an outcome of 256 is taken as 0",
     WriteFailureIgnored: "output that fails is not looked at",

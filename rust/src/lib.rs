@@ -23,7 +23,7 @@ pub mod timetable;
 pub mod toggles;
 pub mod verdict;
 
-#[cfg(test)]
+#[cfg(all(test, feature = "comparison"))]
 mod tests;
 
 /// A number of document 01 and its place.

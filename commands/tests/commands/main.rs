@@ -16,6 +16,9 @@ mod set_up;
 use jidlekuvo_commands::toggles::ALL;
 use places::Mutation::{None, Toggle};
 use rows::{Row, ROWS};
+use std::sync::atomic::{AtomicUsize, Ordering};
+use std::sync::Mutex;
+use std::thread;
 
 fn holds(name: &str) {
     let row = ROWS.iter().find(|row| row.0 == name).expect("there is such a row");
@@ -135,17 +138,26 @@ fn the_commands_of_this_repository_answer() {
 
 #[test]
 fn every_mutation_is_noticed_by_its_row() {
-    let mut missed = Vec::new();
-    for Row(name, check, mutations) in ROWS {
-        for mutation in *mutations {
-            match check(*mutation) {
-                Err(_) => println!("noticed by {name}: {mutation:?}"),
-                Ok(()) => missed.push(format!("{name}: {mutation:?}")),
-            }
+    let all: Vec<_> =
+        ROWS.iter().flat_map(|row| row.2.iter().map(move |mutation| (row, *mutation))).collect();
+    let (next, missed) = (AtomicUsize::new(0), Mutex::new(Vec::new()));
+    // most of the time is waiting
+    thread::scope(|scope| {
+        for _ in 0..4 {
+            scope.spawn(|| {
+                while let Some((Row(name, check, _), mutation)) =
+                    all.get(next.fetch_add(1, Ordering::Relaxed))
+                {
+                    match check(*mutation) {
+                        Err(_) => println!("noticed by {name}: {mutation:?}"),
+                        Ok(()) => missed.lock().unwrap().push(format!("{name}: {mutation:?}")),
+                    }
+                }
+            });
         }
-    }
+    });
+    let missed = missed.into_inner().unwrap();
     assert!(missed.is_empty(), "not noticed: {missed:#?}");
-    let is_tried =
-        |name: &str| ROWS.iter().any(|row| row.2.iter().any(|m| matches!(m, Toggle(n) if *n == name)));
+    let is_tried = |name: &str| all.iter().any(|(_, mutation)| matches!(mutation, Toggle(n) if *n == name));
     assert!(ALL.iter().all(|(_, name, _)| is_tried(name)), "a toggle that no row tries");
 }

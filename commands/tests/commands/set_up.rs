@@ -1,12 +1,13 @@
 //! How the scripts set up what they need, row by row, in a little repository.
 
-use crate::asking::{ask, is, said, same, Answer};
+use crate::asking::{ask, ask_within, is, said, same, Answer};
 use crate::output::set_up;
 use crate::places::{root, Commands, Folder, Mutation, Repository};
 use crate::plans::{note, t, wanted};
 use std::fs;
 use std::os::unix::fs::symlink;
 use std::process::Command;
+use std::time::Duration;
 
 const BUILD: &str =
     "cargo build --quiet --release --offline --manifest-path commands/Cargo.toml --target-dir commands/target";
@@ -194,7 +195,7 @@ pub fn with_no_proof(mutation: Mutation) -> Answer {
     folder.apply(mutation);
     let mut rt = Command::new("rt");
     rt.args(["try", "timetable"]).current_dir(&folder.0);
-    let said = ask(rt);
+    let said = ask_within(Duration::from_secs(600), rt, b"");
     is(
         &format!("{said:?}"),
         said.status == Some(0) && said.out.matches("\nok: the native program").count() == 3,
