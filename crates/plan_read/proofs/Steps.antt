@@ -6,6 +6,7 @@ use Rattle.plan.specs.Fields.{onStep}
 use Rattle.plan.specs.Sections.{eventsAt, activitiesAt}
 use Rattle.plan.specs.Moves.{automatonAt}
 use Rattle.plan.specs.Reading.{noPlan, withAutomaton, withActivities, withEvents, withPeripherals}
+use Rattle.plan.specs.declared.Fault.{Fault}
 use Rattle.plan.specs.declared.fields.Step.{Step}
 use Rattle.plan.specs.declared.fields.PeripheralsRead.{PeripheralsRead}
 use Rattle.plan.specs.declared.fields.EventsRead.{EventsRead}
@@ -23,6 +24,10 @@ module _ (b : List ℕ) (m resources next : ℕ) (x : PeripheralsRead) (e : Even
     unfolding withEvents
     after-events s is =
         rw is (sym (ap (λ (v : Step). onStep v (λ n. withActivities b resources x e (activitiesAt (x .count) resources (e .count) b m n)) noPlan) s))
+
+    pub activities-refused : (f : Fault) (p : ℕ) → a .step ≡ Step.Refused f p → noPlan f p ≡ withActivities b resources x e a
+    unfolding withActivities
+    activities-refused f p s = sym (ap (λ (v : Step). onStep v (λ n. withAutomaton b resources x e a (automatonAt (e .count) (e .outcomes) (a .count) b n)) noPlan) s)
 
     pub after-activities : (t : AutomatonRead) → a .step ≡ Step.Read next → t ≡ automatonAt (e .count) (e .outcomes) (a .count) b next
         → withAutomaton b resources x e a t ≡ withActivities b resources x e a

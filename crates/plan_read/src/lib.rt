@@ -12,7 +12,7 @@ use plan::fields::Step;
 ghost use mathlib.Core.Path.{_≡_};
 ghost use Prim.Native.Nat.{_≤_};
 ghost use Rattle.plan.specs.Sections.{resourcesAt};
-ghost use Rattle.plan.specs.Reading.{zeroPlan, noPlan, sectionsAt, endedAt, planOf, withAutomaton, withActivities, withEvents, withPeripherals, planAt, readPlan};
+ghost use Rattle.plan.specs.Reading.{zeroPlan, noPlan, sectionsAt, endedAt, planOf, withAutomaton, withEvents, withPeripherals, planAt, readPlan};
 
 // A plan of zeros.
 pub fn zero_plan() -> Plan
@@ -115,27 +115,7 @@ fn with_automaton(
     }
 }
 
-fn with_activities(
-    bytes: &[u8],
-    resources: u8,
-    x: PeripheralsRead,
-    e: EventsRead,
-    a: ActivitiesRead,
-) -> PlanRead
-    requires { ⌜ e .count ≤ 16 ⌝ }
-    ensures { λ r. ⌜ r ≡ withActivities (now (bytes .entry)) resources x e a ⌝ }
-{
-    let v = a.step;
-    match v {
-        Step::Refused(f, p) => no_plan(f, p),
-        Step::Read(next) => {
-            let outcomes = e.outcomes;
-            let t = plan_automaton::automaton_at(bytes, next, e.count, outcomes, a.count);
-            with_automaton(bytes, resources, x, e, a, t)
-        }
-    }
-}
-
+// What was read of the activities is not handed on before the automaton is read.
 fn with_events(bytes: &[u8], m: u8, resources: u8, x: PeripheralsRead, e: EventsRead) -> PlanRead
     requires { ⌜ e .count ≤ 16 ⌝ }
     ensures { λ r. ⌜ r ≡ withEvents (now (bytes .entry)) m resources x e ⌝ }
@@ -145,7 +125,15 @@ fn with_events(bytes: &[u8], m: u8, resources: u8, x: PeripheralsRead, e: Events
         Step::Refused(f, p) => no_plan(f, p),
         Step::Read(next) => {
             let a = plan_sections::activities_at(bytes, next, m, x.count, resources, e.count);
-            with_activities(bytes, resources, x, e, a)
+            let w = a.step;
+            match w {
+                Step::Refused(f, p) => no_plan(f, p),
+                Step::Read(after) => {
+                    let outcomes = e.outcomes;
+                    let t = plan_automaton::automaton_at(bytes, after, e.count, outcomes, a.count);
+                    with_automaton(bytes, resources, x, e, a, t)
+                }
+            }
         }
     }
 }

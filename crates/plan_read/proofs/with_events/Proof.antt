@@ -1,16 +1,11 @@
--- What follows the events.
+-- What follows the events: the activities, then the automaton.
 use denote.Ref.{now}
-use Rattle.plan_read.proofs.Steps.{after-events}
-use mathlib.Core.Path.{_≡_, refl, sym, _∙_, ap, subst}
+use mathlib.Core.Path.{_∙_}
+use Rattle.plan_read.proofs.Steps.{after-events, activities-refused, after-activities}
 use Rattle.plan.specs.Reading.{withEvents}
 use borrow.Author.Needs.{needs}
 use Rattle.plan_read.proofs.with_events.Statement.{statement}
 use Rattle.plan_read.proofs.with_events.Tie as tie
-use Rattle.plan_read.proofs.with_events.Reads as reads
-use Rattle.plan_read.proofs.with_events.Lts as lts
-use Rattle.plan_read.proofs.no_plan.Reads as no-plan-reads
-use Rattle.plan_read.proofs.with_activities.Reads as with-activities-reads
-use Rattle.plan_sections.proofs.activities_at.Reads as activities-at-reads
 
 enum-known-v : tie.Need-enum-known-v
 enum-known-v c = search needs
@@ -24,15 +19,36 @@ enum-known-v-2 c = search needs
 activities-at-requires : tie.Need-activities-at-requires
 activities-at-requires c κs = search needs
 
-with-activities-requires : tie.Need-with-activities-requires
-with-activities-requires c κs = search needs
+enum-known-w : tie.Need-enum-known-w
+enum-known-w c = search needs
+
+no-plan-requires-2 : tie.Need-no-plan-requires-2
+no-plan-requires-2 c κs = search needs
+
+enum-known-w-2 : tie.Need-enum-known-w-2
+enum-known-w-2 c = search needs
+
+automaton-at-requires : tie.Need-automaton-at-requires
+automaton-at-requires c κs = search needs
+
+with-automaton-requires : tie.Need-with-automaton-requires
+with-automaton-requires c κs = search needs
 
 returns : tie.Need-returns
 unfolding withEvents
 returns c = rw (c .before .before .v .given .1) (c .no-plan .ensures)
 
 returns-2 : tie.Need-returns-2
-returns-2 c = c .with-activities .ensures ∙ after-events (now (c .before .before .before .before .before .before .args .bytes)) (c .before .before .before .before .before .before .args .m) (c .before .before .before .before .before .before .args .resources) _ (c .before .before .before .before .before .before .args .x) (c .before .before .before .before .before .before .args .e) _ (c .before .before .before .v2 .given .1) (c .before .activities-at .ensures)
+returns-2 c =
+    let s = c .before .before .before .before .before .before .before .before .before .args in
+    c .no-plan2 .ensures ∙ activities-refused (now (s .bytes)) (s .m) (s .resources) 0 (s .x) (s .e) (c .before .before .before .before .activities-at .result) _ _ (c .before .before .w .given .1)
+    ∙ after-events (now (s .bytes)) (s .m) (s .resources) _ (s .x) (s .e) _ (c .before .before .before .before .before .before .v2 .given .1) (c .before .before .before .before .activities-at .ensures)
+
+returns-3 : tie.Need-returns-3
+returns-3 c =
+    let s = c .before .before .before .before .before .before .before .before .before .before .before .args in
+    c .with-automaton .ensures ∙ after-activities (now (s .bytes)) (s .m) (s .resources) _ (s .x) (s .e) (c .before .before .before .before .before .before .activities-at .result) _ (c .before .before .before .before .w2 .given .1) (c .before .automaton-at .ensures)
+    ∙ after-events (now (s .bytes)) (s .m) (s .resources) _ (s .x) (s .e) _ (c .before .before .before .before .before .before .before .before .v2 .given .1) (c .before .before .before .before .before .before .activities-at .ensures)
 
 pub with-events-spec : {M : Type 1} → statement M
 with-events-spec =
@@ -42,6 +58,11 @@ with-events-spec =
     no-plan-requires
     enum-known-v-2
     activities-at-requires
-    with-activities-requires
+    enum-known-w
+    no-plan-requires-2
+    enum-known-w-2
+    automaton-at-requires
+    with-automaton-requires
     returns
-    returns-2)
+    returns-2
+    returns-3)
