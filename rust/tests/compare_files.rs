@@ -78,10 +78,10 @@ fn verdicts_on_the_largest_plans_agree() {
 
 /// What writing back must answer and leave in the buffer.
 #[cfg(feature = "rattle_write_back")]
-fn expected_write(bytes: &[u8], buffer: &mut [u8]) -> u64 {
-    match read(bytes) {
+fn expected_write(plan: &Result<Plan, Fault>, buffer: &mut [u8]) -> u64 {
+    match plan {
         Err(fault) => fault.word(),
-        Ok(plan) => match jidlekuvo_reference::plan_file::write(&plan, buffer) {
+        Ok(plan) => match jidlekuvo_reference::plan_file::write(plan, buffer) {
             Ok(length) => length as u64,
             Err(fault) => fault.word(),
         },
@@ -90,9 +90,15 @@ fn expected_write(bytes: &[u8], buffer: &mut [u8]) -> u64 {
 
 #[cfg(feature = "rattle_write_back")]
 fn writes_differ(bytes: &[u8], room: usize, fill: u8) -> Option<String> {
+    writes_of(bytes, &read(bytes), room, fill)
+}
+
+/// The same of bytes that have been read.
+#[cfg(feature = "rattle_write_back")]
+fn writes_of(bytes: &[u8], plan: &Result<Plan, Fault>, room: usize, fill: u8) -> Option<String> {
     let mut ours = vec![fill; room];
     let mut theirs = vec![fill; room];
-    let wanted = expected_write(bytes, &mut ours);
+    let wanted = expected_write(plan, &mut ours);
     let answer = rattle::write_back(bytes, &mut theirs);
     if wanted == answer && ours == theirs {
         return None;
@@ -110,14 +116,15 @@ fn written_back_agrees() {
             false => encode(&plans::any_plan(random)),
         };
         let fill = random.next() as u8;
+        let plan = read(&bytes);
         let around = bytes.len().saturating_sub(4)..bytes.len() + 5;
         for room in around.chain([0, random.below(bytes.len() + 1)]) {
-            if let Some(what) = writes_differ(&bytes, room, fill) {
+            if let Some(what) = writes_of(&bytes, &plan, room, fill) {
                 let smallest = smallest_file(&bytes, |tried| writes_differ(tried, room, fill).is_some());
                 return Err(Failure::new(what, &smallest));
             }
         }
-        hits.verdict(read(&bytes).err().map(|fault| fault.number));
+        hits.verdict(plan.err().map(|fault| fault.number));
         Ok(())
     };
     let cases = settings::cases(100_000);

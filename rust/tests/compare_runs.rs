@@ -21,29 +21,28 @@ fn length_of(input: &[u8]) -> usize {
     decode(input).map_or(0, |(_, calls)| (calls.len() + 1) * RECORD)
 }
 
-/// Where the two builds differ on an input and a buffer so long, if they do.
-fn difference(input: &[u8], length: usize) -> Option<String> {
+/// What the Rattle side writes into a buffer so long, or where the two builds differ.
+fn alike(input: &[u8], length: usize) -> Result<Vec<u8>, String> {
     let (mut ours, mut theirs) = (buffer(length), buffer(length));
     let wanted = drive(input, &mut ours);
     let written = rattle::drive(input, &mut theirs);
     if wanted == written && ours == theirs {
-        return None;
+        return Ok(theirs);
     }
     let at = (0..length / RECORD).find(|n| ours[n * RECORD..][..RECORD] != theirs[n * RECORD..][..RECORD]);
     let told = |out: &[u8]| at.map(|n| out[n * RECORD..][..RECORD].to_vec());
-    Some(format!(
+    Err(format!(
         "record {at:?} (0 is the opening): Rust {:?}, Rattle {:?}; answers {wanted}, {written}",
         told(&ours),
         told(&theirs)
     ))
 }
 
-fn compared(input: &[u8], length: usize) -> Result<(), Failure> {
-    if difference(input, length).is_none() {
-        return Ok(());
-    }
-    let smallest = smallest_call_list(input, |tried| difference(tried, length).is_some());
-    Err(Failure::new(difference(&smallest, length).unwrap_or_default(), &smallest))
+fn compared(input: &[u8], length: usize) -> Result<Vec<u8>, Failure> {
+    alike(input, length).map_err(|_| {
+        let smallest = smallest_call_list(input, |tried| alike(tried, length).is_err());
+        Failure::new(alike(&smallest, length).err().unwrap_or_default(), &smallest)
+    })
 }
 
 /// A buffer that is too short: 36, and it stays as it was.
@@ -55,23 +54,23 @@ fn refused_for(input: &[u8], length: usize) -> Result<(), Failure> {
     Err(Failure::new(format!("no 36 for a buffer of {length} bytes"), input))
 }
 
-/// A few bytes over; and now and then an exact fit, one byte too few, and any length below.
-fn buffers_compared(random: &mut Random, input: &[u8]) -> Result<(), Failure> {
+/// An exact fit or a few bytes over; and now and then both, one byte too few, and any length below. Gives the Rattle
+/// side's records.
+fn buffers_compared(random: &mut Random, input: &[u8]) -> Result<Vec<u8>, Failure> {
     let length = length_of(input);
-    compared(input, length + 5)?;
-    if length == 0 || !random.one_in(30) {
-        return Ok(());
+    let over = random.pick(&[0, 5]);
+    let mut records = compared(input, length + over)?;
+    records.truncate(length);
+    if length > 0 && random.one_in(30) {
+        compared(input, length + 5 - over)?;
+        refused_for(input, length - 1)?;
+        refused_for(input, random.below(length))?;
     }
-    compared(input, length)?;
-    refused_for(input, length - 1)?;
-    refused_for(input, random.below(length))
+    Ok(records)
 }
 
 /// Demand 3 on what the Rattle side answered.
-fn demand_3_holds(input: &[u8], hits: &mut Hits) -> Result<(), Failure> {
-    let mut out = buffer(length_of(input));
-    let written = rattle::drive(input, &mut out);
-    let records = out.get(..written).ok_or_else(|| Failure::new("36 for an exact fit", input))?;
+fn demand_3_holds(input: &[u8], records: &[u8], hits: &mut Hits) -> Result<(), Failure> {
     let Some(log) = log::from_records(input, records) else { return Ok(()) };
     hits.log(&log);
     if log.answer.is_err() || log.calls.len() > 60 {
@@ -90,8 +89,8 @@ fn demand_3_holds(input: &[u8], hits: &mut Hits) -> Result<(), Failure> {
 fn call_lists_agree() {
     let case = |random: &mut Random, hits: &mut Hits| {
         let input = inputs::call_list(random);
-        buffers_compared(random, &input)?;
-        demand_3_holds(&input, hits)
+        let records = buffers_compared(random, &input)?;
+        demand_3_holds(&input, &records, hits)
     };
     let cases = settings::cases(50_000);
     let hits = in_threads(settings::seed(), cases, case).unwrap_or_else(|what| panic!("{what}"));

@@ -86,6 +86,9 @@ pub fn target_folder() -> std::path::PathBuf {
     }
 }
 
+/// So many bytes go into an empty pipe without waiting, on Linux.
+const HELD_BY_A_PIPE: usize = 65_536;
+
 /// Runs the program *timetable* on an input and gives what it prints.
 pub fn timetable(input: &[u8]) -> std::io::Result<Vec<u8>> {
     use std::io::Write;
@@ -93,9 +96,14 @@ pub fn timetable(input: &[u8]) -> std::io::Result<Vec<u8>> {
     let program = target_folder().join("bin/timetable");
     let mut child = Command::new(program).stdin(Stdio::piped()).stdout(Stdio::piped()).spawn()?;
     let mut stdin = child.stdin.take().expect("stdin is piped");
+    // The program need not read its input to the end (spare outcomes are not read), so a broken pipe
+    // is no fault. Input and output may both be longer than a pipe holds.
+    if input.len() <= HELD_BY_A_PIPE {
+        drop(stdin.write_all(input));
+        drop(stdin);
+        return Ok(child.wait_with_output()?.stdout);
+    }
     let lent = input.to_vec();
-    // Input and output may both be longer than a pipe holds. The program need not read its input
-    // to the end (spare outcomes are not read), so a broken pipe is no fault.
     let feeder = std::thread::spawn(move || drop(stdin.write_all(&lent)));
     let output = child.wait_with_output()?;
     let _ = feeder.join();
