@@ -1,5 +1,4 @@
 pub mod Checking
 pub mod Loaded
 pub mod Opens
-pub mod Onward
 pub mod Telling

@@ -1,59 +1,71 @@
--- Loading: the run after a path, by the three ways that loading one path can go.
-use mathlib.Core.Path.{_≡_, sym, _∙_, ap}
-use mathlib.Core.Bool.{true, false}
+-- Loading of a run is loading of its plan, its progress and its window.
+use mathlib.Core.Path.{_≡_, refl, sym, _∙_, ap}
+use mathlib.Core.Bool.{Bool, true, false, cond}
 use mathlib.Core.List.{List}
-use Prim.Native.Nat.{_≤_, _<_}
-use native.Mathlib.Omega.{arith}
-use borrow.Author.Tests.{lt-ltb, le-ltb}
-use lib.ListN.{length, take}
+use Prim.Native.Nat.{ℕ, zero, suc}
+use lib.Dec.{ltb}
+use lib.ListN.{length}
+use Rattle.time.specs.declared.Clock.{Clock}
+use Rattle.automaton.specs.Next.{nextOf}
 use Rattle.automaton.specs.declared.Next.{Next}
 use Rattle.times.specs.declared.Progress.{Progress}
+use Rattle.run_window.specs.Window.{vacancies}
 use Rattle.run_window.specs.declared.Entry.{Entry}
-use Rattle.run_window.specs.Window.{placed, vacancies}
 use Rattle.run_path.specs.Path.{Path, pathFrom, longestPath}
-use Rattle.run_path.specs.Pathed.{pathed, Loads}
-use Rattle.run_path.specs.declared.Pathed.{Pathed}
-use Rattle.run_path.specs.Laws.InTime.{loads, placed-all}
+use Rattle.run_outcomes.specs.Way.{wayOn}
+use Rattle.run_loading.specs.Loading as parts
+use Rattle.run_loading.specs.declared.Loading as declared
+use Rattle.run_loading.specs.declared.Failure.{Failure}
 use Rattle.run.specs.declared.Run.{Run}
-use Rattle.run.specs.declared.Failure.{Failure}
-use Rattle.run.specs.Calls.{heard}
-use Rattle.run.specs.Loading.{loading, withPath, loadPath, load}
-use Rattle.run.specs.Loads.{Loadable}
+use Rattle.run.specs.declared.Answer.{Answer}
+use Rattle.run.specs.Calls.{heard, cleared, afterLoading, learnt}
+use Rattle.run.specs.Loading.{Loading, loading, loadPath, load, onWay, onLoading, further, mostPending}
+use Rattle.run.specs.Inner.{replyAfter, haltAfter}
 
--- ---- the three ways
+-- the run with what loading made of its progress and its window
+abbrev pub within : Run → declared.Loading → Loading
+within run l = loading (l .failure) (heard run (run .last) (run .halt) (l .progress) (l .window))
 
-module _ (run : Run) (q : Path) where
-  path-beyond : q .beyond ≡ true → loadPath run q ≡ loading Failure.Beyond run
-  path-beyond b = rw b
+module _ (run : Run) where
+  by-path : (q : Path) (b c : Bool) → q .beyond ≡ b → ltb (vacancies (run .window)) (length (q .entries)) ≡ c → loadPath run q ≡ within run (parts.loadPath (run .progress) (run .window) q)
+  by-path q true c e f = rw e
+  by-path q false true e f = rw (e, f)
+  by-path q false false e f = rw (e, f)
 
-  path-full : q .beyond ≡ false → vacancies (run .window) < length (q .entries) → loadPath run q ≡ loading Failure.Full run
-  path-full b l = let h = lt-ltb _ _ l in rw (b, h)
+  pub load-parts : (next : Next) → load run next ≡ within run (parts.load (run .plan) next (run .progress) (run .window))
+  unfolding load parts.load
+  load-parts next = by-path (pathFrom (run .plan) longestPath next (run .progress)) _ _ refl refl
 
-  path-placed : q .beyond ≡ false → length (q .entries) ≤ vacancies (run .window) → loadPath run q ≡ loading Failure.None (withPath run q)
-  path-placed b l = let h = le-ltb _ _ l in rw (b, h)
+pub further-parts : (k : ℕ) (run : Run) → further k run ≡ within run (parts.further (run .plan) k (run .progress) (run .window))
+unfolding further parts.further
+further-parts zero run = refl
+further-parts (suc k) run = by-way (further-parts k) (wayOn (run .plan .automaton) (run .progress) (nextOf (run .plan .automaton) (run .progress .state)))
+  where
+    then-on : ((r : Run) → further k r ≡ within r (parts.further (r .plan) k (r .progress) (r .window))) → (l : declared.Loading) (f : Failure) → l .failure ≡ f → onLoading (within run l) (further k) ≡ within run (parts.onLoading l (parts.further (run .plan) k))
+    then-on later l Failure.None e = rw e (later (within run l .run))
+    then-on later l Failure.Full e = rw e
+    then-on later l Failure.Beyond e = rw e
 
--- ---- by the path as the code has it
+    by-way : ((r : Run) → further k r ≡ within r (parts.further (r .plan) k (r .progress) (r .window))) → (n : Next) → onWay n (λ t. onLoading (load run (Next.Goes t)) (further k)) (loading Failure.None run) ≡ within run (onWay n (λ t. parts.onLoading (parts.load (run .plan) (Next.Goes t) (run .progress) (run .window)) (parts.further (run .plan) k)) (parts.loading Failure.None (run .progress) (run .window)))
+    by-way later Next.Ended = refl
+    by-way later (Next.Waits e) = refl
+    by-way later (Next.Goes t) =
+        let l = parts.load (run .plan) (Next.Goes t) (run .progress) (run .window) in
+        ap (λ (x : Loading). onLoading x (further k)) (load-parts run (Next.Goes t)) ∙ then-on later l (l .failure) refl
 
-module _ (run : Run) (next : Next) (able : Loadable run next) (r : Pathed) (e : r ≡ pathed (pathFrom (run .plan) longestPath next (run .progress))) where
-  abbrev the-path : Path
-  the-path = pathFrom (run .plan) longestPath next (run .progress)
+-- ---- the answer to an outcome
 
-  found : Loads (run .plan) the-path r
-  found = loads (run .plan) (able .loads .plan) next (run .progress) (able .leads) (able .loads .progress) r e
+module _ (run : Run) (t : Clock) (i : ℕ) (g : Progress) where
+  abbrev pub answered : declared.Loading → Answer
+  answered l = record { reply = replyAfter (l .failure); run = heard run t (haltAfter (l .failure)) (l .progress) (l .window) }
 
-  pub load-beyond : r .beyond ≡ true → load run next ≡ loading Failure.Beyond run
-  unfolding load
-  load-beyond b = path-beyond run the-path (sym (found .beyond) ∙ b)
+  by-failure : (l : declared.Loading) (f : Failure) → l .failure ≡ f → answered l ≡ afterLoading (l .failure) (heard run t (cleared run t i g .halt) (l .progress) (l .window))
+  by-failure l Failure.None e = rw e
+  by-failure l Failure.Full e = rw e
+  by-failure l Failure.Beyond e = rw e
 
-  pub load-full : r .beyond ≡ false → vacancies (run .window) < r .count → load run next ≡ loading Failure.Full run
-  unfolding load
-  load-full b l = let n = found .count in path-full run the-path (sym (found .beyond) ∙ b) (omega arith)
-
-  pub load-placed : r .beyond ≡ false → r .count ≤ vacancies (run .window) → length (run .window) ≡ 512
-      → load run next ≡ loading Failure.None (heard run (run .last) (run .halt) (r .progress) (placed (run .window) (take (r .count) (r .entries))))
-  unfolding load
-  load-placed b l w =
-      let n = found .count in
-      path-placed run the-path (sym (found .beyond) ∙ b) (omega arith)
-      ∙ ap (λ (g : Progress). loading Failure.None (heard run (run .last) (run .halt) g (placed (run .window) (the-path .entries)))) (sym (found .progress))
-      ∙ ap (λ (es : List Entry). loading Failure.None (heard run (run .last) (run .halt) (r .progress) es)) (sym (placed-all (run .plan) the-path r found (run .window) w l))
+  pub learnt-parts : (l : declared.Loading) → l ≡ parts.further (run .plan) mostPending g (cleared run t i g .window) → answered l ≡ learnt (cleared run t i g)
+  learnt-parts l e =
+      by-failure l (l .failure) refl
+      ∙ ap (λ (x : declared.Loading). afterLoading (x .failure) (heard run t (cleared run t i g .halt) (x .progress) (x .window))) e
+      ∙ sym (ap (λ (x : Loading). afterLoading (x .failure) (x .run)) (further-parts mostPending (cleared run t i g)))

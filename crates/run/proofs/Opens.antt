@@ -4,7 +4,7 @@ use mathlib.Core.Bool.{true, false}
 use mathlib.Core.List.{List}
 use Prim.Native.Nat.{ℕ, _<_, _≤_}
 use borrow.Author.Tests.{lt-ltb, le-ltb, eq-eqb, ne-eqb}
-use lib.ListN.{length, getD}
+use lib.ListN.{length, getD, replicate}
 use Rattle.time.specs.Time.{horizon}
 use Rattle.time.specs.declared.Clock.{Clock}
 use Rattle.plan.specs.Limits.{InLimits}
@@ -20,15 +20,27 @@ use Rattle.run_opening.specs.Given.{atFirst, availabilities, anyAbove}
 use Rattle.run_opening.specs.Short.{onShort}
 use Rattle.run_opening.specs.Laws.{first-in}
 use Rattle.run.specs.Limits.{slackInLimits}
-use Rattle.run.specs.Loads.{Loads}
-use Rattle.run.specs.Opening.{fresh, unopened, openPlan, openJudged, openOf}
+use Rattle.automaton.specs.Next.{nextOf}
+use Rattle.times.specs.declared.Progress.{Progress}
+use Rattle.run_window.specs.Window.{vacant}
+use Rattle.run_loading.specs.Inner.{Loads}
+use Rattle.run_loading.specs.Loading.{load}
+use Rattle.run_loading.specs.declared.Loading.{Loading}
+use Rattle.run.proofs.Loaded.{load-parts}
+use Rattle.run.specs.Opening.{uncalled, fresh, unopened, afterFirst, firstLoaded, begin, openPlan, openJudged, openOf}
 use Rattle.run.specs.Inner.{firstPath}
 
 -- ---- the run at its opening
 
-pub fresh-loads : (p : Plan) → InLimits p → (psi : Clock) (slack : ℕ) (ts : List ℕ) → anyAbove ts ≡ false
-    → Loads (fresh p psi slack (atFirst (availabilities ts) (p .automaton .initial)))
-fresh-loads p limits psi slack ts early = record { plan = limits; progress = first-in p limits ts early }
+pub first-loads : (p : Plan) → InLimits p → (ts : List ℕ) → anyAbove ts ≡ false → Loads p (atFirst (availabilities ts) (p .automaton .initial))
+first-loads p limits ts early = record { plan = limits; progress = first-in p limits ts early }
+
+-- what its first path makes of it
+pub begins : (p : Plan) (psi : Clock) (slack : ℕ) (g : Progress) (l : Loading) → l ≡ load p (nextOf (p .automaton) (p .automaton .initial)) g (replicate 512 vacant)
+    → afterFirst (l .failure) (uncalled p psi slack (l .progress) (l .window)) ≡ begin (fresh p psi slack g)
+begins p psi slack g l e =
+    ap (λ (x : Loading). afterFirst (x .failure) (uncalled p psi slack (x .progress) (x .window))) e
+    ∙ sym (ap firstLoaded (load-parts (fresh p psi slack g) (nextOf (p .automaton) (p .automaton .initial))))
 
 -- ---- 33
 

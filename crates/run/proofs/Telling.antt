@@ -4,17 +4,17 @@ use mathlib.Core.List.{List, [], _∷_}
 use Prim.Native.Nat.{ℕ, zero, suc, _+_, _*_, _≤_, _<_}
 use native.Mathlib.Omega.{arith}
 use lib.ListN.{getD, set}
-use Rattle.time.specs.declared.Clock.{Clock}
 use Rattle.plan.specs.Plan.{outcomesOf}
 use Rattle.times.specs.declared.Instance.{Instance}
+use Rattle.times.specs.declared.Progress.{Progress}
 use Rattle.times.specs.Queues.{noInstance, pendingOf}
 use Rattle.times.specs.Limits.{InstanceInLimits}
 use Rattle.run_window.specs.declared.Entry.{Entry}
 use Rattle.run_window.specs.Tests.{by-test}
 use Rattle.run.specs.declared.Run.{Run}
-use Rattle.run_outcomes.specs.Told.{tell, isInstance, toldFrom}
+use Rattle.run_outcomes.specs.Told.{tell, isInstance, toldFrom, toldOf}
+use Rattle.run_loading.specs.Inner as parts
 use Rattle.run.specs.Loads.{Loads}
-use Rattle.run.specs.Inner.{toldRun}
 
 -- what holds of every place, and of one place once it is told, holds of every place once that one is told
 set-each : (Q : ℕ → Instance → Type 0) (xs : List Instance) (i : ℕ) (v : Instance) → ((j : ℕ) → Q j (getD xs j noInstance)) → Q i v → (j : ℕ) → Q j (getD (set xs i v) j noInstance)
@@ -50,9 +50,9 @@ module _ (run : Run) (fits : Loads run) (e : ℕ) (named : e < run .plan .events
       let x = fits-before j d i q l m in
       record { position = x .position; node = x .node; end = x .end; told = subst (λ (n : ℕ). o < outcomesOf (run .plan) n) s has }
 
-  pub told-loads : (t : Clock) (i : ℕ) (x : Entry) (r : Run) → r ≡ toldRun run t i x e o → Loads r
-  told-loads t i x r q =
-      subst Loads (sym q) (record {
+  pub told-loads : (x : Entry) (g : Progress) → g ≡ toldOf (run .progress) e x o → parts.Loads (run .plan) g
+  told-loads x g q =
+      subst (parts.Loads (run .plan)) (sym q) (record {
         plan = fits .plan;
         progress = record {
           available = fits .progress .available;

@@ -18,8 +18,7 @@ use Rattle.run.specs.declared.Refusal.{Refusal}
 use Rattle.run.specs.declared.Reply.{Reply}
 use Rattle.run.specs.declared.Answer.{Answer}
 use Rattle.run.specs.declared.Call.{Call}
-use Rattle.run.specs.declared.Failure.{Failure}
-use Rattle.run.specs.declared.Loading.{Loading}
+use Rattle.run_loading.specs.declared.Failure.{Failure}
 use Rattle.run_window.specs.Window.{vacant, isStarted, startedOf, isOverdue, isLate, isDue, isNode, startsBefore, endsBefore, onFound, first, isEmpty}
 use Rattle.run_outcomes.specs.Told.{toldOf}
 use Rattle.run.specs.Loading.{further, mostPending}

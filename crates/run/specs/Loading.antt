@@ -7,13 +7,18 @@ use lib.ListN.{length}
 use Rattle.automaton.specs.Next.{nextOf}
 use Rattle.automaton.specs.declared.Next.{Next}
 use Rattle.run.specs.declared.Run.{Run}
-use Rattle.run.specs.declared.Failure.{Failure}
-use Rattle.run.specs.declared.Loading.{Loading}
+use Rattle.run_loading.specs.declared.Failure.{Failure}
+pub use Rattle.run_loading.specs.Loading.{onWay, onFailure, mostPending}
 use Rattle.run_window.specs.Window.{placed, vacancies}
 use Rattle.run_path.specs.Path.{Path, pathFrom, longestPath}
 use Rattle.run_outcomes.specs.Way.{wayOn}
 
 -- ---- loading
+
+-- the run after loading; after a failure, as it was before the failing path
+pub record Loading : Type 0 where
+  pub failure : Failure
+  pub run : Run
 
 abbrev pub loading : Failure → Run → Loading
 loading f run = record { failure = f; run = run }
@@ -41,18 +46,8 @@ load run next = loadPath run (pathFrom (run .plan) longestPath next (run .progre
 
 -- ---- further paths
 
-abbrev pub onWay : {A : Type 0} → Next → (ℕ → A) → A → A
-onWay Next.Ended f z = z
-onWay (Next.Goes t) f z = f t
-onWay (Next.Waits e) f z = z
-
 abbrev pub onLoading : Loading → (Run → Loading) → Loading
 onLoading l f = onFailure (l .failure) l (f (l .run))
-  where
-    onFailure : Failure → Loading → Loading → Loading
-    onFailure Failure.None l m = m
-    onFailure Failure.Full l m = l
-    onFailure Failure.Beyond l m = l
 
 -- at most k paths; each processes a reported instance, of which there are at most 128
 unfoldable pub further : ℕ → Run → Loading
@@ -61,7 +56,3 @@ further (suc k) run =
     onWay (wayOn (run .plan .automaton) (run .progress) (nextOf (run .plan .automaton) (run .progress .state)))
     (λ t. onLoading (load run (Next.Goes t)) (further k))
     (loading Failure.None run)
-
--- the most instances that can be pending
-abbrev pub mostPending : ℕ
-mostPending = 128

@@ -20,21 +20,24 @@ use Rattle.run.specs.declared.Run.{Run}
 use Rattle.run.specs.declared.Unopened.{Unopened}
 use Rattle.run.specs.declared.Opening.{Opening}
 use Rattle.run.specs.declared.Opened.{Opened}
-use Rattle.run.specs.declared.Failure.{Failure}
-use Rattle.run.specs.declared.Loading.{Loading}
+use Rattle.run_loading.specs.declared.Failure.{Failure}
 use Rattle.run_window.specs.Window.{vacant}
+use Rattle.run_window.specs.declared.Entry.{Entry}
 use Rattle.times.specs.Times.{specified}
 use Rattle.run.specs.Limits.{slackInLimits}
 use Rattle.run_opening.specs.Given.{atFirst, availabilities, anyAbove}
 use Rattle.run_opening.specs.Short.{shortFrom, onShort}
-use Rattle.run.specs.Loading.{load}
+use Rattle.run.specs.Loading.{Loading, load}
 
 -- ---- the run at its opening
 
 -- "0 at opening" is the last reading
+abbrev pub uncalled : Plan → Clock → ℕ → Progress → List Entry → Run
+uncalled p psi slack g w =
+    record { plan = p; psi = psi; slack = slack; progress = g; window = w; last = record { 0 = 0 }; halt = Halt.Going }
+
 abbrev pub fresh : Plan → Clock → ℕ → Progress → Run
-fresh p psi slack g =
-    record { plan = p; psi = psi; slack = slack; progress = g; window = replicate 512 vacant; last = record { 0 = 0 }; halt = Halt.Going }
+fresh p psi slack g = uncalled p psi slack g (replicate 512 vacant)
 
 -- "A refused opening hands back a run of zeros"
 abbrev pub zeroRun : Run

@@ -1,8 +1,6 @@
 // The outcome of an event: "An accepted report is taken; if loading after it fails the answer is stopped".
 use crate::Answer;
-use crate::Failure;
 use crate::Halt;
-use crate::Loading;
 use crate::Refusal;
 use crate::Reply;
 use crate::Report;
@@ -10,115 +8,85 @@ use crate::Run;
 use crate::Stop;
 use crate::calls;
 use crate::checks;
-use crate::paths;
 use plan::Kind;
 use time::Clock;
+use run_loading::Failure;
 use run_window::Entry;
 ghost use mathlib.Core.Bool.{true};
 ghost use mathlib.Core.Path.{_≡_};
-ghost use Prim.Native.Nat.{_<_, _≤_};
+ghost use Prim.Native.Nat.{_<_};
+ghost use Rattle.plan.specs.Plan.{outcomesOf};
 ghost use Rattle.plan.specs.Limits.{KindNames};
-ghost use Rattle.times.specs.Queues.{pendingOf};
 ghost use Rattle.run.specs.Limits.{runInLimits};
-ghost use Rattle.run.specs.Calls.{haltedBy, learnt, learnsBy, learns};
+ghost use Rattle.run.specs.Calls.{learnt, learnsBy, learns};
 ghost use Rattle.run.specs.Loads.{Loads};
-ghost use Rattle.run.specs.Inner.{toldRun, answerOf, learnsEvent};
+ghost use Rattle.run.specs.Inner.{toldRun, replyAfter, haltAfter};
 
-// The run with a stop that it keeps.
-fn halted_by(run: Run, s: Stop) -> Run
-    ensures { λ r. ⌜ r ≡ haltedBy run s ⌝ }
+fn reply_after(failure: Failure) -> Reply
+    ensures { λ r. ⌜ r ≡ replyAfter failure ⌝ }
 {
-    let last = run.last;
-    let progress = run.progress;
-    let window = run.window;
-    calls::heard(run, last, Halt::Stopped(s), progress, window)
-}
-
-// "the report and any path loaded before still count"
-fn answer_of(loading: Loading) -> Answer
-    ensures { λ r. ⌜ r ≡ answerOf loading ⌝ }
-{
-    let failure = loading.failure;
-    let run = loading.run;
     match failure {
-        Failure::None => {
-            return Answer {
-                reply: Reply::Taken,
-                run,
-            };
-        }
-        Failure::Full => {
-            let stopped = halted_by(run, Stop::Full);
-            return Answer {
-                reply: Reply::Stopped(Stop::Full),
-                run: stopped,
-            };
-        }
-        Failure::Beyond => {
-            let stopped = halted_by(run, Stop::Beyond);
-            return Answer {
-                reply: Reply::Stopped(Stop::Beyond),
-                run: stopped,
-            };
-        }
+        Failure::None => Reply::Taken,
+        Failure::Full => Reply::Stopped(Stop::Full),
+        Failure::Beyond => Reply::Stopped(Stop::Beyond),
     }
 }
 
-// The next paths are loaded.
-fn learnt(run: Run) -> Answer
-    requires { ⌜ Loads run ⌝ }
-    ensures { λ r. ⌜ r ≡ learnt run ⌝ }
+fn halt_after(failure: Failure) -> Halt
+    ensures { λ r. ⌜ r ≡ haltAfter failure ⌝ }
 {
-    let loading = paths::further(run);
-    answer_of(loading)
+    match failure {
+        Failure::None => Halt::Going,
+        Failure::Full => Halt::Stopped(Stop::Full),
+        Failure::Beyond => Halt::Stopped(Stop::Beyond),
+    }
 }
 
-// The run once the outcome o of event e is known: the reported node leaves the window.
-fn told_run(run: Run, t: Clock, i: usize, x: Entry, e: u8, o: u8) -> Run
-    requires { ⌜ (i < 512) × (e < 16) × (pendingOf (run .progress) e ≤ 8) ⌝ }
-    ensures { λ r. ⌜ r ≡ toldRun run t i x e o ⌝ }
+// The outcome o of event e is known, the reported node leaves the window, and the next paths are loaded: "the report and any path
+// loaded before still count".
+fn learnt(run: Run, t: Clock, i: usize, x: Entry, e: u8, o: u8) -> Answer
+    requires { ⌜ Loads run × (i < 512) × (e < run .plan .events) × (o < outcomesOf (run .plan) e) ⌝ }
+    ensures { λ r. ⌜ r ≡ learnt (toldRun run t i x e o) ⌝ }
 {
-    let g = run.progress;
-    let progress = run_outcomes::told_of(g, e, x, o);
-    let mut window = run.window;
+    let before = run.progress;
+    let told = run_outcomes::told_of(before, e, x, o);
     let free = run_window::vacant();
+    let mut window = run.window;
     window[i] = free;
-    calls::heard(run, t, Halt::Going, progress, window)
-}
-
-// 55: "outcome the event lacks".
-fn learns_event(run: Run, t: Clock, i: usize, x: Entry, o: u8, e: u8) -> Answer
-    requires { ⌜ Loads run × (i < 512) × (e < run .plan .events) ⌝ }
-    ensures { λ r. ⌜ r ≡ learnsEvent run t i x o e ⌝ }
-{
-    let outcomes = run.plan.outcomes;
-    let k = e as usize;
-    if o < outcomes[k] {
-        let next = told_run(run, t, i, x, e, o);
-        return learnt(next);
+    let plan = run.plan;
+    let loading = run_loading::further(plan, told, window);
+    let failure = loading.failure;
+    let progress = loading.progress;
+    let places = loading.window;
+    let psi = run.psi;
+    Answer {
+        reply: reply_after(failure),
+        run: Run {
+            plan,
+            psi,
+            slack: run.slack,
+            progress,
+            window: places,
+            last: t,
+            halt: halt_after(failure),
+        },
     }
-    calls::refuse(run, Refusal::OutcomeLacking)
 }
 
-// 54: "outcome of an action".
+// 54: "outcome of an action"; 55: "outcome the event lacks".
 fn learns_by(run: Run, t: Clock, i: usize, x: Entry, o: u8, kind: Kind) -> Answer
     requires { ⌜ Loads run × (i < 512) × KindNames (run .plan) kind ⌝ }
     ensures { λ r. ⌜ r ≡ learnsBy run t i x o kind ⌝ }
 {
-    match kind {
-        Kind::Action(_, _) => {
-            return calls::refuse(run, Refusal::OtherKind);
-        }
-        Kind::Claim(_) => {
-            return calls::refuse(run, Refusal::OtherKind);
-        }
-        Kind::Release(_) => {
-            return calls::refuse(run, Refusal::OtherKind);
-        }
-        Kind::Event(e) => {
-            return learns_event(run, t, i, x, o, e);
-        }
+    let Kind::Event(e) = kind else {
+        return calls::refuse(run, Refusal::OtherKind);
+    };
+    let outcomes = run.plan.outcomes;
+    let k = e as usize;
+    if o < outcomes[k] {
+        return learnt(run, t, i, x, e, o);
     }
+    calls::refuse(run, Refusal::OutcomeLacking)
 }
 
 pub fn learns(run: Run, t: Clock, position: u32, node: u8, o: u8) -> Answer

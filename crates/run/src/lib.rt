@@ -8,7 +8,6 @@ mod calls;
 mod checks;
 mod learning;
 mod openings;
-mod paths;
 
 use plan::Fault;
 use plan::Plan;
@@ -120,19 +119,6 @@ pub enum Opening {
 // The answer to an opening; a refused one hands back a run of zeros.
 pub struct Opened {
     pub opening: Opening,
-    pub run: Run,
-}
-
-// Whether loading failed.
-pub enum Failure {
-    None,
-    Full,
-    Beyond,
-}
-
-// The run after loading; after a failure, as it was before the failing path.
-pub struct Loading {
-    pub failure: Failure,
     pub run: Run,
 }
 

@@ -1,14 +1,14 @@
 // "An opening gives a plan, Ψ, a slack of 1 to 1,000,000, and one availability, in specified time, for each resource."
-use crate::Failure;
 use crate::Halt;
-use crate::Loading;
 use crate::Opened;
 use crate::Opening;
 use crate::Run;
 use crate::Unopened;
 use crate::bounds;
-use crate::paths;
+use run_loading::Failure;
+use run_loading::Loading;
 use run_opening::Short;
+use run_window::Entry;
 use plan::Plan;
 use time::Clock;
 use time::Specified;
@@ -19,23 +19,21 @@ ghost use Prim.Native.Nat.{_≤_};
 ghost use lib.ListN.{length};
 ghost use Rattle.plan.specs.Limits.{InLimits};
 ghost use Rattle.run_opening.specs.Given.{anyAbove};
-ghost use Rattle.run.specs.Opening.{fresh, zeroRun, unopened, firstLoaded, begin, openPlan};
+ghost use Rattle.run.specs.Opening.{uncalled, zeroRun, unopened, afterFirst, openPlan};
 ghost use Rattle.run.specs.Inner.{firstPath};
-ghost use Rattle.run.specs.Loads.{Loads};
 
 // ---- the run at its opening
 
 // "0 at opening" is the last reading.
-fn fresh(plan: Plan, psi: Clock, slack: u64, progress: Progress) -> Run
-    ensures { λ r. ⌜ r ≡ fresh plan psi slack progress ⌝ }
+fn uncalled(plan: Plan, psi: Clock, slack: u64, progress: Progress, window: [Entry; 512]) -> Run
+    ensures { λ r. ⌜ r ≡ uncalled plan psi slack progress window ⌝ }
 {
-    let free = run_window::vacant();
     Run {
         plan,
         psi,
         slack,
         progress,
-        window: [free; 512],
+        window,
         last: Clock(0),
         halt: Halt::Going,
     }
@@ -47,7 +45,9 @@ fn zero_run() -> Run
 {
     let plan = plan_read::zero_plan();
     let progress = run_opening::at_first([Specified(0); 16], 0);
-    fresh(plan, Clock(0), 0, progress)
+    let free = run_window::vacant();
+    let window = [free; 512];
+    uncalled(plan, Clock(0), 0, progress, window)
 }
 
 pub fn unopened(u: Unopened) -> Opened
@@ -63,13 +63,15 @@ pub fn unopened(u: Unopened) -> Opened
 // ---- the opening
 
 // What loading the first path answers: "then 44, 43 as refusals".
-fn after_first(loading: Loading) -> Opened
-    ensures { λ r. ⌜ r ≡ firstLoaded loading ⌝ }
+fn after_first(plan: Plan, psi: Clock, slack: u64, loading: Loading) -> Opened
+    ensures { λ r. ⌜ r ≡ afterFirst (loading .failure) (uncalled plan psi slack (loading .progress) (loading .window)) ⌝ }
 {
     let failure = loading.failure;
     match failure {
         Failure::None => {
-            let run = loading.run;
+            let progress = loading.progress;
+            let window = loading.window;
+            let run = uncalled(plan, psi, slack, progress, window);
             return Opened {
                 opening: Opening::Opened,
                 run,
@@ -82,17 +84,6 @@ fn after_first(loading: Loading) -> Opened
             return unopened(Unopened::Beyond);
         }
     }
-}
-
-// The first path, from the initial state.
-fn begin(run: Run) -> Opened
-    requires { ⌜ Loads run ⌝ }
-    ensures { λ r. ⌜ r ≡ begin run ⌝ }
-{
-    let automaton = run.plan.automaton;
-    let next = automaton::next_of(automaton, automaton.initial);
-    let loading = paths::load(run, next);
-    after_first(loading)
 }
 
 // 33, then the first path.
@@ -110,8 +101,8 @@ fn first_path(plan: Plan, psi: Clock, slack: u64, ts: &[u64]) -> Opened
         Short::Nothing => {
             let available = run_opening::given(ts);
             let progress = run_opening::at_first(available, plan.automaton.initial);
-            let run = fresh(plan, psi, slack, progress);
-            return begin(run);
+            let loading = run_loading::first(plan, progress);
+            return after_first(plan, psi, slack, loading);
         }
     }
 }

@@ -17,8 +17,8 @@ use Rattle.automaton.specs.declared.Next.{Next}
 use Rattle.run_window.specs.Window.{vacancies}
 use Rattle.run_path.specs.Path.{Path, takenBy, entriesBy, pathFrom, longestPath}
 use Rattle.run.specs.declared.Run.{Run}
-use Rattle.run.specs.declared.Failure.{Failure}
-use Rattle.run.specs.declared.Loading.{Loading}
+use Rattle.run_loading.specs.declared.Failure.{Failure}
+use Rattle.run.specs.Loading.{Loading}
 use Rattle.run_outcomes.specs.Way.{wayOn}
 use Rattle.demands_log.specs.ByCases.{by-way}
 use Rattle.demands_run.specs.Laws.Crosses.{Crosses, tells-crosses}

@@ -1,61 +1,80 @@
--- `learns_by` learns the outcome of an event, and refuses the others.
-use mathlib.Core.Path.{_≡_, sym, _∙_, ap, subst}
+-- `learns_by` learns an outcome that the event has, and refuses the others.
+use mathlib.Core.Path.{_≡_, refl, sym, _∙_, ap, subst}
+use mathlib.Core.List.{[], _∷_}
+use mathlib.Core.Logic.{⊎-elim}
+use Prim.Native.Nat.{ℕ, _<_}
+use native.Mathlib.Omega.{arith}
+use borrow.Author.Tests.{lt-ltb, le-ltb}
+use types.Run.{OneOf}
+use denote.Enum.Declared.{tagOf}
+use Rattle.plan.proofs.Kind as kind-type
 use Rattle.plan.specs.declared.Kind.{Kind}
 use Rattle.plan.specs.Limits.{KindNames}
-use Rattle.run.specs.Calls.{learnsBy}
+use Rattle.time.specs.declared.Clock.{Clock}
+use Rattle.run_window.specs.declared.Entry.{Entry}
+use Rattle.run.specs.declared.Run.{Run}
+use Rattle.run.specs.declared.Refusal.{Refusal}
+use Rattle.run.specs.Calls.{refuse, learnt, learnsBy}
+use Rattle.run.specs.Inner.{toldRun}
 use borrow.Author.Needs.{needs}
 use Rattle.run.proofs.learning.learns_by.Statement.{statement}
 use Rattle.run.proofs.learning.learns_by.Tie as tie
 
-enum-told : tie.Need-enum-told
-enum-told c = search needs
+-- 54
+others : (run : Run) (t : Clock) (i : ℕ) (x : Entry) (o : ℕ) (k : Kind) → OneOf (0 ∷ (1 ∷ (2 ∷ []))) (tagOf kind-type.the-type k) → refuse run Refusal.OtherKind ≡ learnsBy run t i x o k
+others run t i x o (Kind.Action a y) h = refl
+others run t i x o (Kind.Claim r) h = refl
+others run t i x o (Kind.Release r) h = refl
+others run t i x o (Kind.Event e) h = absurd (⊎-elim (λ e. omega arith) (⊎-elim (λ e. omega arith) (λ e. omega arith)) h)
+
+enum-known-kind : tie.Need-enum-known-kind
+enum-known-kind c = search needs
 
 refuse-requires : tie.Need-refuse-requires
 refuse-requires c κs = search needs
 
 returns : tie.Need-returns
-returns c = simp (c .before .enum-told .given .1, c .refuse .ensures)
+returns c = let a = c .before .before .args in c .refuse .ensures ∙ others (a .run) (a .t) (a .i) (a .x) (a .o) (a .kind) (c .before .match .keys2)
 
-enum-told-2 : tie.Need-enum-told-2
-enum-told-2 c = search needs
+cast-k : tie.Need-cast-k
+cast-k c = search needs
+
+array-read-if1 : tie.Need-array-read-if1
+array-read-if1 c =
+    let s = c .before .before .before .before in
+    let l : c .before .before .kind .given .0 .0 < s .args .run .plan .events = subst (KindNames (s .args .run .plan)) (c .before .before .kind .given .1) (s .pre .2) in
+    omega (arith, s .pre .0 .plan .events)
+
+learnt-requires : tie.Need-learnt-requires
+learnt-requires c κs = let s = c .before .before .before .before .before in (s .pre .0, s .pre .1, subst (KindNames (s .args .run .plan)) (c .before .before .before .kind .given .1) (s .pre .2), c .if1 .taken)
+
+returns-2 : tie.Need-returns-2
+returns-2 c =
+    let a = c .before .before .before .before .before .before .args in
+    let k = c .before .before .before .before .kind .given in
+    let z : learnt (toldRun (a .run) (a .t) (a .i) (a .x) (k .0 .0) (a .o)) ≡ learnsBy (a .run) (a .t) (a .i) (a .x) (a .o) (Kind.Event (k .0 .0)) = rw (lt-ltb _ _ (c .before .if1 .taken)) in
+    c .learnt .ensures ∙ z ∙ ap (λ (x : Kind). learnsBy (a .run) (a .t) (a .i) (a .x) (a .o) x) (sym (k .1))
 
 refuse-requires-2 : tie.Need-refuse-requires-2
 refuse-requires-2 c κs = search needs
 
-returns-2 : tie.Need-returns-2
-returns-2 c = simp (c .before .enum-told2 .given .1, c .refuse2 .ensures)
-
-enum-told-3 : tie.Need-enum-told-3
-enum-told-3 c = search needs
-
-refuse-requires-3 : tie.Need-refuse-requires-3
-refuse-requires-3 c κs = search needs
-
 returns-3 : tie.Need-returns-3
-returns-3 c = simp (c .before .enum-told3 .given .1, c .refuse3 .ensures)
-
-enum-known-kind : tie.Need-enum-known-kind
-enum-known-kind c = search needs
-
-learns-event-requires : tie.Need-learns-event-requires
-learns-event-requires c κs = let s = c .before .before .before in (s .pre .0, s .pre .1, subst (KindNames (s .args .run .plan)) (c .before .kind .given .1) (s .pre .2))
-
-returns-4 : tie.Need-returns-4
-returns-4 c = let a = c .before .before .before .before .args in c .learns-event .ensures ∙ ap (λ (k : Kind). learnsBy (a .run) (a .t) (a .i) (a .x) (a .o) k) (sym (c .before .before .kind .given .1))
+returns-3 c =
+    let a = c .before .before .before .before .before .before .args in
+    let k = c .before .before .before .before .kind .given in
+    let z : refuse (a .run) Refusal.OutcomeLacking ≡ learnsBy (a .run) (a .t) (a .i) (a .x) (a .o) (Kind.Event (k .0 .0)) = rw (le-ltb _ _ (c .before .if1 .left)) in
+    c .refuse2 .ensures ∙ z ∙ ap (λ (x : Kind). learnsBy (a .run) (a .t) (a .i) (a .x) (a .o) x) (sym (k .1))
 
 pub learns-by-spec : {M : Type 1} → statement M
 learns-by-spec =
     tie.close
     (tie.spec
-    enum-told
+    enum-known-kind
     refuse-requires
     returns
-    enum-told-2
-    refuse-requires-2
+    cast-k
+    array-read-if1
+    learnt-requires
     returns-2
-    enum-told-3
-    refuse-requires-3
-    returns-3
-    enum-known-kind
-    learns-event-requires
-    returns-4)
+    refuse-requires-2
+    returns-3)

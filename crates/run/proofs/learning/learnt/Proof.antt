@@ -1,23 +1,60 @@
--- `learnt` loads the next paths and answers.
-use mathlib.Core.Path.{_≡_, sym, _∙_, ap}
-use Rattle.run.specs.Inner.{answerOf}
+-- `learnt` stores the outcome, clears the reported place, loads the next paths and answers.
+use mathlib.Core.Path.{_≡_, _∙_, ap}
+use native.Mathlib.Omega.{arith}
+use lib.ListN.{set}
+use Rattle.times.specs.declared.Progress.{Progress}
+use Rattle.run_window.specs.declared.Entry.{Entry}
+use Rattle.run_window.specs.Window.{vacant}
+use Rattle.run_outcomes.specs.Told.{toldOf}
+use Rattle.run_loading.specs.Loading as parts
+use Rattle.run.specs.Loading.{mostPending}
+use Rattle.run.proofs.Telling.{told-loads}
+use Rattle.run.proofs.Loaded.{learnt-parts}
 use borrow.Author.Needs.{needs}
 use Rattle.run.proofs.learning.learnt.Statement.{statement}
 use Rattle.run.proofs.learning.learnt.Tie as tie
 
-further-requires : tie.Need-further-requires
-further-requires c κs = search needs
+told-of-requires : tie.Need-told-of-requires
+told-of-requires c κs = let s = c .before in (omega (arith, s .pre .0 .plan .events, s .pre .2), s .pre .0 .progress .lengths _ (s .pre .2))
 
-answer-of-requires : tie.Need-answer-of-requires
-answer-of-requires c κs = search needs
+vacant-requires : tie.Need-vacant-requires
+vacant-requires c κs = search needs
+
+mul-window : tie.Need-mul-window
+mul-window c = search needs
+
+array-set-from-window : tie.Need-array-set-from-window
+array-set-from-window c = search needs
+
+further-requires : tie.Need-further-requires
+further-requires c κs = let s = c .before .before .before .before .before in told-loads (s .args .run) (s .pre .0) _ (s .pre .2) _ (s .pre .3) (s .args .x) _ (c .before .before .before .told-of .ensures)
+
+reply-after-requires : tie.Need-reply-after-requires
+reply-after-requires c κs = search needs
+
+halt-after-requires : tie.Need-halt-after-requires
+halt-after-requires c κs = search needs
 
 returns : tie.Need-returns
-returns c = c .answer-of .ensures ∙ ap answerOf (c .before .further .ensures)
+returns c =
+    let a = c .before .before .before .before .before .before .before .before .before .before .before .args in
+    let l = c .before .before .before .before .before .further in
+    let v = c .before .before .before .before .before .before .before .before .vacant in
+    let g = c .before .before .before .before .before .before .before .before .before .told-of in
+    let e = l .ensures
+        ∙ ap (λ (y : Progress). parts.further (a .run .plan) mostPending y (set (a .run .window) (a .i) (v .result))) (g .ensures)
+        ∙ ap (λ (y : Entry). parts.further (a .run .plan) mostPending (toldOf (a .run .progress) (a .e) (a .x) (a .o)) (set (a .run .window) (a .i) y)) (v .ensures) in
+    rw (c .halt-after .ensures, c .before .reply-after .ensures) (learnt-parts (a .run) (a .t) (a .i) (toldOf (a .run .progress) (a .e) (a .x) (a .o)) (l .result) e)
 
 pub learnt-spec : {M : Type 1} → statement M
 learnt-spec =
     tie.close
     (tie.spec
+    told-of-requires
+    vacant-requires
+    mul-window
+    array-set-from-window
     further-requires
-    answer-of-requires
+    reply-after-requires
+    halt-after-requires
     returns)

@@ -6,8 +6,11 @@ use Rattle.run.proofs.openings.after_first.Tie as tie
 enum-told : tie.Need-enum-told
 enum-told c = search needs
 
+uncalled-requires : tie.Need-uncalled-requires
+uncalled-requires c κs = search needs
+
 returns : tie.Need-returns
-returns c = simp (c .before .enum-told .given .1)
+returns c = simp (c .before .before .before .enum-told .given .1, c .uncalled .ensures)
 
 enum-told-2 : tie.Need-enum-told-2
 enum-told-2 c = search needs
@@ -32,6 +35,7 @@ after-first-spec =
     tie.close
     (tie.spec
     enum-told
+    uncalled-requires
     returns
     enum-told-2
     unopened-requires

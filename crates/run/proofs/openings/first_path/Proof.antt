@@ -5,14 +5,15 @@ use Prim.Native.Nat.{ℕ}
 use Rattle.time.specs.declared.Clock.{Clock}
 use Rattle.time.specs.declared.Specified.{Specified}
 use Rattle.plan.specs.declared.Plan.{Plan}
+use Rattle.times.specs.declared.Progress.{Progress}
 use Rattle.run.specs.declared.Run.{Run}
 use Rattle.run.specs.declared.Unopened.{Unopened}
-use Rattle.run.specs.Loads.{Loads}
+use Rattle.run_loading.specs.Inner.{Loads}
 use Rattle.run_opening.specs.Given.{atFirst, availabilities}
 use Rattle.run_opening.specs.Short.{shortFrom}
 use Rattle.run.specs.Opening.{fresh, unopened, begin}
 use Rattle.run.specs.Inner.{firstPath}
-use Rattle.run.proofs.Opens.{fresh-loads, none-short, one-short}
+use Rattle.run.proofs.Opens.{first-loads, begins, none-short, one-short}
 use borrow.Author.Needs.{needs}
 use Rattle.run.proofs.openings.first_path.Statement.{statement}
 use Rattle.run.proofs.openings.first_path.Tie as tie
@@ -46,22 +47,23 @@ given-requires c κs = search needs
 at-first-requires : tie.Need-at-first-requires
 at-first-requires c κs = search needs
 
-fresh-requires : tie.Need-fresh-requires
-fresh-requires c κs = search needs
+first-requires : tie.Need-first-requires
+first-requires c κs =
+    let s = c .before .before .before .before .before .before in
+    subst (Loads (s .args .plan)) (sym (c .at-first .ensures ∙ ap (λ (x : List Specified). atFirst x (s .args .plan .automaton .initial)) (c .before .given .ensures)))
+    (first-loads (s .args .plan) (s .pre .0) (s .args .ts .now) (s .pre .1 .1))
 
-begin-requires : tie.Need-begin-requires
-begin-requires c κs =
-    let s = c .before .before .before .before .before .before .before in
-    subst Loads (sym (c .fresh .ensures ∙ ap (fresh (s .args .plan) (s .args .psi) (s .args .slack)) (c .before .at-first .ensures ∙ ap (λ (x : List Specified). atFirst x (s .args .plan .automaton .initial)) (c .before .before .given .ensures))))
-    (fresh-loads (s .args .plan) (s .pre .0) (s .args .psi) (s .args .slack) (s .args .ts .now) (s .pre .1 .1))
+after-first-requires : tie.Need-after-first-requires
+after-first-requires c κs = search needs
 
 returns-2 : tie.Need-returns-2
 unfolding firstPath
 returns-2 c =
     let s = c .before .before .before .before .before .before .before .before .args in
     let q = c .before .before .before .before .before .before .short-from in
-    c .begin .ensures
-    ∙ ap begin (c .before .fresh .ensures ∙ ap (fresh (s .plan) (s .psi) (s .slack)) (c .before .before .at-first .ensures ∙ ap (λ (x : List Specified). atFirst x (s .plan .automaton .initial)) (c .before .before .before .given .ensures)))
+    c .after-first .ensures
+    ∙ begins (s .plan) (s .psi) (s .slack) (c .before .before .at-first .result) (c .before .first .result) (c .before .first .ensures)
+    ∙ ap (λ (x : Progress). begin (fresh (s .plan) (s .psi) (s .slack) x)) (c .before .before .at-first .ensures ∙ ap (λ (x : List Specified). atFirst x (s .plan .automaton .initial)) (c .before .before .before .given .ensures))
     ∙ sym (none-short (shortFrom (s .plan) (s .slack) 0 (s .plan .activities)) (λ a. unopened (Unopened.Short a)) (begin (first (s .plan) (s .psi) (s .slack) (s .ts .now))) (q .result) (q .ensures) (c .before .before .before .before .enum-told .given .1))
 
 pub first-path-spec : {M : Type 1} → statement M
@@ -75,6 +77,6 @@ first-path-spec =
     enum-told
     given-requires
     at-first-requires
-    fresh-requires
-    begin-requires
+    first-requires
+    after-first-requires
     returns-2)
