@@ -41,12 +41,12 @@ use Rattle.run_path.specs.Laws.InTime.{loads}
 use Rattle.run_outcomes.specs.Told.{tell, toldFrom, toldOf, oldestTold}
 use Rattle.run_outcomes.specs.Way.{onTold, onChosen, wayOn}
 use Rattle.run.specs.declared.Run.{Run}
-use Rattle.run.specs.declared.Halt.{Halt}
+use Rattle.run_checks.specs.declared.Halt.{Halt}
 use Rattle.run.specs.declared.Call.{Call}
 use Rattle.run.specs.declared.Answer.{Answer}
 use Rattle.run_loading.specs.declared.Failure.{Failure}
 use Rattle.run.specs.Loading.{Loading}
-use Rattle.run.specs.declared.Refusal.{Refusal}
+use Rattle.run_checks.specs.declared.Refusal.{Refusal}
 use Rattle.run.specs.Loading.{load, onWay, onLoading, further, mostPending}
 use Rattle.run.specs.Limits.{runInLimits}
 use Rattle.run.specs.Calls.{refuse, heard, asked, reported, completedBy, completed, afterLoading, cleared, learnsBy, learns, timely, called, askOf, completionOf, outcomeOf, callOf, kindOf}

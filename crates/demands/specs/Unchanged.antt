@@ -17,12 +17,12 @@ use Rattle.plan.specs.declared.Verdict.{Verdict}
 use Rattle.run_window.specs.declared.Entry.{Entry}
 use Rattle.run_window.specs.Window.{first, isStarted, startsBefore, endsBefore, isDue, isLate, isOverdue, isNode}
 use Rattle.run.specs.declared.Run.{Run}
-use Rattle.run.specs.declared.Halt.{Halt}
-use Rattle.run.specs.declared.Stop.{Stop}
+use Rattle.run_checks.specs.declared.Halt.{Halt}
+use Rattle.run_checks.specs.declared.Stop.{Stop}
 use Rattle.run.specs.declared.Call.{Call}
 use Rattle.run.specs.declared.Reply.{Reply}
 use Rattle.run.specs.declared.Answer.{Answer}
-use Rattle.run.specs.declared.Refusal.{Refusal}
+use Rattle.run_checks.specs.declared.Refusal.{Refusal}
 use Rattle.run_loading.specs.declared.Failure.{Failure}
 use Rattle.run.specs.Loading.{Loading}
 use Rattle.run.specs.declared.Opening.{Opening}

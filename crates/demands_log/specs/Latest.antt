@@ -17,11 +17,11 @@ use Rattle.run_path.specs.Path.{Path, pathFrom, longestPath}
 use Rattle.run_outcomes.specs.Way.{wayOn}
 use Rattle.run_outcomes.specs.Told.{toldOf}
 use Rattle.run.specs.declared.Run.{Run}
-use Rattle.run.specs.declared.Halt.{Halt}
+use Rattle.run_checks.specs.declared.Halt.{Halt}
 use Rattle.run.specs.declared.Call.{Call}
 use Rattle.run.specs.declared.Reply.{Reply}
 use Rattle.run.specs.declared.Answer.{Answer}
-use Rattle.run.specs.declared.Refusal.{Refusal}
+use Rattle.run_checks.specs.declared.Refusal.{Refusal}
 use Rattle.run_loading.specs.declared.Failure.{Failure}
 use Rattle.run.specs.Loading.{Loading}
 use Rattle.run.specs.Limits.{runInLimits}

@@ -6,7 +6,7 @@ use Prim.Native.Nat.{ℕ}
 use Rattle.run_window.specs.declared.Entry.{Entry}
 use Rattle.run.specs.declared.Call.{Call}
 use Rattle.run.specs.declared.Reply.{Reply}
-use Rattle.run.specs.declared.Halt.{Halt}
+use Rattle.run_checks.specs.declared.Halt.{Halt}
 use Rattle.demands_log.specs.Log.{Id, Log, Finishes}
 use Rattle.demands_theory.specs.Nodes.{idOf}
 

@@ -48,7 +48,7 @@ use Rattle.run_opening.specs.declared.Short.{Short}
 use Rattle.run_opening.specs.Laws.{given-at, none-above}
 use Rattle.run.specs.Opening.{fresh, firstLoaded, begin, openPlan, openJudged, openOf}
 use Rattle.run.specs.Opening as Opening
-use Rattle.run.specs.declared.Stop.{Stop}
+use Rattle.run_checks.specs.declared.Stop.{Stop}
 use Rattle.run.specs.Loading.{Loading}
 use Rattle.run.specs.declared.Unopened.{Unopened}
 use Rattle.run.specs.declared.Opening.{Opening as Outcome}

@@ -27,11 +27,11 @@ use Rattle.run_outcomes.specs.Told.{toldOf}
 use Rattle.run.specs.Calls.{answer, heard, cleared, kindOf, isDone, learnt, reported, completedBy, learnsBy, asked, completed, learns, timely, called, askOf, completionOf, outcomeOf, callOf}
 use Rattle.run.specs.Calls as Calls
 use Rattle.run.specs.declared.Run.{Run}
-use Rattle.run.specs.declared.Halt.{Halt}
-use Rattle.run.specs.declared.Stop.{Stop}
+use Rattle.run_checks.specs.declared.Halt.{Halt}
+use Rattle.run_checks.specs.declared.Stop.{Stop}
 use Rattle.run.specs.declared.Call.{Call}
 use Rattle.run.specs.declared.Reply.{Reply}
-use Rattle.run.specs.declared.Refusal.{Refusal}
+use Rattle.run_checks.specs.declared.Refusal.{Refusal}
 use Rattle.run.specs.declared.Answer.{Answer}
 use Rattle.demands_log.specs.Log.{Id, Log, said, reading, Failing, Tells, Accepts}
 use Rattle.demands_log.specs.ByCases.{by-halt}
