@@ -26,8 +26,8 @@ use Rattle.run.specs.Loading.{further, mostPending}
 use Rattle.run.specs.Opening.{openOf}
 use Rattle.run.specs.Calls.{callOf, kindOf, cleared}
 use Rattle.run.specs.declared.Run.{Run}
-use Rattle.run.specs.declared.Halt.{Halt}
-use Rattle.run.specs.declared.Stop.{Stop}
+use Rattle.run_checks.specs.declared.Halt.{Halt}
+use Rattle.run_checks.specs.declared.Stop.{Stop}
 use Rattle.run.specs.declared.Call.{Call}
 use Rattle.run.specs.declared.Reply.{Reply}
 use Rattle.run.specs.declared.Answer.{Answer}

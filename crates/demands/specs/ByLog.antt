@@ -9,10 +9,10 @@ use Rattle.plan.specs.declared.Kind.{Kind}
 use Rattle.plan.specs.declared.Plan.{Plan}
 use Rattle.times_combined.specs.Combined.{Ident, Is}
 use Rattle.time.specs.declared.Clock.{Clock}
-use Rattle.run.specs.declared.Stop.{Stop}
+use Rattle.run_checks.specs.declared.Stop.{Stop}
 use Rattle.run.specs.declared.Call.{Call}
 use Rattle.run.specs.declared.Reply.{Reply}
-use Rattle.run.specs.declared.Refusal.{Refusal}
+use Rattle.run_checks.specs.declared.Refusal.{Refusal}
 use Rattle.run.specs.declared.Failure.{Failure}
 use Rattle.demands_log.specs.Log.{Id, id, Log, said, reading, Started, StoppedIn, StoppedBy}
 use Rattle.demands_log.specs.Host.{isRefused}

@@ -1,7 +1,7 @@
 -- `replies`: each reply of a call occurs in its condition and in no other; and the same of each number and each answer.
 use mathlib.Core.Path.{subst}
 use Rattle.run.specs.declared.Reply.{Reply}
-use Rattle.run.specs.declared.Stop.{Stop}
+use Rattle.run_checks.specs.declared.Stop.{Stop}
 use Rattle.demands.specs.Conditions.{Condition, StatementReplies, StatementRefusals, StatementLate, StatementOverdue, StatementFull, StatementBeyond, StatementStart, StatementDone, StatementWait, StatementTaken}
 use Rattle.demands.specs.Laws.ConditionsMet.{met}
 use Rattle.demands.specs.Laws.ConditionsGive.{gives}

@@ -19,8 +19,8 @@ use Rattle.run_window.specs.Tests.{free-or-held, unfree-held}
 use Rattle.run_window.specs.Places.{Holds, holds-within}
 use Rattle.run_window.specs.declared.Entry.{Entry}
 use Rattle.run.specs.declared.Run.{Run}
-use Rattle.run.specs.declared.Halt.{Halt}
-use Rattle.run.specs.declared.Stop.{Stop}
+use Rattle.run_checks.specs.declared.Halt.{Halt}
+use Rattle.run_checks.specs.declared.Stop.{Stop}
 use Rattle.run.specs.Limits.{runInLimits, stopInLimits, haltInLimits}
 use Rattle.demands_run.specs.Laws.Bounds.{entry-passes, entry-within}
 use Rattle.demands.specs.Laws.OpeningTests.{is-true}

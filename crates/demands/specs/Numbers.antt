@@ -9,9 +9,9 @@ use Rattle.plan.specs.Fault.{numberOf}
 use Rattle.plan.specs.declared.Fault.{Fault}
 use Rattle.run.specs.declared.Run.{Run}
 use Rattle.run.specs.declared.Call.{Call}
-use Rattle.run.specs.declared.Stop.{Stop}
+use Rattle.run_checks.specs.declared.Stop.{Stop}
 use Rattle.run.specs.declared.Reply.{Reply}
-use Rattle.run.specs.declared.Refusal.{Refusal}
+use Rattle.run_checks.specs.declared.Refusal.{Refusal}
 use Rattle.run.specs.Calls.{callOf}
 use Rattle.run.specs.declared.Opening.{Opening}
 use Rattle.run.specs.declared.Unopened.{Unopened}

@@ -7,8 +7,8 @@ use Rattle.automaton.specs.declared.Next.{Next}
 use Rattle.run_window.specs.Window.{onFound}
 use Rattle.run_window.specs.declared.Entry.{Entry}
 use Rattle.run_window.specs.declared.Found.{Found}
-use Rattle.run.specs.declared.Halt.{Halt}
-use Rattle.run.specs.declared.Stop.{Stop}
+use Rattle.run_checks.specs.declared.Halt.{Halt}
+use Rattle.run_checks.specs.declared.Stop.{Stop}
 use Rattle.run.specs.Loading.{onWay}
 use Rattle.run.specs.Calls.{onHalt}
 

@@ -18,7 +18,7 @@ use Rattle.run_opening.specs.declared.Short.{Short}
 use Rattle.run_opening.specs.Short.{onShort, shortFrom}
 use Rattle.run_opening.specs.Given.{anyAbove, atFirst, availabilities}
 use Rattle.run.specs.declared.Run.{Run}
-use Rattle.run.specs.declared.Halt.{Halt}
+use Rattle.run_checks.specs.declared.Halt.{Halt}
 use Rattle.run.specs.declared.Opening.{Opening}
 use Rattle.run.specs.declared.Opened.{Opened}
 use Rattle.run.specs.declared.Loading.{Loading}

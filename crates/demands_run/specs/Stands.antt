@@ -24,8 +24,8 @@ use Rattle.run_window.specs.Window.{vacant}
 use Rattle.plan_limits.specs.Window.{entryInLimits}
 use Rattle.run.specs.Limits.{slackInLimits, haltInLimits}
 use Rattle.run.specs.declared.Run.{Run}
-use Rattle.run.specs.declared.Halt.{Halt}
-use Rattle.run.specs.declared.Stop.{Stop}
+use Rattle.run_checks.specs.declared.Halt.{Halt}
+use Rattle.run_checks.specs.declared.Stop.{Stop}
 use Rattle.demands_log.specs.Log.{Id, id, Log, FailedIn}
 use Rattle.demands_log.specs.Log as Log
 use Rattle.demands_theory.specs.Nodes.{lengthOf}

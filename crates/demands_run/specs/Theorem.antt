@@ -18,7 +18,7 @@ use Rattle.run.specs.Limits.{runInLimits}
 use Rattle.run.specs.Loading.{further, mostPending}
 use Rattle.run.specs.Calls.{kindOf, cleared}
 use Rattle.run.specs.declared.Run.{Run}
-use Rattle.run.specs.declared.Halt.{Halt}
+use Rattle.run_checks.specs.declared.Halt.{Halt}
 use Rattle.run.specs.declared.Reply.{Reply}
 use Rattle.demands_log.specs.Log.{FailedIn, said}
 use Rattle.run.specs.Opening.{openOf}

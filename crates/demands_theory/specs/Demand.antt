@@ -12,8 +12,8 @@ use Rattle.run_window.specs.Places.{Holds}
 use Rattle.run_window.specs.declared.Entry.{Entry}
 use Rattle.run.specs.declared.Run.{Run}
 use Rattle.run.specs.declared.Reply.{Reply}
-use Rattle.run.specs.declared.Refusal.{Refusal}
-use Rattle.run.specs.declared.Stop.{Stop}
+use Rattle.run_checks.specs.declared.Refusal.{Refusal}
+use Rattle.run_checks.specs.declared.Stop.{Stop}
 use Rattle.demands_log.specs.Log.{Id, Said, Log, Always, reading, IsAsk, Starts, Started, StoppedBy, Reports, Reported, FailedIn, Finishes}
 use Rattle.demands_log.specs.Host.{Host, Mild}
 use Rattle.demands_log.specs.Drive.{Driven}

@@ -6,7 +6,7 @@ use Prim.Native.Nat.{ℕ}
 use Rattle.run_window.specs.declared.Entry.{Entry}
 use Rattle.run.specs.declared.Call.{Call}
 use Rattle.run.specs.declared.Reply.{Reply}
-use Rattle.run.specs.declared.Halt.{Halt}
+use Rattle.run_checks.specs.declared.Halt.{Halt}
 use Rattle.demands_log.specs.Log.{Id, id, Log, Finishes}
 
 -- Words, and of each "Its combined activity, under the opening's availabilities": its actions and events, their specified

@@ -10,7 +10,7 @@ use Rattle.times_combined.specs.Times.{Timing}
 use Rattle.times_combined.specs.Theorems.{plan-times-equal}
 use Rattle.run.specs.declared.Run.{Run}
 use Rattle.run.specs.declared.Call.{Call}
-use Rattle.run.specs.declared.Stop.{Stop}
+use Rattle.run_checks.specs.declared.Stop.{Stop}
 use Rattle.demands_log.specs.Log.{Id, Log, FailedIn, StoppedBy, Told}
 use Rattle.demands_log.specs.Drive.{Driven, drive}
 use Rattle.demands_theory.specs.Demand.{Demand3}

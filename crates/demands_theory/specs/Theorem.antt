@@ -18,7 +18,7 @@ use Rattle.run.specs.Calls.{callOf}
 use Rattle.run.specs.declared.Run.{Run}
 use Rattle.run.specs.declared.Call.{Call}
 use Rattle.run.specs.declared.Reply.{Reply}
-use Rattle.run.specs.declared.Stop.{Stop}
+use Rattle.run_checks.specs.declared.Stop.{Stop}
 use Rattle.demands_log.specs.Log.{Id, Said, said, Log, Always, Started, StoppedBy, Reports, Reported, FailedIn, Finishes}
 use Rattle.demands_log.specs.Host.{Reading, None, At}
 use Rattle.demands_log.specs.Drive.{Driven, drive}

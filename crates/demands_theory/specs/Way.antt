@@ -8,9 +8,9 @@ use Rattle.run_window.specs.Window.{isStarted, startedOf}
 use Rattle.run_window.specs.declared.Entry.{Entry}
 use Rattle.run.specs.declared.Call.{Call}
 use Rattle.run.specs.declared.Reply.{Reply}
-use Rattle.run.specs.declared.Refusal.{Refusal}
-use Rattle.run.specs.declared.Stop.{Stop}
-use Rattle.run.specs.declared.Halt.{Halt}
+use Rattle.run_checks.specs.declared.Refusal.{Refusal}
+use Rattle.run_checks.specs.declared.Stop.{Stop}
+use Rattle.run_checks.specs.declared.Halt.{Halt}
 use Rattle.run.specs.declared.Failure.{Failure}
 use Rattle.demands_log.specs.Log.{Id, reading, Finishes}
 use Rattle.demands_theory.specs.Machine.{World, Machine, idOf, Window, Held, Waiting}

@@ -8,7 +8,7 @@ use Prim.Native.Nat.{ℕ}
 use Rattle.run_window.specs.Window.{isStarted}
 use Rattle.run_window.specs.declared.Entry.{Entry}
 use Rattle.run.specs.declared.Call.{Call}
-use Rattle.run.specs.declared.Halt.{Halt}
+use Rattle.run_checks.specs.declared.Halt.{Halt}
 use Rattle.demands_log.specs.Log.{Id, Log, said}
 use Rattle.demands_theory.specs.Machine.{World, Machine, idOf, Held}
 use Rattle.demands_theory.specs.Way.{Outlasts, InOrder, Agrees, Way}

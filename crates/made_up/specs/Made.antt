@@ -9,8 +9,8 @@ use Rattle.made.specs.Layout.{psiFrom, slackFrom, lastFrom, haltFrom}
 use Rattle.made.specs.Values.{byteAt}
 use Rattle.made.specs.Parts.{planOf, progressOf, windowOf}
 use Rattle.run.specs.declared.Run.{Run}
-use Rattle.run.specs.declared.Halt.{Halt}
-use Rattle.run.specs.declared.Stop.{Stop}
+use Rattle.run_checks.specs.declared.Halt.{Halt}
+use Rattle.run_checks.specs.declared.Stop.{Stop}
 use Rattle.run.specs.declared.Call.{Call}
 
 abbrev pub clockAt : List ℕ → ℕ → Clock

@@ -5,22 +5,18 @@ use crate::Halt;
 use crate::Loading;
 use crate::Refusal;
 use crate::Reply;
-use crate::Report;
 use crate::Run;
 use crate::Stop;
 use crate::calls;
-use crate::checks;
 use crate::paths;
 use plan::Kind;
 use time::Clock;
 use run_window::Entry;
-ghost use mathlib.Core.Bool.{true};
 ghost use mathlib.Core.Path.{_≡_};
 ghost use Prim.Native.Nat.{_<_, _≤_};
 ghost use Rattle.plan.specs.Limits.{KindNames};
 ghost use Rattle.times.specs.Queues.{pendingOf};
-ghost use Rattle.run.specs.Limits.{runInLimits};
-ghost use Rattle.run.specs.Calls.{haltedBy, learnt, learnsBy, learns};
+ghost use Rattle.run.specs.Calls.{haltedBy, learnt, learnsBy};
 ghost use Rattle.run.specs.Loads.{Loads};
 ghost use Rattle.run.specs.Inner.{toldRun, answerOf, learnsEvent};
 
@@ -101,7 +97,7 @@ fn learns_event(run: Run, t: Clock, i: usize, x: Entry, o: u8, e: u8) -> Answer
 }
 
 // 54: "outcome of an action".
-fn learns_by(run: Run, t: Clock, i: usize, x: Entry, o: u8, kind: Kind) -> Answer
+pub fn learns_by(run: Run, t: Clock, i: usize, x: Entry, o: u8, kind: Kind) -> Answer
     requires { ⌜ Loads run × (i < 512) × KindNames (run .plan) kind ⌝ }
     ensures { λ r. ⌜ r ≡ learnsBy run t i x o kind ⌝ }
 {
@@ -117,22 +113,6 @@ fn learns_by(run: Run, t: Clock, i: usize, x: Entry, o: u8, kind: Kind) -> Answe
         }
         Kind::Event(e) => {
             return learns_event(run, t, i, x, o, e);
-        }
-    }
-}
-
-pub fn learns(run: Run, t: Clock, position: u32, node: u8, o: u8) -> Answer
-    requires { ⌜ runInLimits run ≡ true ⌝ }
-    ensures { λ r. ⌜ r ≡ learns run t position node o ⌝ }
-{
-    let report = checks::report_of(run, position, node);
-    match report {
-        Report::Refuses(f) => {
-            return calls::refuse(run, f);
-        }
-        Report::Names(i, e) => {
-            let kind = calls::kind_of(run, e);
-            return learns_by(run, t, i, e, o, kind);
         }
     }
 }

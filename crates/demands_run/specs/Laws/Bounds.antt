@@ -20,8 +20,8 @@ use Rattle.plan_limits.specs.Tells.{tells-ltb, tells-leb}
 use Rattle.plan_limits.specs.Plans.{tells-in-limits}
 use Rattle.plan_limits.specs.Stored.{tells-progress}
 use Rattle.run.specs.Limits.{runInLimits, haltInLimits, stopInLimits}
-use Rattle.run.specs.declared.Halt.{Halt}
-use Rattle.run.specs.declared.Stop.{Stop}
+use Rattle.run_checks.specs.declared.Halt.{Halt}
+use Rattle.run_checks.specs.declared.Stop.{Stop}
 use Rattle.demands_run.specs.Engine.{Within}
 use Rattle.demands_run.specs.Stands.{Accepted}
 

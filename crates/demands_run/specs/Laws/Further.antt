@@ -29,7 +29,7 @@ use Rattle.run_window.specs.declared.Entry.{Entry}
 use Rattle.run_outcomes.specs.Way.{wayOn}
 use Rattle.run.specs.Loading.{loading, load, onLoading, further}
 use Rattle.run.specs.declared.Run.{Run}
-use Rattle.run.specs.declared.Halt.{Halt}
+use Rattle.run_checks.specs.declared.Halt.{Halt}
 use Rattle.run.specs.declared.Failure.{Failure}
 use Rattle.run.specs.declared.Loading.{Loading}
 use Rattle.demands_log.specs.Log.{Id, Log, Reported, Told}

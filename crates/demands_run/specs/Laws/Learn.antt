@@ -30,7 +30,7 @@ use Rattle.run_outcomes.specs.Told.{toldOf}
 use Rattle.run.specs.Calls.{cleared, kindOf, afterLoading}
 use Rattle.run.specs.Loading.{further, mostPending}
 use Rattle.run.specs.declared.Run.{Run}
-use Rattle.run.specs.declared.Halt.{Halt}
+use Rattle.run_checks.specs.declared.Halt.{Halt}
 use Rattle.run.specs.declared.Call.{Call}
 use Rattle.run.specs.declared.Reply.{Reply}
 use Rattle.run.specs.declared.Failure.{Failure}

@@ -14,9 +14,9 @@ use Rattle.run_window.specs.Places.{Holds}
 use Rattle.run_window.specs.declared.Entry.{Entry}
 use Rattle.run_outcomes.specs.Told.{toldOf}
 use Rattle.run.specs.Loading.{further, mostPending}
-use Rattle.run.specs.declared.Halt.{Halt}
+use Rattle.run_checks.specs.declared.Halt.{Halt}
 use Rattle.run.specs.declared.Reply.{Reply}
-use Rattle.run.specs.declared.Stop.{Stop}
+use Rattle.run_checks.specs.declared.Stop.{Stop}
 use Rattle.demands_theory.specs.Loading.{Loads}
 use Rattle.run.specs.Calls.{kindOf, cleared, callOf}
 use Rattle.run.specs.declared.Run.{Run}

@@ -10,7 +10,7 @@ use Rattle.run_window.specs.Window.{isStarted}
 use Rattle.run_window.specs.declared.Entry.{Entry}
 use Rattle.run.specs.declared.Call.{Call}
 use Rattle.run.specs.declared.Reply.{Reply}
-use Rattle.run.specs.declared.Refusal.{Refusal}
+use Rattle.run_checks.specs.declared.Refusal.{Refusal}
 use Rattle.demands_log.specs.Log.{Id, Log, StoppedIn, Stops, reading, said}
 use Rattle.demands_log.specs.Host.{AskedIdle, Asks, At, HostAt, None, Reading, StartsNothing, isRefused, previous}
 use Rattle.demands_theory.specs.Machine.{Window}

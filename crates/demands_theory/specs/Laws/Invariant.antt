@@ -3,9 +3,9 @@ use mathlib.Core.Path.{_≡_}
 use Prim.Native.Nat.{ℕ}
 use Rattle.run_window.specs.declared.Entry.{Entry}
 use Rattle.run.specs.declared.Reply.{Reply}
-use Rattle.run.specs.declared.Refusal.{Refusal}
-use Rattle.run.specs.declared.Stop.{Stop}
-use Rattle.run.specs.declared.Halt.{Halt}
+use Rattle.run_checks.specs.declared.Refusal.{Refusal}
+use Rattle.run_checks.specs.declared.Stop.{Stop}
+use Rattle.run_checks.specs.declared.Halt.{Halt}
 use Rattle.demands_log.specs.Log.{Id, Log, Said, Always, Started, StoppedIn, StoppedBy}
 use Rattle.demands_log.specs.Host.{Host, MildStop, Mild}
 use Rattle.demands_theory.specs.Machine.{World, Machine, Window, Finished, Waited}

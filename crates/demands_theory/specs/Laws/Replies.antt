@@ -5,9 +5,9 @@ use mathlib.Core.List.{[], _∷_}
 use mathlib.Core.Logic.{_⊎_, inl, inr, ⊎-elim}
 use Rattle.run.specs.declared.Call.{Call}
 use Rattle.run.specs.declared.Reply.{Reply}
-use Rattle.run.specs.declared.Refusal.{Refusal}
-use Rattle.run.specs.declared.Stop.{Stop}
-use Rattle.run.specs.declared.Halt.{Halt}
+use Rattle.run_checks.specs.declared.Refusal.{Refusal}
+use Rattle.run_checks.specs.declared.Stop.{Stop}
+use Rattle.run_checks.specs.declared.Halt.{Halt}
 use Rattle.run.specs.declared.Failure.{Failure}
 use Rattle.demands_log.specs.Log.{Id, Log, said, Starts, Stops, StoppedIn, StoppedBy, Fails, FailedIn, Accepts, Finishes}
 use Rattle.demands_log.specs.Host.{isRefused, Mild}
