@@ -31,7 +31,7 @@ use Rattle.run_checks.specs.declared.Stop.{Stop}
 use Rattle.run.specs.declared.Call.{Call}
 use Rattle.run.specs.declared.Reply.{Reply}
 use Rattle.run.specs.declared.Answer.{Answer}
-use Rattle.run.specs.declared.Failure.{Failure}
+use Rattle.run_loading.specs.declared.Failure.{Failure}
 use Rattle.run.specs.declared.Opening.{Opening}
 use Rattle.demands_log.specs.Log.{Id, Log, said, Reported, Told, StoppedIn, StoppedBy, FailedIn}
 use Rattle.demands_log.specs.Kept.{Keeps, plan-kept}

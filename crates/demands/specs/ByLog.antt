@@ -13,7 +13,7 @@ use Rattle.run_checks.specs.declared.Stop.{Stop}
 use Rattle.run.specs.declared.Call.{Call}
 use Rattle.run.specs.declared.Reply.{Reply}
 use Rattle.run_checks.specs.declared.Refusal.{Refusal}
-use Rattle.run.specs.declared.Failure.{Failure}
+use Rattle.run_loading.specs.declared.Failure.{Failure}
 use Rattle.demands_log.specs.Log.{Id, id, Log, said, reading, Started, StoppedIn, StoppedBy}
 use Rattle.demands_log.specs.Host.{isRefused}
 use Rattle.demands_theory.specs.Nodes.{whose, EmitsAt}

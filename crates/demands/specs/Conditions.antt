@@ -18,7 +18,7 @@ use Rattle.run_checks.specs.declared.Stop.{Stop}
 use Rattle.run.specs.declared.Call.{Call}
 use Rattle.run.specs.declared.Reply.{Reply}
 use Rattle.run_checks.specs.declared.Refusal.{Refusal}
-use Rattle.run.specs.declared.Failure.{Failure}
+use Rattle.run_loading.specs.declared.Failure.{Failure}
 use Rattle.run.specs.Loading.{further, mostPending}
 use Rattle.run_outcomes.specs.Told.{toldOf}
 use Rattle.run.specs.Calls.{callOf, readingOf, kindOf, cleared}

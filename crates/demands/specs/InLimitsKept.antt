@@ -44,8 +44,8 @@ use Rattle.run.specs.declared.Run.{Run}
 use Rattle.run_checks.specs.declared.Halt.{Halt}
 use Rattle.run.specs.declared.Call.{Call}
 use Rattle.run.specs.declared.Answer.{Answer}
-use Rattle.run.specs.declared.Failure.{Failure}
-use Rattle.run.specs.declared.Loading.{Loading}
+use Rattle.run_loading.specs.declared.Failure.{Failure}
+use Rattle.run.specs.Loading.{Loading}
 use Rattle.run_checks.specs.declared.Refusal.{Refusal}
 use Rattle.run.specs.Loading.{load, onWay, onLoading, further, mostPending}
 use Rattle.run.specs.Limits.{runInLimits}

@@ -23,7 +23,7 @@ use Rattle.run_opening.specs.declared.Short.{Short}
 use Rattle.run_opening.specs.Given.{anyAbove}
 use Rattle.run_opening.specs.Short.{shortFrom}
 use Rattle.run.specs.Opening.{firstLoaded, begin, fresh, openPlan, openJudged, openOf}
-use Rattle.run.specs.declared.Loading.{Loading}
+use Rattle.run.specs.Loading.{Loading}
 use Rattle.run.specs.declared.Unopened.{Unopened}
 use Rattle.run.specs.declared.Opening.{Opening}
 use Rattle.run.specs.declared.Opened.{Opened}

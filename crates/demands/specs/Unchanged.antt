@@ -22,8 +22,8 @@ use Rattle.run.specs.declared.Call.{Call}
 use Rattle.run.specs.declared.Reply.{Reply}
 use Rattle.run.specs.declared.Answer.{Answer}
 use Rattle.run_checks.specs.declared.Refusal.{Refusal}
-use Rattle.run.specs.declared.Failure.{Failure}
-use Rattle.run.specs.declared.Loading.{Loading}
+use Rattle.run_loading.specs.declared.Failure.{Failure}
+use Rattle.run.specs.Loading.{Loading}
 use Rattle.run.specs.declared.Opening.{Opening}
 use Rattle.run.specs.declared.Opened.{Opened}
 use Rattle.judge.specs.Judge.{judgeOf}

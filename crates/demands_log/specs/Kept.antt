@@ -21,7 +21,7 @@ use Rattle.run.specs.declared.Run.{Run}
 use Rattle.run_checks.specs.declared.Halt.{Halt}
 use Rattle.run.specs.declared.Opening.{Opening}
 use Rattle.run.specs.declared.Opened.{Opened}
-use Rattle.run.specs.declared.Loading.{Loading}
+use Rattle.run.specs.Loading.{Loading}
 use Rattle.run.specs.Limits.{slackInLimits}
 use Rattle.run.specs.Loading.{load, loadPath}
 use Rattle.run.specs.Opening.{openOf, openJudged, openPlan, firstLoaded, fresh}

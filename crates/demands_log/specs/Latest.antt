@@ -22,8 +22,8 @@ use Rattle.run.specs.declared.Call.{Call}
 use Rattle.run.specs.declared.Reply.{Reply}
 use Rattle.run.specs.declared.Answer.{Answer}
 use Rattle.run_checks.specs.declared.Refusal.{Refusal}
-use Rattle.run.specs.declared.Failure.{Failure}
-use Rattle.run.specs.declared.Loading.{Loading}
+use Rattle.run_loading.specs.declared.Failure.{Failure}
+use Rattle.run.specs.Loading.{Loading}
 use Rattle.run.specs.Limits.{runInLimits}
 use Rattle.run.specs.Loading.{load, loadPath, onLoading, further, mostPending}
 use Rattle.run.specs.Calls.{answer, refuse, asked, reported, completedBy, completed, afterLoading, learnt, cleared, learnsBy, learns, onHalt, timely, called, askOf, completionOf, outcomeOf, callOf, isDone, kindOf, readingOf}

@@ -12,7 +12,7 @@ use Rattle.automaton.specs.declared.Next.{Next}
 use Rattle.times_combined.specs.Combined.{Ident, Is, identity}
 use Rattle.times_combined.specs.Times.{Timing}
 use Rattle.times.specs.Engine.{lastPosition}
-use Rattle.run.specs.declared.Failure.{Failure}
+use Rattle.run_loading.specs.declared.Failure.{Failure}
 use Rattle.demands_log.specs.Log.{Id, Log, Reported}
 use Rattle.demands_theory.specs.Nodes.{Work, lengthOf}
 use Rattle.demands_theory.specs.TheWord.{nextAfter, wholeOf, Rests, Tail, Takes, Stuck}

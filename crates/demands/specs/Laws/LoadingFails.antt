@@ -15,8 +15,8 @@ use Rattle.run_window.specs.Window.{vacancies}
 use Rattle.run_window.specs.Tests.{by-test}
 use Rattle.run_path.specs.Path.{Path, takenBy, entriesBy, pathFrom, longestPath}
 use Rattle.run.specs.declared.Run.{Run}
-use Rattle.run.specs.declared.Failure.{Failure}
-use Rattle.run.specs.declared.Loading.{Loading}
+use Rattle.run_loading.specs.declared.Failure.{Failure}
+use Rattle.run.specs.Loading.{Loading}
 use Rattle.run_outcomes.specs.Way.{wayOn}
 use Rattle.activity.specs.Tells.{Tells, holds, fails, told-true, told-false}
 use Rattle.demands_log.specs.ByCases.{by-way}

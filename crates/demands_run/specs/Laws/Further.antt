@@ -30,8 +30,8 @@ use Rattle.run_outcomes.specs.Way.{wayOn}
 use Rattle.run.specs.Loading.{loading, load, onLoading, further}
 use Rattle.run.specs.declared.Run.{Run}
 use Rattle.run_checks.specs.declared.Halt.{Halt}
-use Rattle.run.specs.declared.Failure.{Failure}
-use Rattle.run.specs.declared.Loading.{Loading}
+use Rattle.run_loading.specs.declared.Failure.{Failure}
+use Rattle.run.specs.Loading.{Loading}
 use Rattle.demands_log.specs.Log.{Id, Log, Reported, Told}
 use Rattle.demands_log.specs.ByCases.{by-way}
 use Rattle.demands_theory.specs.Machine.{idOf, Held}

@@ -33,9 +33,9 @@ use Rattle.run.specs.declared.Run.{Run}
 use Rattle.run_checks.specs.declared.Halt.{Halt}
 use Rattle.run.specs.declared.Call.{Call}
 use Rattle.run.specs.declared.Reply.{Reply}
-use Rattle.run.specs.declared.Failure.{Failure}
+use Rattle.run_loading.specs.declared.Failure.{Failure}
 use Rattle.run.specs.Limits.{haltInLimits}
-use Rattle.run.specs.declared.Loading.{Loading}
+use Rattle.run.specs.Loading.{Loading}
 use Rattle.demands_log.specs.Log.{Id, Log, Always, said, Accepts, Reports, Reported, StoppedIn}
 use Rattle.demands_log.specs.Log as Log
 use Rattle.demands_theory.specs.Machine.{World, idOf, Held}

@@ -4,7 +4,7 @@ use mathlib.Core.List.{List, _∷_}
 use Prim.Native.Nat.{ℕ}
 use Rattle.plan.specs.declared.Plan.{Plan}
 use Rattle.times_combined.specs.Paths.{Lawful}
-use Rattle.run.specs.declared.Failure.{Failure}
+use Rattle.run_loading.specs.declared.Failure.{Failure}
 use Rattle.demands_log.specs.Log.{Id, Log, Told}
 use Rattle.demands_theory.specs.TheWord.{Takes, goes, Stuck}
 use Rattle.demands_theory.specs.Loading.{Silently, stays, goes-on, Onward, NextPath, PathBeyond, TooMany, EndsAt, whole, beyond, full, Loads, ends, later}

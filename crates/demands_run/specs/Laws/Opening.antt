@@ -46,7 +46,7 @@ use Rattle.run_opening.specs.Laws.{all-same, given-at, or-false, none-above}
 use Rattle.run.specs.Opening.{fresh, firstLoaded, begin, openPlan, openJudged, openOf}
 use Rattle.run.specs.Opening as Opening
 use Rattle.run_checks.specs.declared.Stop.{Stop}
-use Rattle.run.specs.declared.Loading.{Loading}
+use Rattle.run.specs.Loading.{Loading}
 use Rattle.run.specs.declared.Unopened.{Unopened}
 use Rattle.run.specs.declared.Opening.{Opening as Outcome}
 use Rattle.run.specs.declared.Opened.{Opened as Answer}

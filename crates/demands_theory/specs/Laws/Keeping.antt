@@ -12,7 +12,7 @@ use Rattle.run.specs.declared.Reply.{Reply}
 use Rattle.run_checks.specs.declared.Refusal.{Refusal}
 use Rattle.run_checks.specs.declared.Stop.{Stop}
 use Rattle.run_checks.specs.declared.Halt.{Halt}
-use Rattle.run.specs.declared.Failure.{Failure}
+use Rattle.run_loading.specs.declared.Failure.{Failure}
 use Rattle.demands_log.specs.Log.{Id, Said, said, Log, reading, Started, Stops, StoppedBy, Accepts, Finishes}
 use Rattle.demands_log.specs.Host.{HostAt, Mild}
 use Rattle.demands_theory.specs.Machine.{World, Machine, idOf, Window, Waiting}

@@ -10,7 +10,7 @@ use Rattle.times_combined.specs.Paths.{Lawful}
 use Rattle.run.specs.declared.Call.{Call}
 use Rattle.run_checks.specs.declared.Halt.{Halt}
 use Rattle.run_checks.specs.declared.Stop.{Stop}
-use Rattle.run.specs.declared.Failure.{Failure}
+use Rattle.run_loading.specs.declared.Failure.{Failure}
 use Rattle.demands_log.specs.Log.{Id, Log, said, Told, FailedIn, StoppedBy}
 use Rattle.demands_theory.specs.Way.{haltOf, replyOf}
 use Rattle.demands_theory.specs.TheWord.{nextAfter, Rests, Takes, Stuck}

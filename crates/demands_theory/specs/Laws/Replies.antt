@@ -8,7 +8,7 @@ use Rattle.run.specs.declared.Reply.{Reply}
 use Rattle.run_checks.specs.declared.Refusal.{Refusal}
 use Rattle.run_checks.specs.declared.Stop.{Stop}
 use Rattle.run_checks.specs.declared.Halt.{Halt}
-use Rattle.run.specs.declared.Failure.{Failure}
+use Rattle.run_loading.specs.declared.Failure.{Failure}
 use Rattle.demands_log.specs.Log.{Id, Log, said, Starts, Stops, StoppedIn, StoppedBy, Fails, FailedIn, Accepts, Finishes}
 use Rattle.demands_log.specs.Host.{isRefused, Mild}
 use Rattle.demands_theory.specs.Machine.{Waiting}
