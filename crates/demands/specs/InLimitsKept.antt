@@ -27,9 +27,9 @@ use Rattle.times.specs.Queues.{noInstance, pendingOf, instanceOf}
 use Rattle.times.specs.Limits.{InstanceInLimits}
 use Rattle.times.specs.declared.Told.{Told}
 use Rattle.times.specs.declared.Progress.{Progress}
-use Rattle.run_window.specs.Window.{vacant, startedOf, isHeld, isStarted, isOverdue, isLate, isDue, isNode, startsBefore, endsBefore, placed, vacancies}
-use Rattle.run_window.specs.Tests.{overdue-tells, late-tells, due-tells, node-tells}
-use Rattle.run_window.specs.Order.{starts-order, ends-order}
+use Rattle.run_window.specs.Window.{vacant, startedOf, isHeld, isStarted, isDue, isNode, startsBefore, placed, vacancies}
+use Rattle.run_window.specs.Tests.{due-tells, node-tells}
+use Rattle.run_window.specs.Order.{starts-order}
 use Rattle.run_window.specs.Firsts.{First, by-first}
 use Rattle.run_window.specs.Places.{Holds, stored-only, cleared-only}
 use Rattle.run_window.specs.Placed.{placed-only}
@@ -40,6 +40,7 @@ use Rattle.run_path.specs.Laws.Stepping.{next-leads, taken-kept}
 use Rattle.run_path.specs.Laws.InTime.{loads}
 use Rattle.run_outcomes.specs.Told.{tell, toldFrom, toldOf, oldestTold}
 use Rattle.run_outcomes.specs.Way.{onTold, onChosen, wayOn}
+use Rattle.run_checks.specs.Laws.{by-timely}
 use Rattle.run.specs.declared.Run.{Run}
 use Rattle.run_checks.specs.declared.Halt.{Halt}
 use Rattle.run.specs.declared.Call.{Call}
@@ -250,13 +251,10 @@ module _ (run : Run) (r : RunInLimits run) where
   learns-kept t p n o = reported-kept p n _ (λ i e h. let l = r .window i e h in learns-by-kept t i e o (kindOf run e) (r .plan .nodes (e .activity) (e .node) (l .activity) (l .node) .names))
 
   timely-kept : (t : Clock) (go : Answer) → AnswerKept go → AnswerKept (timely run t go)
-  unfolding timely
   timely-kept t go h =
-      by-test AnswerKept (ltb (t .0) (run .last .0)) _ _ (λ b. record { kept = r }) λ b.
-      by-first (isOverdue (run .psi) t) endsBefore ends-order (run .window) AnswerKept _ _
-      (λ i e f. record { kept = next t _ (run .progress) (run .window) (names i e (record { entry = f .stands; held = ap isHeld (overdue-tells (run .psi) t e .0 (f .passes) .0) })) (r .progress) (r .window) }) λ n.
-      by-first (isLate (run .psi) (run .slack) t) startsBefore starts-order (run .window) AnswerKept _ _
-      (λ i e f. record { kept = next t _ (run .progress) (run .window) (names i e (record { entry = f .stands; held = ap isHeld (late-tells (run .psi) t e (run .slack) .0 (f .passes) .0) })) (r .progress) (r .window) }) (λ n. h)
+      by-timely AnswerKept _ _ _ _ (record { kept = r })
+      (λ i e q. record { kept = next t _ (run .progress) (run .window) (names i e q) (r .progress) (r .window) })
+      (λ i e q. record { kept = next t _ (run .progress) (run .window) (names i e q) (r .progress) (r .window) }) h
 
   called-kept : (t : Clock) (go : Answer) → AnswerKept go → AnswerKept (called run t go)
   called-kept t go h =

@@ -15,7 +15,8 @@ use Rattle.plan.specs.declared.Kind.{Kind}
 use Rattle.plan.specs.declared.Plan.{Plan}
 use Rattle.plan.specs.declared.Verdict.{Verdict}
 use Rattle.run_window.specs.declared.Entry.{Entry}
-use Rattle.run_window.specs.Window.{first, isStarted, startsBefore, endsBefore, isDue, isLate, isOverdue, isNode}
+use Rattle.run_window.specs.Window.{first, isStarted, startsBefore, isDue, isNode}
+use Rattle.run_checks.specs.Laws.{by-timely}
 use Rattle.run.specs.declared.Run.{Run}
 use Rattle.run_checks.specs.declared.Halt.{Halt}
 use Rattle.run_checks.specs.declared.Stop.{Stop}
@@ -102,11 +103,7 @@ unfolding learns
 right-learns run t p n o = right-reported run p n _ (λ i e. right-learns-by run t i e o (kindOf run e))
 
 right-timely : (run : Run) (t : Clock) (go : Answer) → RightOf run go → RightOf run (timely run t go)
-unfolding timely
-right-timely run t go h =
-    by-cond (RightOf run) (ltb (t .0) (run .last .0)) _ _ (record { right = refl })
-    (by-found (RightOf run) (first (isOverdue (run .psi) t) endsBefore 0 (run .window)) _ _ (λ i e. record { right = refl })
-    (by-found (RightOf run) (first (isLate (run .psi) (run .slack) t) startsBefore 0 (run .window)) _ _ (λ i e. record { right = refl }) h))
+right-timely run t go h = by-timely (RightOf run) _ _ _ _ (record { right = refl }) (λ i e q. record { right = refl }) (λ i e q. record { right = refl }) h
 
 right-called : (run : Run) (t : Clock) (go : Answer) → RightOf run go → RightOf run (called run t go)
 right-called run t go h =

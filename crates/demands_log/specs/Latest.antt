@@ -12,10 +12,11 @@ use Rattle.plan.specs.declared.Kind.{Kind}
 use Rattle.automaton.specs.Next.{nextOf}
 use Rattle.automaton.specs.declared.Next.{Next}
 use Rattle.run_window.specs.declared.Entry.{Entry}
-use Rattle.run_window.specs.Window.{vacancies, first, isStarted, startsBefore, endsBefore, isDue, isLate, isOverdue, isNode}
+use Rattle.run_window.specs.Window.{vacancies, first, isStarted, startsBefore, isDue, isNode}
 use Rattle.run_path.specs.Path.{Path, pathFrom, longestPath}
 use Rattle.run_outcomes.specs.Way.{wayOn}
 use Rattle.run_outcomes.specs.Told.{toldOf}
+use Rattle.run_checks.specs.Laws.{by-timely}
 use Rattle.run.specs.declared.Run.{Run}
 use Rattle.run_checks.specs.declared.Halt.{Halt}
 use Rattle.run.specs.declared.Call.{Call}
@@ -112,11 +113,7 @@ unfolding learns
 right-learns run t p n o = right-reported run t p n _ (λ i e. right-learns-by run t i e o (kindOf run e))
 
 right-timely : (run : Run) (t : Clock) (go : Answer) → RightOf t go → RightOf t (timely run t go)
-unfolding timely
-right-timely run t go h =
-    by-cond (RightOf t) (ltb (t .0) (run .last .0)) _ _ (record { right = tt })
-    (by-found (RightOf t) (first (isOverdue (run .psi) t) endsBefore 0 (run .window)) _ _ (λ i e. record { right = (refl, refl) })
-    (by-found (RightOf t) (first (isLate (run .psi) (run .slack) t) startsBefore 0 (run .window)) _ _ (λ i e. record { right = (refl, refl) }) h))
+right-timely run t go h = by-timely (RightOf t) _ _ _ _ (record { right = tt }) (λ i e q. record { right = (refl, refl) }) (λ i e q. record { right = (refl, refl) }) h
 
 right-called : (run : Run) (t : Clock) (go : Answer) → run .halt ≡ Halt.Going → RightOf t go → RightOf t (called run t go)
 right-called run t go g h =

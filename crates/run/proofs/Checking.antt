@@ -1,44 +1,42 @@
 -- The checks at a call: the answer to a call is what they object to, or what is left once they object to nothing; a run that
 -- passes them is in limits, so that every sum with Ψ fits and every number of a found entry names something.
 use mathlib.Core.Path.{_≡_, refl, sym, _∙_, ap, subst}
-use mathlib.Core.Bool.{Bool, true, false, cond, _&&_, true≢false}
+use mathlib.Core.Bool.{Bool, true, false, true≢false}
 use mathlib.Core.List.{List, [], _∷_, map}
-use mathlib.Core.Logic.{_⊎_, inl, inr, ⊎-elim}
+use mathlib.Core.Logic.{⊎-elim}
 use Prim.Native.Nat.{ℕ, zero, suc, _≤_, _<_}
 use native.Mathlib.Omega.{arith}
-use lib.Dec.{ltb}
 use lib.ListN.{length, getD, length-map}
 use Rattle.time.specs.Time.{horizon}
 use Rattle.time.specs.declared.Clock.{Clock}
-use Rattle.plan.specs.Limits.{InLimits, KindNames}
-use Rattle.plan.specs.Plan.{sizeOf}
+use Rattle.plan.specs.Limits.{InLimits}
 use Rattle.times.specs.Engine.{lastPosition}
 use Rattle.times.specs.Limits.{ProgressInLimits}
 use Rattle.activity.specs.Tells.{Tells, holds, fails, told-true, tells-and, tells-or}
-use Rattle.run_limits.specs.Window.{entryInLimits, windowInLimits}
+use Rattle.run_limits.specs.Window.{entryInLimits}
 use Rattle.plan_limits.specs.Tells.{tells-ltb, tells-leb}
 use Rattle.plan_limits.specs.Plans.{tells-in-limits}
 use Rattle.run_limits.specs.Laws.Stored.{tells-stored}
 use Rattle.run_limits.specs.Laws.Places.{tells-window}
 use Rattle.run_window.specs.declared.Entry.{Entry}
 use Rattle.run_window.specs.declared.Found.{Found}
-use Rattle.run_window.specs.Window.{vacant, isFree, isHeld, isStarted, isNode, isOverdue, isLate, isDue, startsBefore, endsBefore, onFound, first}
-use Rattle.run_window.specs.Times.{AllInTime}
+use Rattle.run_window.specs.declared.Sought.{Sought}
+use Rattle.run_window.specs.Window.{vacant, isFree, isHeld, isStarted, isNode, isDue, startsBefore, first}
+use Rattle.run_window.specs.Search.{firstOf}
 use Rattle.run_window.specs.Tests.{by-test, started-true, held-unfree}
 use Rattle.run_window.specs.Order.{starts-order}
 use Rattle.run_window.specs.Firsts.{First, first-found, by-first}
-use Rattle.run.specs.declared.Stop.{Stop}
-use Rattle.run.specs.declared.Halt.{Halt}
+use Rattle.run_checks.specs.declared.Refusal.{Refusal}
+use Rattle.run_checks.specs.declared.Objection.{Objection}
+use Rattle.run_checks.specs.declared.Check.{Check}
+use Rattle.run_checks.specs.declared.Report.{Report}
+use Rattle.run_checks.specs.Order.{Timed, calledBy, startedThen, reportedBy}
+use Rattle.run_checks.specs.Laws.{Passed, passed, called-goes, called-objects, onReport, reported-said}
 use Rattle.run.specs.declared.Run.{Run}
-use Rattle.run.specs.declared.Refusal.{Refusal}
-use Rattle.run.specs.declared.Reply.{Reply}
 use Rattle.run.specs.declared.Answer.{Answer}
-use Rattle.run.specs.declared.Objection.{Objection}
-use Rattle.run.specs.declared.Check.{Check}
-use Rattle.run.specs.declared.Report.{Report}
 use Rattle.run.specs.Limits.{haltInLimits, runInLimits}
-use Rattle.run.specs.Calls.{answer, refuse, stops, kindOf, onHalt, timely, called, reported, asked}
-use Rattle.run.specs.Checks.{Timed, lateCheck, overdueCheck, orElse, readingCheck, checkOf, objected, onCheck, startedReport, reportOf, onReport, idle, starts}
+use Rattle.run.specs.Calls.{refuse, objected, momentOf, called, reported, asked}
+use Rattle.run.specs.Checks.{checkOf, Named, idle, starts}
 use Rattle.run.specs.Loads.{Loads}
 
 -- the length of an array of structs
@@ -47,81 +45,28 @@ unmapped X Y f l n e = sym (length-map l f) ∙ e
 
 -- ---- the answer by the checks
 
-module _ (run : Run) (t : Clock) (go : Answer) where
-  by-checks : (b : Bool) (h : Halt) (c : Bool) (o l : Found)
-      → cond b
-      (onHalt h (λ s. answer (Reply.Stopped s) run)
-      (cond c (refuse run Refusal.ReadingBelow)
-      (onFound o (λ i e. stops run t (Stop.Overdue (e .position) (e .node)))
-      (onFound l (λ i e. stops run t (Stop.Late (e .position) (e .node))) go))))
-      (refuse run Refusal.OutOfLimits)
-      ≡ onCheck
-      (cond b
-      (onHalt h (λ s. Check.Objects (Objection.Keeps s))
-      (cond c (Check.Objects (Objection.Refuses Refusal.ReadingBelow))
-      (orElse (onFound o (λ i e. Check.Objects (Objection.Stops (Stop.Overdue (e .position) (e .node)))) Check.Goes)
-      (onFound l (λ i e. Check.Objects (Objection.Stops (Stop.Late (e .position) (e .node)))) Check.Goes))))
-      (Check.Objects (Objection.Refuses Refusal.OutOfLimits)))
-      (objected run t)
-      go
-  by-checks false h c o l = refl
-  by-checks true (Halt.Stopped s) c o l = refl
-  by-checks true Halt.Going true o l = refl
-  by-checks true Halt.Going false (Found.At i e) l = refl
-  by-checks true Halt.Going false Found.Nothing (Found.At i e) = refl
-  by-checks true Halt.Going false Found.Nothing Found.Nothing = refl
+module _ (run : Run) (t : Clock) (sought : Sought) (check : Check) (q : check ≡ checkOf run t sought) where
+  said : check ≡ calledBy (runInLimits run) (run .halt) (momentOf run t) (run .window) Check.Objects (Check.Goes (firstOf sought (run .window)))
+  unfolding checkOf
+  said = q
 
-  called-check : called run t go ≡ onCheck (checkOf run t) (objected run t) go
-  unfolding timely lateCheck overdueCheck readingCheck checkOf
-  called-check =
-      by-checks (runInLimits run) (run .halt) (ltb (t .0) (run .last .0))
-      (first (isOverdue (run .psi) t) endsBefore 0 (run .window))
-      (first (isLate (run .psi) (run .slack) t) startsBefore 0 (run .window))
+  pub goes : (k : Found) → check ≡ Check.Goes k → Passed (runInLimits run) (run .halt) (firstOf sought (run .window)) k
+  goes k g = passed (runInLimits run) (run .halt) (momentOf run t) (run .window) (firstOf sought (run .window)) k (sym said ∙ g)
 
-  pub called-goes : checkOf run t ≡ Check.Goes → called run t go ≡ go
-  called-goes q = called-check ∙ ap (λ (k : Check). onCheck k (objected run t) go) q
+  module _ (go : Answer) where
+    pub answer-goes : (k : Found) → check ≡ Check.Goes k → called run t go ≡ go
+    answer-goes k g = called-goes (runInLimits run) (run .halt) (momentOf run t) (run .window) (firstOf sought (run .window)) check said (objected run t) go k g
 
-  pub called-objects : (o : Objection) → checkOf run t ≡ Check.Objects o → called run t go ≡ objected run t o
-  called-objects o q = called-check ∙ ap (λ (k : Check). onCheck k (objected run t) go) q
-
--- 51 comes after 50 and the kept stop
-pub check-reads : (run : Run) (t : Clock) → runInLimits run ≡ true → run .halt ≡ Halt.Going → checkOf run t ≡ readingCheck run t
-unfolding checkOf
-check-reads run t good going =
-    ap (λ (b : Bool). cond b (onHalt (run .halt) (λ s. Check.Objects (Objection.Keeps s)) (readingCheck run t)) (Check.Objects (Objection.Refuses Refusal.OutOfLimits))) good
-    ∙ ap (λ (h : Halt). onHalt h (λ s. Check.Objects (Objection.Keeps s)) (readingCheck run t)) going
-
--- a run that passes the checks is in limits
-pub goes-in-limits : (run : Run) (t : Clock) → checkOf run t ≡ Check.Goes → runInLimits run ≡ true
-unfolding checkOf
-goes-in-limits run t = by-test (λ (k : Check). k ≡ Check.Goes → runInLimits run ≡ true) (runInLimits run) _ _ (λ e q. e) (λ e q. absurd (never q))
-  where
-    never : {o : Objection} → Check.Objects o ≡ Check.Goes → ⊥
-    never q = let z : _≡_ {A = ℕ} 0 1 = cc in omega arith
+    pub answer-objects : (o : Objection) → check ≡ Check.Objects o → called run t go ≡ objected run t o
+    answer-objects o g = called-objects (runInLimits run) (run .halt) (momentOf run t) (run .window) (firstOf sought (run .window)) check said (objected run t) go o g
 
 -- ---- reports and asks, by what is found
 
-module _ (run : Run) (f : ℕ → Entry → Answer) where
-  by-start : (i : ℕ) (e : Entry) (b : Bool) → cond b (f i e) (refuse run Refusal.NotStarted) ≡ onReport (cond b (Report.Names i e) (Report.Refuses Refusal.NotStarted)) f (refuse run)
-  by-start i e true = refl
-  by-start i e false = refl
-
-  by-found : (r : Found)
-      → onFound r (λ i e. cond (isStarted (e .phase)) (f i e) (refuse run Refusal.NotStarted)) (refuse run Refusal.NoSuchNode)
-      ≡ onReport (onFound r (λ i e. startedReport i e) (Report.Refuses Refusal.NoSuchNode)) f (refuse run)
-  unfolding startedReport
-  by-found Found.Nothing = refl
-  by-found (Found.At i e) = by-start i e (isStarted (e .phase))
-
-  pub reported-report : (position node : ℕ) → reported run position node f ≡ onReport (reportOf run position node) f (refuse run)
-  unfolding reportOf
-  reported-report position node = by-found (first (isNode position node) startsBefore 0 (run .window))
-
-  pub reported-names : (position node i : ℕ) (e : Entry) → reportOf run position node ≡ Report.Names i e → reported run position node f ≡ f i e
-  reported-names position node i e q = reported-report position node ∙ ap (λ (r : Report). onReport r f (refuse run)) q
-
-  pub reported-refuses : (position node : ℕ) (x : Refusal) → reportOf run position node ≡ Report.Refuses x → reported run position node f ≡ refuse run x
-  reported-refuses position node x q = reported-report position node ∙ ap (λ (r : Report). onReport r f (refuse run)) q
+pub reported-report : (run : Run) (f : ℕ → Entry → Answer) (position node : ℕ) (k : Found) → k ≡ firstOf (Sought.Node position node) (run .window) → (r : Report) → r ≡ reportedBy k Report.Names Report.Refuses
+    → onReport r f (refuse run) ≡ reported run position node f
+reported-report run f position node k e r s =
+    ap (λ (x : Report). onReport x f (refuse run)) s
+    ∙ (sym (reported-said f (refuse run) k) ∙ ap (λ (x : Found). reportedBy x f (refuse run)) e)
 
 module _ (run : Run) (t : Clock) where
   pub asked-idle : first (isDue (run .psi) t) startsBefore 0 (run .window) ≡ Found.Nothing → asked run t ≡ idle run t
@@ -181,8 +126,8 @@ module _ (run : Run) (good : runInLimits run ≡ true) where
       (tells-and (tells-window (run .plan .activities) (run .plan .sizes) (run .window)) (tells-self (haltInLimits (run .halt))))))))
       good
 
-  pub timed : Timed run
-  timed = (
+  pub timed : (t : Clock) → Timed (momentOf run t) (run .window)
+  timed t = (
     parts .1 .0,
     (let h = parts .1 .1 .0 .1 in omega arith),
     beyond (λ (e : Entry). isHeld (e .phase) ≡ true → (e .start .0 ≤ horizon) × (e .end .0 ≤ horizon)) (run .window)
@@ -197,13 +142,8 @@ module _ (run : Run) (good : runInLimits run ≡ true) where
   pub loads-in-limits : Loads run
   loads-in-limits = record { plan = parts .0; progress = parts .1 .1 .1 .0 .2 }
 
-  -- what is known of a node that a report names
-  abbrev pub Named : Report → Type 0
-  Named (Report.Refuses f) = Unit {0}
-  Named (Report.Names i e) = (i < 512) × (e .activity < 32) × (e .node < 64) × KindNames (run .plan) (kindOf run e)
-
   module _ (long : length (run .window) ≡ 512) (position node : ℕ) where
-    started : (i : ℕ) (e : Entry) → First (isNode position node) startsBefore (run .window) i e → isStarted (e .phase) ≡ true → Named (Report.Names i e)
+    started : (i : ℕ) (e : Entry) → First (isNode position node) startsBefore (run .window) i e → isStarted (e .phase) ≡ true → Named run (Report.Names i e)
     started i e f s =
         let k = known (run .plan .activities) (run .plan .sizes) e (ap isHeld (started-true (e .phase) s)) (subst Good (f .stands) (parts .1 .1 .1 .1 .0 i (f .within))) in
         let a = parts .0 .activities in
@@ -212,15 +152,14 @@ module _ (run : Run) (good : runInLimits run ≡ true) where
         let l = f .within in
         (omega arith, (let b = k .1 .0 .0 in omega arith), omega arith, parts .0 .nodes (e .activity) (e .node) (k .1 .0 .0) n .names)
 
-    pub named : Named (reportOf run position node)
-    unfolding reportOf startedReport
+    named : Named run (reportedBy (first (isNode position node) startsBefore 0 (run .window)) Report.Names Report.Refuses)
     named =
-        by-first (isNode position node) startsBefore starts-order (run .window) Named (λ i e. startedReport i e) (Report.Refuses Refusal.NoSuchNode)
-        (λ i e f. by-test Named (isStarted (e .phase)) (Report.Names i e) (Report.Refuses Refusal.NotStarted) (λ s. started i e f s) (λ s. tt))
+        by-first (isNode position node) startsBefore starts-order (run .window) (Named run) (λ i e. startedThen i e Report.Names Report.Refuses) (Report.Refuses Refusal.NoSuchNode)
+        (λ i e f. by-test (Named run) (isStarted (e .phase)) (Report.Names i e) (Report.Refuses Refusal.NotStarted) (λ s. started i e f s) (λ s. tt))
         (λ n. tt)
 
-    pub named-at : (i : ℕ) (e : Entry) → reportOf run position node ≡ Report.Names i e → (i < 512) × (e .activity < 32) × (e .node < 64) × KindNames (run .plan) (kindOf run e)
-    named-at i e q = subst Named q named
+    pub named-report : (k : Found) → k ≡ firstOf (Sought.Node position node) (run .window) → (r : Report) → r ≡ reportedBy k Report.Names Report.Refuses → Named run r
+    named-report k e r s = subst (Named run) (sym (s ∙ ap (λ (x : Found). reportedBy x Report.Names Report.Refuses) e)) named
 
 -- a place that is found is one of the window
 pub found-within : (p : Entry → Bool) (w : List Entry) (i : ℕ) (e : Entry) → length w ≡ 512 → first p startsBefore 0 w ≡ Found.At i e → i < 512

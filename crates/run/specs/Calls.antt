@@ -11,15 +11,19 @@ use Rattle.plan.specs.Limits.{nodeAt}
 use Rattle.plan.specs.declared.Kind.{Kind}
 use Rattle.times.specs.declared.Progress.{Progress}
 use Rattle.run_window.specs.declared.Entry.{Entry}
-use Rattle.run.specs.declared.Stop.{Stop}
-use Rattle.run.specs.declared.Halt.{Halt}
+use Rattle.run_checks.specs.declared.Stop.{Stop}
+use Rattle.run_checks.specs.declared.Halt.{Halt}
 use Rattle.run.specs.declared.Run.{Run}
-use Rattle.run.specs.declared.Refusal.{Refusal}
+use Rattle.run_checks.specs.declared.Refusal.{Refusal}
 use Rattle.run.specs.declared.Reply.{Reply}
 use Rattle.run.specs.declared.Answer.{Answer}
 use Rattle.run.specs.declared.Call.{Call}
 use Rattle.run_loading.specs.declared.Failure.{Failure}
-use Rattle.run_window.specs.Window.{vacant, isStarted, startedOf, isOverdue, isLate, isDue, isNode, startsBefore, endsBefore, onFound, first, isEmpty}
+use Rattle.run_window.specs.Window.{vacant, startedOf, isDue, isNode, startsBefore, onFound, first, isEmpty}
+use Rattle.run_checks.specs.declared.Objection.{Objection}
+use Rattle.run_checks.specs.declared.Moment.{Moment}
+use Rattle.run_checks.specs.Order.{timelyBy, calledBy, reportedBy}
+pub use Rattle.run_checks.specs.Order.{onHalt}
 use Rattle.run_outcomes.specs.Told.{toldOf}
 use Rattle.run.specs.Loading.{further, mostPending}
 use Rattle.run.specs.Limits.{runInLimits}
@@ -61,9 +65,7 @@ kindOf run e = nodeAt (run .plan) (e .activity) (e .node) .kind
 -- 52 no such node in the window; 53 node not started
 abbrev pub reported : Run → ℕ → ℕ → (ℕ → Entry → Answer) → Answer
 reported run position node f =
-    onFound (first (isNode position node) startsBefore 0 (run .window))
-    (λ i e. cond (isStarted (e .phase)) (f i e) (refuse run Refusal.NotStarted))
-    (refuse run Refusal.NoSuchNode)
+    reportedBy (first (isNode position node) startsBefore 0 (run .window)) f (refuse run)
 
 -- the reported node leaves the window
 abbrev pub cleared : Run → Clock → ℕ → Progress → Run
@@ -110,22 +112,23 @@ learns run t position node o = reported run position node (λ i e. learnsBy run 
 
 -- ---- the order of checks at a call
 
-abbrev pub onHalt : {A : Type 0} → Halt → (Stop → A) → A → A
-onHalt Halt.Going f z = z
-onHalt (Halt.Stopped s) f z = f s
+-- what is answered where the checks object: "A refused call hands back the run exactly as it came in. A call to a stopped
+-- run does too, and answers the stop. Any other answer makes its reading the last one"
+abbrev pub objected : Run → Clock → Objection → Answer
+objected run t (Objection.Refuses f) = refuse run f
+objected run t (Objection.Keeps s) = answer (Reply.Stopped s) run
+objected run t (Objection.Stops s) = stops run t s
+
+abbrev pub momentOf : Run → Clock → Moment
+momentOf run t = record { psi = run .psi; slack = run .slack; last = run .last; t = t }
 
 -- 51 reading below the last one, 42 overdue, 41 late
-unfoldable pub timely : Run → Clock → Answer → Answer
-timely run t go =
-    cond (ltb (t .0) (run .last .0)) (refuse run Refusal.ReadingBelow)
-    (onFound (first (isOverdue (run .psi) t) endsBefore 0 (run .window)) (λ i e. stops run t (Stop.Overdue (e .position) (e .node)))
-    (onFound (first (isLate (run .psi) (run .slack) t) startsBefore 0 (run .window)) (λ i e. stops run t (Stop.Late (e .position) (e .node)))
-    go))
+abbrev pub timely : Run → Clock → Answer → Answer
+timely run t go = timelyBy (momentOf run t) (run .window) (objected run t) go
 
 -- "Order at a call: 50, kept stop, 51, 42, 41, 52 to 55."
 abbrev pub called : Run → Clock → Answer → Answer
-called run t go =
-    cond (runInLimits run) (onHalt (run .halt) (λ s. answer (Reply.Stopped s) run) (timely run t go)) (refuse run Refusal.OutOfLimits)
+called run t go = calledBy (runInLimits run) (run .halt) (momentOf run t) (run .window) (objected run t) go
 
 unfoldable pub askOf : Run → Clock → Answer
 askOf run t = called run t (asked run t)

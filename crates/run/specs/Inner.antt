@@ -4,8 +4,8 @@ use Prim.Native.Nat.{ℕ}
 use Rattle.time.specs.declared.Clock.{Clock}
 use Rattle.plan.specs.declared.Plan.{Plan}
 use Rattle.run_window.specs.declared.Entry.{Entry}
-use Rattle.run.specs.declared.Stop.{Stop}
-use Rattle.run.specs.declared.Halt.{Halt}
+use Rattle.run_checks.specs.declared.Stop.{Stop}
+use Rattle.run_checks.specs.declared.Halt.{Halt}
 use Rattle.run.specs.declared.Run.{Run}
 use Rattle.run.specs.declared.Reply.{Reply}
 use Rattle.run.specs.declared.Unopened.{Unopened}

@@ -1,8 +1,8 @@
 -- "Who can cause which number": the number, and the place or node, of each refusal, stop and reply.
 use Prim.Native.Nat.{ℕ}
 use Rattle.plan.specs.Fault.{numberOf}
-use Rattle.run.specs.declared.Stop.{Stop}
-use Rattle.run.specs.declared.Refusal.{Refusal}
+use Rattle.run_checks.specs.declared.Stop.{Stop}
+use Rattle.run_checks.specs.declared.Refusal.{Refusal}
 use Rattle.run.specs.declared.Unopened.{Unopened}
 
 -- the host that calls

@@ -15,7 +15,7 @@ use Rattle.plan.specs.Reading.{zeroPlan}
 use Rattle.judge.specs.Judge.{judgeOf}
 use Rattle.automaton.specs.Next.{nextOf}
 use Rattle.times.specs.declared.Progress.{Progress}
-use Rattle.run.specs.declared.Halt.{Halt}
+use Rattle.run_checks.specs.declared.Halt.{Halt}
 use Rattle.run.specs.declared.Run.{Run}
 use Rattle.run.specs.declared.Unopened.{Unopened}
 use Rattle.run.specs.declared.Opening.{Opening}

@@ -1,24 +1,24 @@
 // What a call answers once its checks are passed, and what it answers where they are not.
 use crate::Answer;
 use crate::Halt;
-use crate::Objection;
 use crate::Refusal;
 use crate::Reply;
-use crate::Report;
 use crate::Run;
-use crate::checks;
+use crate::learning;
 use plan::Kind;
 use time::Clock;
 use times::Progress;
+use run_checks::Objection;
+use run_checks::Report;
 use run_window::Entry;
 use run_window::Found;
-use run_window::Sought;
-ghost use mathlib.Core.Bool.{true};
 ghost use mathlib.Core.Path.{_≡_};
 ghost use Prim.Native.Nat.{_<_};
-ghost use Rattle.run.specs.Limits.{runInLimits};
-ghost use Rattle.run.specs.Calls.{refuse, heard, stops, isDone, asked, kindOf, completedBy, completed};
-ghost use Rattle.run.specs.Checks.{objected, starts, idle};
+ghost use Rattle.run_checks.specs.declared.Halt.{Halt};
+ghost use Rattle.run_checks.specs.Laws.{onReport};
+ghost use Rattle.run_window.specs.Window.{isDue, startsBefore, first};
+ghost use Rattle.run.specs.Calls.{refuse, heard, objected, isDone, asked, kindOf, completedBy, learnsBy};
+ghost use Rattle.run.specs.Checks.{Passes, Named, starts, idle};
 
 // "A refused call hands back the run exactly as it came in."
 pub fn refuse(run: Run, f: Refusal) -> Answer
@@ -31,7 +31,13 @@ pub fn refuse(run: Run, f: Refusal) -> Answer
 }
 
 // "Any other answer makes its reading the last one"
-pub fn heard(run: Run, t: Clock, halt: Halt, progress: Progress, window: [Entry; 512]) -> Run
+pub fn heard(
+    run: Run,
+    t: Clock,
+    halt: Halt,
+    progress: Progress,
+    window: [Entry; Run::WINDOW],
+) -> Run
     ensures { λ r. ⌜ r ≡ heard run t halt progress window ⌝ }
 {
     let plan = run.plan;
@@ -90,49 +96,43 @@ fn is_done(run: Run) -> bool
 }
 
 // "otherwise wait when nothing is due"
-fn idle(run: Run, t: Clock) -> Answer
-    requires { ⌜ run .progress .state < 64 ⌝ }
+fn idle(mut run: Run, t: Clock) -> Answer
+    requires { ⌜ (run .progress .state < 64) × (run .halt ≡ Halt.Going) ⌝ }
     ensures { λ r. ⌜ r ≡ idle run t ⌝ }
 {
-    let progress = run.progress;
-    let window = run.window;
-    let next = heard(run, t, Halt::Going, progress, window);
-    if is_done(run) {
+    let done = is_done(run);
+    run.last = t;
+    if done {
         return Answer {
             reply: Reply::Done,
-            run: next,
+            run,
         };
     }
     Answer {
         reply: Reply::Wait,
-        run: next,
+        run,
     }
 }
 
 // The node at place i is started.
-fn starts(run: Run, t: Clock, i: usize, e: Entry) -> Answer
-    requires { ⌜ i < 512 ⌝ }
+fn starts(mut run: Run, t: Clock, i: usize, e: Entry) -> Answer
+    requires { ⌜ (i < 512) × (run .halt ≡ Halt.Going) ⌝ }
     ensures { λ r. ⌜ r ≡ starts run t i e ⌝ }
 {
-    let progress = run.progress;
-    let mut window = run.window;
     let s = run_window::started(e);
-    window[i] = s;
-    let next = heard(run, t, Halt::Going, progress, window);
+    run.window[i] = s;
+    run.last = t;
     Answer {
         reply: Reply::Start(e.position, e.activity, e.node),
-        run: next,
+        run,
     }
 }
 
 // "Ask starts the due, unstarted node with the earliest specified start"
-pub fn asked(run: Run, t: Clock) -> Answer
-    requires { ⌜ runInLimits run ≡ true ⌝ }
+pub fn asked(run: Run, t: Clock, found: Found) -> Answer
+    requires { ⌜ Passes run × (found ≡ first (isDue (run .psi) t) startsBefore 0 (run .window)) ⌝ }
     ensures { λ r. ⌜ r ≡ asked run t ⌝ }
 {
-    let window = run.window;
-    let psi = run.psi;
-    let found = run_window::first(window, Sought::Due(psi, t));
     match found {
         Found::Nothing => {
             return idle(run, t);
@@ -158,20 +158,18 @@ pub fn kind_of(run: Run, e: Entry) -> Kind
 }
 
 // The reported action leaves the window; 54: "completion of an event".
-fn completed_by(run: Run, t: Clock, i: usize, kind: Kind) -> Answer
-    requires { ⌜ i < 512 ⌝ }
+fn completed_by(mut run: Run, t: Clock, i: usize, kind: Kind) -> Answer
+    requires { ⌜ (i < 512) × (run .halt ≡ Halt.Going) ⌝ }
     ensures { λ r. ⌜ r ≡ completedBy run t i kind ⌝ }
 {
     match kind {
         Kind::Action(_, _) => {
-            let progress = run.progress;
-            let mut window = run.window;
             let free = run_window::vacant();
-            window[i] = free;
-            let next = heard(run, t, Halt::Going, progress, window);
+            run.window[i] = free;
+            run.last = t;
             return Answer {
                 reply: Reply::Taken,
-                run: next,
+                run,
             };
         }
         Kind::Claim(_) => {
@@ -186,11 +184,10 @@ fn completed_by(run: Run, t: Clock, i: usize, kind: Kind) -> Answer
     }
 }
 
-pub fn completed(run: Run, t: Clock, position: u32, node: u8) -> Answer
-    requires { ⌜ runInLimits run ≡ true ⌝ }
-    ensures { λ r. ⌜ r ≡ completed run t position node ⌝ }
+pub fn completed(run: Run, t: Clock, report: Report) -> Answer
+    requires { ⌜ Passes run × Named run report ⌝ }
+    ensures { λ r. ⌜ r ≡ onReport report (λ i e. completedBy run t i (kindOf run e)) (refuse run) ⌝ }
 {
-    let report = checks::report_of(run, position, node);
     match report {
         Report::Refuses(f) => {
             return refuse(run, f);
@@ -198,6 +195,23 @@ pub fn completed(run: Run, t: Clock, position: u32, node: u8) -> Answer
         Report::Names(i, e) => {
             let kind = kind_of(run, e);
             return completed_by(run, t, i, kind);
+        }
+    }
+}
+
+// ---- outcome
+
+pub fn learns(run: Run, t: Clock, report: Report, o: u8) -> Answer
+    requires { ⌜ Passes run × Named run report ⌝ }
+    ensures { λ r. ⌜ r ≡ onReport report (λ i e. learnsBy run t i e o (kindOf run e)) (refuse run) ⌝ }
+{
+    match report {
+        Report::Refuses(f) => {
+            return refuse(run, f);
+        }
+        Report::Names(i, e) => {
+            let kind = kind_of(run, e);
+            return learning::learns_by(run, t, i, e, o, kind);
         }
     }
 }

@@ -3,22 +3,18 @@ use crate::Answer;
 use crate::Halt;
 use crate::Refusal;
 use crate::Reply;
-use crate::Report;
 use crate::Run;
 use crate::Stop;
 use crate::calls;
-use crate::checks;
 use plan::Kind;
 use time::Clock;
 use run_loading::Failure;
 use run_window::Entry;
-ghost use mathlib.Core.Bool.{true};
 ghost use mathlib.Core.Path.{_≡_};
 ghost use Prim.Native.Nat.{_<_};
 ghost use Rattle.plan.specs.Plan.{outcomesOf};
 ghost use Rattle.plan.specs.Limits.{KindNames};
-ghost use Rattle.run.specs.Limits.{runInLimits};
-ghost use Rattle.run.specs.Calls.{learnt, learnsBy, learns};
+ghost use Rattle.run.specs.Calls.{learnt, learnsBy};
 ghost use Rattle.run.specs.Loads.{Loads};
 ghost use Rattle.run.specs.Inner.{toldRun, replyAfter, haltAfter};
 
@@ -74,7 +70,7 @@ fn learnt(run: Run, t: Clock, i: usize, x: Entry, e: u8, o: u8) -> Answer
 }
 
 // 54: "outcome of an action"; 55: "outcome the event lacks".
-fn learns_by(run: Run, t: Clock, i: usize, x: Entry, o: u8, kind: Kind) -> Answer
+pub fn learns_by(run: Run, t: Clock, i: usize, x: Entry, o: u8, kind: Kind) -> Answer
     requires { ⌜ Loads run × (i < 512) × KindNames (run .plan) kind ⌝ }
     ensures { λ r. ⌜ r ≡ learnsBy run t i x o kind ⌝ }
 {
@@ -87,20 +83,4 @@ fn learns_by(run: Run, t: Clock, i: usize, x: Entry, o: u8, kind: Kind) -> Answe
         return learnt(run, t, i, x, e, o);
     }
     calls::refuse(run, Refusal::OutcomeLacking)
-}
-
-pub fn learns(run: Run, t: Clock, position: u32, node: u8, o: u8) -> Answer
-    requires { ⌜ runInLimits run ≡ true ⌝ }
-    ensures { λ r. ⌜ r ≡ learns run t position node o ⌝ }
-{
-    let report = checks::report_of(run, position, node);
-    match report {
-        Report::Refuses(f) => {
-            return calls::refuse(run, f);
-        }
-        Report::Names(i, e) => {
-            let kind = calls::kind_of(run, e);
-            return learns_by(run, t, i, e, o, kind);
-        }
-    }
 }

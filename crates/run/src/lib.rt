@@ -14,31 +14,20 @@ use plan::Plan;
 use plan::Verdict;
 use time::Clock;
 use times::Progress;
+use run_checks::Check;
 use run_window::Entry;
+use run_window::Sought;
 
-// Why a run has stopped. Document 01's number for each case is `stopNumber` in specs/Numbers.antt.
-pub enum Stop {
-    // position and node of the unstarted node with the earliest start
-    Late(u32, u8),
-    // position and node of the started node with the earliest completion
-    Overdue(u32, u8),
-    // the window would pass 512
-    Full,
-    // a completion or availability of the next path above 10^15, or a position above 1,000,000,000
-    Beyond,
-}
-
-pub enum Halt {
-    Going,
-    Stopped(Stop),
-}
+pub use run_checks::Halt;
+pub use run_checks::Refusal;
+pub use run_checks::Stop;
 
 pub struct Run {
     pub plan: Plan,
     pub psi: Clock,
     pub slack: u64,
     pub progress: Progress,
-    pub window: [Entry; 512],
+    pub window: [Entry; Run::WINDOW],
     // the last reading, 0 at opening
     pub last: Clock,
     pub halt: Halt,
@@ -46,31 +35,15 @@ pub struct Run {
 
 impl Run {
     // the most nodes that the window holds
-    pub const WINDOW: usize = 512;
+    pub const WINDOW: usize = run_window::WINDOW;
     // the largest time that an opening or a path may have
     pub const HORIZON: u64 = 1_000_000_000_000_000;
     // the least and the largest slack
-    pub const SLACK_LEAST: u64 = 1;
+    pub const SLACK_LEAST: u64 = run_checks::bounds::SLACK_LEAST;
 
-    pub const SLACK_MOST: u64 = 1_000_000;
+    pub const SLACK_MOST: u64 = run_checks::bounds::SLACK_MOST;
     // the largest position
-    pub const LAST_POSITION: u32 = 1_000_000_000;
-}
-
-// Why a call is refused.
-pub enum Refusal {
-    // a run in which a stored count, number or time lies outside the limits
-    OutOfLimits,
-    // reading below the last one
-    ReadingBelow,
-    // no such node in the window
-    NoSuchNode,
-    // node not started
-    NotStarted,
-    // completion of an event or outcome of an action
-    OtherKind,
-    // outcome the event lacks
-    OutcomeLacking,
+    pub const LAST_POSITION: u32 = run_checks::bounds::LAST_POSITION;
 }
 
 pub enum Reply {
@@ -122,25 +95,6 @@ pub struct Opened {
     pub run: Run,
 }
 
-// What the checks at a call object to: a refusal, the stop that the run keeps, or a stop at this reading.
-enum Objection {
-    Refuses(Refusal),
-    Keeps(Stop),
-    Stops(Stop),
-}
-
-// What the checks at a call say.
-enum Check {
-    Goes,
-    Objects(Objection),
-}
-
-// What a report names: a started node of the window, with its place.
-enum Report {
-    Refuses(Refusal),
-    Names(usize, Entry),
-}
-
 impl Run {
     // "The plan comes as bytes and is judged first; the run keeps it."
     pub fn open(bytes: &[u8], psi: Clock, slack: u64, availabilities: &[u64]) -> Opened
@@ -163,10 +117,11 @@ impl Run {
     pub fn ask(mut self, t: Clock) -> Answer
         ensures { λ r. ⌜ r ≡ askOf self t ⌝ }
     {
-        let check = checks::check_call(self, t);
+        let psi = self.psi;
+        let check = checks::check_call(self, t, Sought::Due(psi, t));
         match check {
-            Check::Goes => {
-                return calls::asked(self, t);
+            Check::Goes(found) => {
+                return calls::asked(self, t, found);
             }
             Check::Objects(o) => {
                 return calls::objected(self, t, o);
@@ -178,10 +133,11 @@ impl Run {
     pub fn completion(mut self, t: Clock, position: u32, node: u8) -> Answer
         ensures { λ r. ⌜ r ≡ completionOf self t position node ⌝ }
     {
-        let check = checks::check_call(self, t);
+        let check = checks::check_call(self, t, Sought::Node(position, node));
         match check {
-            Check::Goes => {
-                return calls::completed(self, t, position, node);
+            Check::Goes(found) => {
+                let report = run_checks::report_of(found);
+                return calls::completed(self, t, report);
             }
             Check::Objects(objection) => {
                 return calls::objected(self, t, objection);
@@ -193,10 +149,11 @@ impl Run {
     pub fn outcome(mut self, t: Clock, position: u32, node: u8, o: u8) -> Answer
         ensures { λ r. ⌜ r ≡ outcomeOf self t position node o ⌝ }
     {
-        let check = checks::check_call(self, t);
+        let check = checks::check_call(self, t, Sought::Node(position, node));
         match check {
-            Check::Goes => {
-                return learning::learns(self, t, position, node, o);
+            Check::Goes(found) => {
+                let report = run_checks::report_of(found);
+                return calls::learns(self, t, report, o);
             }
             Check::Objects(objection) => {
                 return calls::objected(self, t, objection);

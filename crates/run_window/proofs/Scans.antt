@@ -22,20 +22,12 @@ module _ (p : Entry → Bool) (goes : Entry → Entry → Bool) (w : List Entry)
   unfolding first
   first-none i h = rw (drop-of-length-le w h)
 
-  split : (d : Entry) (i : ℕ) → 0 < i → i ≤ length w
-      → first p goes (i - 1) (drop (i - 1) w)
-      ≡ cond (p (getD w (i - 1) d)) (better goes (i - 1) (getD w (i - 1) d) (first p goes i (drop i w))) (first p goes i (drop i w))
+  pub first-turn : (d : Entry) (i : ℕ) → 0 < i → i ≤ length w
+      → cond (p (getD w (i - 1) d)) (better goes (i - 1) (getD w (i - 1) d) (first p goes i (drop i w))) (first p goes i (drop i w))
+      ≡ first p goes (i - 1) (drop (i - 1) w)
   unfolding first
-  split d zero z h = absurd (omega arith)
-  split d (suc j) z h = rw (sub-one, drop-cons w j d)
-
-  pub first-here : (d : Entry) (i : ℕ) → 0 < i → i ≤ length w → {b : Bool} → b ≡ p (getD w (i - 1) d) → b ≡ true
-      → better goes (i - 1) (getD w (i - 1) d) (first p goes i (drop i w)) ≡ first p goes (i - 1) (drop (i - 1) w)
-  first-here d i z h e t = sym (split d i z h ∙ rw (sym e ∙ t))
-
-  pub first-past : (d : Entry) (i : ℕ) → 0 < i → i ≤ length w → {b : Bool} → b ≡ p (getD w (i - 1) d) → b ≡ false
-      → first p goes i (drop i w) ≡ first p goes (i - 1) (drop (i - 1) w)
-  first-past d i z h e t = sym (split d i z h ∙ rw (sym e ∙ t))
+  first-turn d zero z h = absurd (omega arith)
+  first-turn d (suc j) z h = rw (sub-one, drop-cons w j d)
 
 -- ---- whether every place is free, from the front
 

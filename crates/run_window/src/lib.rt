@@ -6,9 +6,12 @@ ghost use Prim.Native.Nat.{_≤_, _<_};
 ghost use Rattle.time.specs.Time.{horizon};
 ghost use Rattle.run_window.specs.Window.{vacant, isFree, startedOf, isOverdue, isLate, isDue, isNode, before, better};
 ghost use Rattle.run_window.specs.Times.{InTime, AllInTime};
-ghost use Rattle.run_window.specs.Search.{isSought, SoughtInTime, timeOf, sooner, firstOf};
+ghost use Rattle.run_window.specs.Search.{isSought, SoughtInTime, timeOf, sooner, kept, seenOf};
 
 mod places; // the whole window
+
+// the most nodes that the window holds
+pub const WINDOW: usize = 512;
 
 pub use places::is_empty;
 pub use places::place;
@@ -37,7 +40,14 @@ pub enum Found {
     At(usize, Entry),
 }
 
-// What a call looks for in the window.
+// What a call finds in the window: the first that is overdue, the first that is late, and the first of what else is sought.
+pub struct Seen {
+    pub overdue: Found,
+    pub late: Found,
+    pub sought: Found,
+}
+
+// What is looked for in the window.
 pub enum Sought {
     // Ψ and the reading
     Overdue(Clock, Clock),
@@ -209,19 +219,37 @@ fn better(sought: Sought, i: usize, e: Entry, rest: Found) -> Found
     }
 }
 
-// Of the places that hold what is sought, the first in the order of ties; of two like places the lower one.
-pub fn first(window: [Entry; 512], sought: Sought) -> Found
-    requires { ⌜ SoughtInTime sought × AllInTime window ⌝ }
-    ensures { λ r. ⌜ r ≡ firstOf sought window ⌝ }
+// What is sought of place i with entry e and of what was found behind it.
+fn kept(sought: Sought, i: usize, e: Entry, rest: Found) -> Found
+    requires { ⌜ SoughtInTime sought × InTime e ⌝ }
+    ensures { λ r. ⌜ r ≡ kept sought i e rest ⌝ }
 {
-    let mut best = Found::Nothing;
-    let mut i: usize = 512;
+    if is_sought(sought, e) {
+        return better(sought, i, e, rest);
+    }
+    rest
+}
+
+// Of those that are overdue, of those that are late and of what is sought, the first in the order of ties; of two like places
+// the lower one.
+pub fn look(window: [Entry; WINDOW], psi: Clock, slack: u64, t: Clock, sought: Sought) -> Seen
+    requires { ⌜ (psi .0 ≤ horizon) × (slack ≤ horizon) × SoughtInTime sought × AllInTime window ⌝ }
+    ensures { λ r. ⌜ r ≡ seenOf psi slack t sought window ⌝ }
+{
+    let mut overdue = Found::Nothing;
+    let mut late = Found::Nothing;
+    let mut found = Found::Nothing;
+    let mut i: usize = WINDOW;
     while 0 < i {
         i -= 1;
         let e = window[i];
-        if is_sought(sought, e) {
-            best = better(sought, i, e, best);
-        }
+        overdue = kept(Sought::Overdue(psi, t), i, e, overdue);
+        late = kept(Sought::Late(psi, slack, t), i, e, late);
+        found = kept(sought, i, e, found);
     }
-    best
+    Seen {
+        overdue,
+        late,
+        sought: found,
+    }
 }

@@ -1,15 +1,16 @@
 // The whole window: whether it is empty, how many places are free, and a path's entries put into the lowest of them.
 use crate::Entry;
+use crate::WINDOW;
 use crate::is_free;
 ghost use mathlib.Core.Path.{_≡_};
 ghost use lib.ListN.{take};
 ghost use Rattle.run_window.specs.Window.{isEmpty, placed, vacancies};
 
-pub fn is_empty(window: [Entry; 512]) -> bool
+pub fn is_empty(window: [Entry; WINDOW]) -> bool
     ensures { λ r. ⌜ r ≡ isEmpty window ⌝ }
 {
     let mut i: usize = 0;
-    while i < 512 {
+    while i < WINDOW {
         let e = window[i];
         if is_free(e) {
             i += 1;
@@ -21,11 +22,11 @@ pub fn is_empty(window: [Entry; 512]) -> bool
 }
 
 // How many places are free.
-pub fn vacancies(window: [Entry; 512]) -> usize
+pub fn vacancies(window: [Entry; WINDOW]) -> usize
     ensures { λ r. ⌜ r ≡ vacancies window ⌝ }
 {
     let mut n: usize = 0;
-    let mut i: usize = 512;
+    let mut i: usize = WINDOW;
     while 0 < i {
         i -= 1;
         let e = window[i];
@@ -37,12 +38,12 @@ pub fn vacancies(window: [Entry; 512]) -> usize
 }
 
 // The first `count` of the entries, in order, in the lowest free places.
-pub fn place(mut window: [Entry; 512], entries: [Entry; 512], count: usize) -> [Entry; 512]
+pub fn place(mut window: [Entry; WINDOW], entries: [Entry; WINDOW], count: usize) -> [Entry; WINDOW]
     ensures { λ r. ⌜ r ≡ placed window (take count entries) ⌝ }
 {
     let mut at: usize = 0;
     let mut next: usize = 0;
-    while at < 512 {
+    while at < WINDOW {
         if count <= next {
             return window;
         }

@@ -11,6 +11,7 @@ use Rattle.run_window.specs.declared.Entry.{Entry}
 use Rattle.run_window.specs.declared.Phase.{Phase}
 use Rattle.run_window.specs.Window.{isFree, isOverdue, isLate, isDue, isNode, startsBefore, endsBefore}
 use Rattle.run_window.specs.Order.{starts-order, ends-order}
+use Rattle.run_checks.specs.Order.{timelyBy}
 use Rattle.run.specs.declared.Run.{Run}
 use Rattle.run_checks.specs.declared.Halt.{Halt}
 use Rattle.run_checks.specs.declared.Stop.{Stop}
@@ -55,15 +56,15 @@ module _ (run : Run) (t : Clock) (go : Answer) where
   called-going g = let l = in-limits run .1 (g .limits) in rw (l, g .going)
 
   timely-below : t .0 < run .last .0 → timely run t go ≡ refuse run Refusal.ReadingBelow
-  unfolding timely
+  unfolding timelyBy
   timely-below l = rw (lt-ltb (t .0) (run .last .0) l)
 
   timely-overdue : (i : ℕ) → Rises run t → FirstOf run (OverdueAt run t) endsBefore i → timely run t go ≡ stops run t (Stop.Overdue (entryAt run i .position) (entryAt run i .node))
-  unfolding timely
+  unfolding timelyBy
   timely-overdue i r f = rw (le-ltb (t .0) (run .last .0) (r .rises), first-place run (isOverdue (run .psi) t) (OverdueAt run t) (overdue-places run t) endsBefore ends-order i f)
 
   timely-late : (i : ℕ) → NotOverdue run t → FirstOf run (LateAt run t) startsBefore i → timely run t go ≡ stops run t (Stop.Late (entryAt run i .position) (entryAt run i .node))
-  unfolding timely
+  unfolding timelyBy
   timely-late i h f =
       rw (
         le-ltb (t .0) (run .last .0) (h .rises .rises),
@@ -72,7 +73,7 @@ module _ (run : Run) (t : Clock) (go : Answer) where
       )
 
   timely-goes : Timely run t → timely run t go ≡ go
-  unfolding timely
+  unfolding timelyBy
   timely-goes h =
       rw (
         le-ltb (t .0) (run .last .0) (h .not-overdue .rises .rises),

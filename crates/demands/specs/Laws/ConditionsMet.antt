@@ -15,6 +15,7 @@ use Rattle.run_window.specs.Window.{isHeld, isStarted, isOverdue, isLate, isDue
 use Rattle.run_window.specs.Tests.{started-true}
 use Rattle.run_window.specs.Order.{starts-order, ends-order}
 use Rattle.run_window.specs.Places.{empty-none, none-empty}
+use Rattle.run_checks.specs.Order.{timelyBy}
 use Rattle.run.specs.declared.Run.{Run}
 use Rattle.run.specs.declared.Call.{Call}
 use Rattle.run.specs.declared.Reply.{Reply}
@@ -40,7 +41,7 @@ refused run c f h = record { condition = h }
 
 module _ (run : Run) (c : Call) (go : Answer) (next : Timely run (readingOf c) → MetBy run c go) where
   met-timely : Going run → MetBy run c (timely run (readingOf c) go)
-  unfolding timely
+  unfolding timelyBy
   met-timely g =
       by-test (MetBy run c) (ltb (readingOf c .0) (run .last .0)) _ _ (λ l. refused run c Refusal.ReadingBelow (Refuses.number51 g (ltb-true _ _ l)))
       (λ l. let r : Rises run (readingOf c) = record { going = g; rises = ltb-false _ _ l } in

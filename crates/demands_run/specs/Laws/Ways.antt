@@ -22,6 +22,7 @@ use Rattle.run_window.specs.Places.{Holds, holds-within, empty-none, stored-her
 use Rattle.run_window.specs.declared.Entry.{Entry}
 use Rattle.run_window.specs.declared.Phase.{Phase}
 use Rattle.run_limits.specs.Window.{entryInLimits}
+use Rattle.run_checks.specs.Order.{timelyBy}
 use Rattle.run.specs.Limits.{runInLimits, haltInLimits}
 use Rattle.run_outcomes.specs.Told.{toldOf}
 use Rattle.run.specs.Calls.{answer, heard, cleared, kindOf, isDone, learnt, reported, completedBy, learnsBy, asked, completed, learns, timely, called, askOf, completionOf, outcomeOf, callOf}
@@ -131,7 +132,7 @@ module _ (p : Plan) (psi : Clock) (slack : ℕ) (given : Accepted p psi slack) (
     -- ---- 51, 42 and 41
 
     timely-way : (c : Call) (t : Clock) → t .0 ≡ reading c → halt ≡ Halt.Going → (go : Answer) → (Calm t → Goes c go) → Goes c (timely run t go)
-    unfolding timely
+    unfolding timelyBy
     timely-way c t rd h go k =
         by-test (Goes c) (ltb (t .0) (last .0)) _ _ (λ b. refuse c Refusal.ReadingBelow h (λ e. below e)) λ b.
         by-first (isOverdue psi t) endsBefore ends-order w (Goes c) _ _ (λ i e f. overdue i e f) λ on-time.

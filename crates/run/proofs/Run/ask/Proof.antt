@@ -1,42 +1,50 @@
 -- `ask` is what it is defined to be: the checks, and then the answer.
-use mathlib.Core.Path.{_≡_, sym, _∙_, ap}
+use mathlib.Core.Path.{sym, _∙_}
+use Rattle.run_window.specs.declared.Sought.{Sought}
 use Rattle.run.specs.Calls.{asked, askOf}
-use Rattle.run.proofs.Checking.{called-goes, called-objects, goes-in-limits}
+use Rattle.run.proofs.Checking.{timed, goes, answer-goes, answer-objects}
 use borrow.Author.Needs.{needs}
 use Rattle.run.proofs.Run.ask.Statement.{statement}
 use Rattle.run.proofs.Run.ask.Tie as tie
 
 check-call-requires : tie.Need-check-call-requires
-check-call-requires c κs = search needs
-
-enum-told : tie.Need-enum-told
-enum-told c = search needs
-
-asked-requires : tie.Need-asked-requires
-asked-requires c κs = goes-in-limits (c .before .before .before .args .self) (c .before .before .before .args .t) (sym (c .before .before .check-call .ensures) ∙ c .enum-told .given .1)
-
-returns : tie.Need-returns
-unfolding askOf
-returns c = let a = c .before .before .before .before .args in c .asked .ensures ∙ sym (called-goes (a .self) (a .t) (asked (a .self) (a .t)) (sym (c .before .before .before .check-call .ensures) ∙ c .before .enum-told .given .1))
+check-call-requires c κs = λ g. timed (c .before .args .self) g (c .before .args .t) .0
 
 enum-known-check : tie.Need-enum-known-check
 enum-known-check c = search needs
+
+asked-requires : tie.Need-asked-requires
+asked-requires c κs =
+    let s = c .before .before .before .before .before in
+    let h = goes (s .args .self) (s .args .t) (Sought.Due (s .args .self .psi) (s .args .t)) _ (c .before .before .before .check-call .ensures) _ (c .before .check .given .1) in
+    ((h .limits, h .going), h .found)
+
+returns : tie.Need-returns
+unfolding askOf
+returns c =
+    let s = c .before .before .before .before .before .before in
+    c .asked .ensures ∙ sym (answer-goes (s .args .self) (s .args .t) (Sought.Due (s .args .self .psi) (s .args .t)) _ (c .before .before .before .before .check-call .ensures) (asked (s .args .self) (s .args .t)) _ (c .before .before .check .given .1))
+
+enum-known-check-2 : tie.Need-enum-known-check-2
+enum-known-check-2 c = search needs
 
 objected-requires : tie.Need-objected-requires
 objected-requires c κs = search needs
 
 returns-2 : tie.Need-returns-2
 unfolding askOf
-returns-2 c = let a = c .before .before .before .before .before .args in c .objected .ensures ∙ sym (called-objects (a .self) (a .t) (asked (a .self) (a .t)) _ (sym (c .before .before .before .before .check-call .ensures) ∙ c .before .before .check .given .1))
+returns-2 c =
+    let s = c .before .before .before .before .before .before in
+    c .objected .ensures ∙ sym (answer-objects (s .args .self) (s .args .t) (Sought.Due (s .args .self .psi) (s .args .t)) _ (c .before .before .before .before .check-call .ensures) (asked (s .args .self) (s .args .t)) _ (c .before .before .check2 .given .1))
 
 pub ask-spec : {M : Type 1} → statement M
 ask-spec =
     tie.close
     (tie.spec
     check-call-requires
-    enum-told
+    enum-known-check
     asked-requires
     returns
-    enum-known-check
+    enum-known-check-2
     objected-requires
     returns-2)

@@ -1,18 +1,13 @@
 -- `completed` takes the completion of a started action of the window.
-use mathlib.Core.Path.{_≡_, sym, _∙_, ap}
-use lib.ListN.{length}
+use mathlib.Core.Path.{sym, _∙_, ap, subst}
 use Rattle.plan.specs.declared.Kind.{Kind}
-use Rattle.run.specs.Calls.{kindOf, completedBy, completed}
-use Rattle.run.proofs.Checking.{unmapped, timed, named-at, reported-names, reported-refuses}
+use Rattle.run_checks.specs.declared.Report.{Report}
+use Rattle.run_checks.specs.Laws.{onReport}
+use Rattle.run.specs.Calls.{refuse, kindOf, completedBy}
+use Rattle.run.specs.Checks.{Named}
 use borrow.Author.Needs.{needs}
 use Rattle.run.proofs.calls.completed.Statement.{statement}
 use Rattle.run.proofs.calls.completed.Tie as tie
-
-long : (c : tie.Start) → length (c .args .run .window) ≡ 512
-long c = search unmapped
-
-report-of-requires : tie.Need-report-of-requires
-report-of-requires c κs = timed (c .args .run) (c .pre) .2
 
 enum-known-report : tie.Need-enum-known-report
 enum-known-report c = search needs
@@ -21,27 +16,27 @@ refuse-requires : tie.Need-refuse-requires
 refuse-requires c κs = search needs
 
 returns : tie.Need-returns
-unfolding completed
-returns c = let a = c .before .before .before .before .before .args in c .refuse .ensures ∙ sym (reported-refuses (a .run) (λ i e. completedBy (a .run) (a .t) i (kindOf (a .run) e)) (a .position) (a .node) _ (sym (c .before .before .before .before .report-of .ensures) ∙ c .before .before .report .given .1))
+returns c = let a = c .before .before .before .before .args in c .refuse .ensures ∙ ap (λ (x : Report). onReport x (λ i e. completedBy (a .run) (a .t) i (kindOf (a .run) e)) (refuse (a .run))) (sym (c .before .before .report .given .1))
 
 enum-known-report-2 : tie.Need-enum-known-report-2
 enum-known-report-2 c = search needs
 
 kind-of-requires : tie.Need-kind-of-requires
-kind-of-requires c κs = let h = named-at (c .before .before .before .before .args .run) (c .before .before .before .before .pre) (long (c .before .before .before .before)) (c .before .before .before .before .args .position) (c .before .before .before .before .args .node) _ _ (sym (c .before .before .before .report-of .ensures) ∙ c .before .report2 .given .1) in (h .1, h .2)
+kind-of-requires c κs = let s = c .before .before .before in let h = subst (Named (s .args .run)) (c .before .report2 .given .1) (s .pre .1) in (h .1, h .2)
 
 completed-by-requires : tie.Need-completed-by-requires
-completed-by-requires c κs = named-at (c .before .before .before .before .before .args .run) (c .before .before .before .before .before .pre) (long (c .before .before .before .before .before)) (c .before .before .before .before .before .args .position) (c .before .before .before .before .before .args .node) _ _ (sym (c .before .before .before .before .report-of .ensures) ∙ c .before .before .report2 .given .1) .0
+completed-by-requires c κs = let s = c .before .before .before .before in let h = subst (Named (s .args .run)) (c .before .before .report2 .given .1) (s .pre .1) in (h .0, s .pre .0 .1)
 
 returns-2 : tie.Need-returns-2
-unfolding completed
-returns-2 c = let a = c .before .before .before .before .before .before .args in c .completed-by .ensures ∙ (ap (λ (k : Kind). completedBy (a .run) (a .t) (c .before .before .before .report2 .given .0 .0) k) (c .before .kind-of .ensures) ∙ sym (reported-names (a .run) (λ i e. completedBy (a .run) (a .t) i (kindOf (a .run) e)) (a .position) (a .node) _ _ (sym (c .before .before .before .before .before .report-of .ensures) ∙ c .before .before .before .report2 .given .1)))
+returns-2 c =
+    let a = c .before .before .before .before .before .args in
+    let r = c .before .before .before .report2 in
+    c .completed-by .ensures ∙ (ap (λ (k : Kind). completedBy (a .run) (a .t) (r .given .0 .0) k) (c .before .kind-of .ensures) ∙ ap (λ (x : Report). onReport x (λ i e. completedBy (a .run) (a .t) i (kindOf (a .run) e)) (refuse (a .run))) (sym (r .given .1)))
 
 pub completed-spec : {M : Type 1} → statement M
 completed-spec =
     tie.close
     (tie.spec
-    report-of-requires
     enum-known-report
     refuse-requires
     returns

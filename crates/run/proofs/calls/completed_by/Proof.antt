@@ -1,4 +1,5 @@
 -- `completed_by` takes the completion of an action, and refuses the others.
+
 use borrow.Author.Needs.{needs}
 use Rattle.run.proofs.calls.completed_by.Statement.{statement}
 use Rattle.run.proofs.calls.completed_by.Tie as tie
@@ -9,17 +10,14 @@ enum-told c = search needs
 vacant-requires : tie.Need-vacant-requires
 vacant-requires c κs = search needs
 
-mul-window : tie.Need-mul-window
-mul-window c = search needs
+mul-free : tie.Need-mul-free
+mul-free c = search needs
 
-array-set-from-window : tie.Need-array-set-from-window
-array-set-from-window c = search needs
-
-heard-requires : tie.Need-heard-requires
-heard-requires c κs = search needs
+element-set-from-free : tie.Need-element-set-from-free
+element-set-from-free c = search needs
 
 returns : tie.Need-returns
-returns c = simp (c .before .before .before .before .enum-told .given .1, c .heard .ensures, c .before .vacant .ensures)
+returns c = simp (c .before .enum-told .given .1, c .vacant .ensures, c .before .before .before .pre .1)
 
 enum-told-2 : tie.Need-enum-told-2
 enum-told-2 c = search needs
@@ -54,9 +52,8 @@ completed-by-spec =
     (tie.spec
     enum-told
     vacant-requires
-    mul-window
-    array-set-from-window
-    heard-requires
+    mul-free
+    element-set-from-free
     returns
     enum-told-2
     refuse-requires

@@ -1,23 +1,25 @@
 -- `idle` answers done or wait, and its reading is the last one.
-use mathlib.Core.Path.{_≡_, sym, _∙_, ap}
+use mathlib.Core.Path.{sym, _∙_}
 use Rattle.run.specs.Checks.{idle}
 use borrow.Author.Needs.{needs}
 use Rattle.run.proofs.calls.idle.Statement.{statement}
 use Rattle.run.proofs.calls.idle.Tie as tie
-
-heard-requires : tie.Need-heard-requires
-heard-requires c κs = search needs
 
 is-done-requires : tie.Need-is-done-requires
 is-done-requires c κs = search needs
 
 returns : tie.Need-returns
 unfolding idle
-returns c = simp (sym (c .before .is-done .ensures) ∙ c .if1 .taken, c .before .before .heard .ensures)
+returns c = simp (sym (c .before .is-done .ensures) ∙ c .if1 .taken, c .before .before .pre .1)
 
 returns-2 : tie.Need-returns-2
 unfolding idle
-returns-2 c = simp (sym (c .before .is-done .ensures) ∙ c .if1 .left, c .before .before .heard .ensures)
+returns-2 c = simp (sym (c .before .is-done .ensures) ∙ c .if1 .left, c .before .before .pre .1)
 
 pub idle-spec : {M : Type 1} → statement M
-idle-spec = tie.close (tie.spec heard-requires is-done-requires returns returns-2)
+idle-spec =
+    tie.close
+    (tie.spec
+    is-done-requires
+    returns
+    returns-2)

@@ -7,19 +7,21 @@ use Rattle.run.proofs.calls.starts.Tie as tie
 started-requires : tie.Need-started-requires
 started-requires c κs = search needs
 
-mul-window : tie.Need-mul-window
-mul-window c = search needs
+mul-s : tie.Need-mul-s
+mul-s c = search needs
 
-array-set-from-window : tie.Need-array-set-from-window
-array-set-from-window c = search needs
-
-heard-requires : tie.Need-heard-requires
-heard-requires c κs = search needs
+element-set-from-s : tie.Need-element-set-from-s
+element-set-from-s c = search needs
 
 returns : tie.Need-returns
 unfolding starts
-returns c = simp (c .heard .ensures, c .before .started .ensures)
+returns c = simp (c .started .ensures, c .before .pre .1)
 
 pub starts-spec : {M : Type 1} → statement M
 starts-spec =
-    tie.close (tie.spec started-requires mul-window array-set-from-window heard-requires returns)
+    tie.close
+    (tie.spec
+    started-requires
+    mul-s
+    element-set-from-s
+    returns)

@@ -13,7 +13,7 @@ use Rattle.plan.specs.Limits.{KindNames}
 use Rattle.time.specs.declared.Clock.{Clock}
 use Rattle.run_window.specs.declared.Entry.{Entry}
 use Rattle.run.specs.declared.Run.{Run}
-use Rattle.run.specs.declared.Refusal.{Refusal}
+use Rattle.run_checks.specs.declared.Refusal.{Refusal}
 use Rattle.run.specs.Calls.{refuse, learnt, learnsBy}
 use Rattle.run.specs.Inner.{toldRun}
 use borrow.Author.Needs.{needs}

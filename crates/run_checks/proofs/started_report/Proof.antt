@@ -1,19 +1,16 @@
 -- `started_report` refuses a node that is not started.
 use mathlib.Core.Path.{_≡_, sym, _∙_, ap}
-use Rattle.run.specs.Checks.{startedReport}
 use borrow.Author.Needs.{needs}
-use Rattle.run.proofs.checks.started_report.Statement.{statement}
-use Rattle.run.proofs.checks.started_report.Tie as tie
+use Rattle.run_checks.proofs.started_report.Statement.{statement}
+use Rattle.run_checks.proofs.started_report.Tie as tie
 
 is-started-requires : tie.Need-is-started-requires
 is-started-requires c κs = search needs
 
 returns : tie.Need-returns
-unfolding startedReport
 returns c = rw (sym (c .before .is-started .ensures) ∙ c .if1 .taken)
 
 returns-2 : tie.Need-returns-2
-unfolding startedReport
 returns-2 c = rw (sym (c .before .is-started .ensures) ∙ c .if1 .left)
 
 pub started-report-spec : {M : Type 1} → statement M

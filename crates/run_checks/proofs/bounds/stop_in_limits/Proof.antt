@@ -1,7 +1,7 @@
 -- `stop_in_limits` is what it is defined to be.
 use borrow.Author.Needs.{needs}
-use Rattle.run.proofs.bounds.stop_in_limits.Statement.{statement}
-use Rattle.run.proofs.bounds.stop_in_limits.Tie as tie
+use Rattle.run_checks.proofs.bounds.stop_in_limits.Statement.{statement}
+use Rattle.run_checks.proofs.bounds.stop_in_limits.Tie as tie
 
 enum-known-stop : tie.Need-enum-known-stop
 enum-known-stop c = search needs

@@ -1,8 +1,8 @@
 -- `slack_in_limits` is what it is defined to be.
 use borrow.Author.Tests.{le-leb, lt-leb}
 use borrow.Author.Needs.{needs}
-use Rattle.run.proofs.bounds.slack_in_limits.Statement.{statement}
-use Rattle.run.proofs.bounds.slack_in_limits.Tie as tie
+use Rattle.run_checks.proofs.bounds.slack_in_limits.Statement.{statement}
+use Rattle.run_checks.proofs.bounds.slack_in_limits.Tie as tie
 
 returns : tie.Need-returns
 returns c = rw (lt-leb _ _ (c .if1 .taken))

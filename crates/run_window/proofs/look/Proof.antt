@@ -1,0 +1,85 @@
+-- `look` finds the first of each kind: from the back, the best so far is the first of the places passed.
+use mathlib.Core.Path.{_≡_, _∙_}
+use Prim.Native.Nat.{_≤_}
+use native.Mathlib.Omega.{arith}
+use lib.ListN.{length, drop}
+use Rattle.run_window.specs.declared.Found.{Found}
+use Rattle.run_window.specs.declared.Sought.{Sought}
+use Rattle.run_window.specs.Window.{first}
+use Rattle.run_window.specs.Search.{isSought, sooner}
+use Rattle.run_window.proofs.Scans.{unmapped, first-none, first-turn}
+use borrow.Author.Needs.{needs}
+use Rattle.run_window.proofs.look.Statement.{statement}
+use Rattle.run_window.proofs.look.Tie as tie
+
+abbrev Inv-loop : tie.InvT-loop
+Inv-loop psi slack t sought window overdue₀ late₀ found₀ i₀ overdue late found i =
+    (i ≤ 512)
+    × (overdue ≡ first (isSought (Sought.Overdue psi t)) (sooner (Sought.Overdue psi t)) i (drop i window))
+    × (late ≡ first (isSought (Sought.Late psi slack t)) (sooner (Sought.Late psi slack t)) i (drop i window))
+    × (found ≡ first (isSought sought) (sooner sought) i (drop i window))
+
+abbrev μ-loop : tie.MeasureT-loop
+μ-loop psi slack t sought window overdue₀ late₀ found₀ i₀ overdue late found i = i
+
+long : (c : tie.Start Inv-loop μ-loop) → length (c .args .t1) ≡ 512
+long c = search unmapped
+
+none : (c : tie.Start Inv-loop μ-loop) (s : Sought) → Found.Nothing ≡ first (isSought s) (sooner s) 512 (drop 512 (c .args .t1))
+none c s = first-none (isSought s) (sooner s) (c .args .t1) 512 (omega (arith, long c))
+
+loop-holds : tie.Need-loop-holds Inv-loop μ-loop
+loop-holds c = let a = c .args in (omega arith, none c (Sought.Overdue (a .psi) (a .t)), none c (Sought.Late (a .psi) (a .slack) (a .t)), none c (a .sought))
+
+sub-i : tie.Need-sub-i Inv-loop μ-loop
+sub-i c = search needs
+
+mul-e : tie.Need-mul-e Inv-loop μ-loop
+mul-e c = search needs
+
+array-copy-out-e : tie.Need-array-copy-out-e Inv-loop μ-loop
+array-copy-out-e c = search needs
+
+kept-requires : tie.Need-kept-requires Inv-loop μ-loop
+kept-requires c κs = let p = c .before .before .before .pre in (p .0, p .3 _)
+
+kept-requires-2 : tie.Need-kept-requires-2 Inv-loop μ-loop
+kept-requires-2 c κs = let p = c .before .before .before .before .pre in ((p .0, p .1), p .3 _)
+
+kept-requires-3 : tie.Need-kept-requires-3 Inv-loop μ-loop
+kept-requires-3 c κs = let p = c .before .before .before .before .before .pre in (p .2, p .3 _)
+
+loop-less : tie.Need-loop-less Inv-loop μ-loop
+loop-less c = search needs
+
+loop-again : tie.Need-loop-again Inv-loop μ-loop
+loop-again c =
+    let a = c .before .before .before .before .before .before .args in
+    let l = c .before .before .before .before .before .loop in
+    let n = long (c .before .before .before .before .before .before) in
+    let more = c .before .before .before .before .loop-test .taken in (
+      omega arith,
+      c .before .before .kept .ensures ∙ rw (l .inv .1) (first-turn (isSought (Sought.Overdue (a .psi) (a .t))) (sooner (Sought.Overdue (a .psi) (a .t))) (a .t1) _ (l .i) more (omega (arith, n))),
+      c .before .kept2 .ensures ∙ rw (l .inv .2) (first-turn (isSought (Sought.Late (a .psi) (a .slack) (a .t))) (sooner (Sought.Late (a .psi) (a .slack) (a .t))) (a .t1) _ (l .i) more (omega (arith, n))),
+      c .kept3 .ensures ∙ rw (l .inv .3) (first-turn (isSought (a .sought)) (sooner (a .sought)) (a .t1) _ (l .i) more (omega (arith, n))),
+    )
+
+returns : tie.Need-returns Inv-loop μ-loop
+returns c = let z : c .before .loop .i ≡ 0 = omega arith in simp (c .before .loop .inv .1, c .before .loop .inv .2, c .before .loop .inv .3, z)
+
+pub look-spec : {M : Type 1} → statement M
+look-spec =
+    tie.close
+    (tie.spec
+    Inv-loop
+    μ-loop
+    loop-holds
+    sub-i
+    mul-e
+    array-copy-out-e
+    kept-requires
+    kept-requires-2
+    kept-requires-3
+    loop-less
+    loop-again
+    returns)
