@@ -11,11 +11,9 @@ use lib.ListN.{length, getD, drop, drop-of-length-le}
 use lib.Seq.{drop-cons}
 use Rattle.basis.specs.Parts.{part}
 use Rattle.time.specs.Time.{horizon}
-use Rattle.plan.specs.Plan.{pastNode, nodesOf, activityOf}
+use Rattle.plan.specs.Plan.{pastNode, activityOf}
 use Rattle.plan.specs.declared.Node.{Node}
-use Rattle.plan.specs.declared.Activity.{Activity}
 use Rattle.plan.specs.declared.Plan.{Plan}
-use Rattle.activity.specs.Copied.{copied, nodes-copied}
 use Rattle.run_opening.specs.declared.Short.{Short}
 use Rattle.run_opening.specs.Given.{anyAbove}
 use Rattle.run_opening.specs.Short.{isShort, anyShort, shortFrom}
@@ -34,23 +32,29 @@ module _ (ts : List ℕ) (i : ℕ) where
   unfolding anyAbove
   above-none h = rw (drop-of-length-le ts h)
 
--- node i of an activity of `end` nodes
-module _ (slack end i : ℕ) (ns : List Node) where
-  pub short-here : i < end → isShort slack (getD ns i pastNode) ≡ true → anyShort slack (part pastNode ns i (end - i)) ≡ true
+-- node n of an activity of `size` nodes, the first of which is node `first` of all
+module _ (slack first size n : ℕ) (ns : List Node) where
+  pub short-here : n < size → isShort slack (getD ns (first + n) pastNode) ≡ true → anyShort slack (part pastNode ns (first + n) (size - n)) ≡ true
   unfolding anyShort
-  short-here l h = let e : end - i ≡ suc (end - (i + 1)) = omega arith in rw (e, h)
+  short-here l h = let e : size - n ≡ suc (size - (n + 1)) = omega arith in rw (e, h)
 
-  pub short-past : i < end → isShort slack (getD ns i pastNode) ≡ false
-      → anyShort slack (part pastNode ns i (end - i)) ≡ anyShort slack (part pastNode ns (i + 1) (end - (i + 1)))
+  pub short-past : n < size → isShort slack (getD ns (first + n) pastNode) ≡ false
+      → anyShort slack (part pastNode ns (first + n) (size - n)) ≡ anyShort slack (part pastNode ns (first + (n + 1)) (size - (n + 1)))
   unfolding anyShort
-  short-past l h = let e : end - i ≡ suc (end - (i + 1)) = omega arith in rw (e, h)
+  short-past l h =
+      let e : size - n ≡ suc (size - (n + 1)) = omega arith in
+      let z : first + n + 1 ≡ first + (n + 1) = omega arith in
+      rw (e, h) (ap (λ (k : ℕ). anyShort slack (part pastNode ns k (size - (n + 1)))) z)
 
-  pub short-none : end ≤ i → anyShort slack (part pastNode ns i (end - i)) ≡ false
+  pub short-none : size ≤ n → anyShort slack (part pastNode ns (first + n) (size - n)) ≡ false
   unfolding anyShort
-  short-none l = let e : end - i ≡ 0 = omega arith in rw e
+  short-none l = let e : size - n ≡ 0 = omega arith in rw e
 
-pub short-starts : (slack count : ℕ) (ns : List Node) → anyShort slack (part pastNode ns 0 count) ≡ anyShort slack (part pastNode ns 0 (count - 0))
-short-starts slack count ns = let e : count - 0 ≡ count = omega arith in rw e
+pub short-starts : (slack first size : ℕ) (ns : List Node) → anyShort slack (part pastNode ns first size) ≡ anyShort slack (part pastNode ns (first + 0) (size - 0))
+short-starts slack first size ns =
+    let e : size ≡ size - 0 = omega arith in
+    let z : first ≡ first + 0 = omega arith in
+    ap (λ (k : ℕ). anyShort slack (part pastNode ns first k)) e ∙ ap (λ (k : ℕ). anyShort slack (part pastNode ns k (size - 0))) z
 
 -- activity a of `end` activities
 module _ (p : Plan) (slack end a : ℕ) where
@@ -68,7 +72,3 @@ module _ (p : Plan) (slack end a : ℕ) where
 
 pub low-starts : (p : Plan) (slack count : ℕ) → shortFrom p slack 0 count ≡ shortFrom p slack 0 (count - 0)
 low-starts p slack count = let e : count - 0 ≡ count = omega arith in rw e
-
--- a copied activity has the activity's nodes
-pub short-copied : (p : Plan) (slack a : ℕ) (x : Activity) → x ≡ copied p a → anyShort slack (nodesOf x) ≡ anyShort slack (activityOf p a)
-short-copied p slack a x e = ap (λ (y : Activity). anyShort slack (nodesOf y)) e ∙ ap (anyShort slack) (nodes-copied p a)

@@ -1,5 +1,4 @@
 // What an opening gives beside the plan and Ψ: availabilities and a slack. Document 01, section "A run".
-use plan::Activity;
 use plan::Node;
 use plan::Plan;
 use time::Specified;
@@ -8,10 +7,9 @@ use times::Progress;
 use times::Told;
 ghost use mathlib.Core.Path.{_≡_};
 ghost use Prim.Native.Nat.{_≤_};
-ghost use Rattle.plan.specs.Plan.{nodesOf};
 ghost use Rattle.plan.specs.Limits.{InLimits};
 ghost use Rattle.run_opening.specs.Given.{atFirst, availabilities, anyAbove};
-ghost use Rattle.run_opening.specs.Short.{isShort, anyShort, shortFrom};
+ghost use Rattle.run_opening.specs.Short.{isShort, shortFrom};
 
 // The lowest activity with an action or event whose duration is not above the slack.
 pub enum Short {
@@ -48,21 +46,10 @@ fn is_short(slack: u64, n: Node) -> bool
     false
 }
 
-// Some node of an activity is such an action or event.
-fn any_short(slack: u64, activity: Activity) -> bool
-    requires { ⌜ activity .count ≤ 64 ⌝ }
-    ensures { λ r. ⌜ r ≡ anyShort slack (nodesOf activity) ⌝ }
+fn wide(x: u8) -> usize
+    ensures { λ r. ⌜ r ≡ x ⌝ }
 {
-    let count = activity.count as usize;
-    let mut i: usize = 0;
-    while i < count {
-        let n = activity.nodes[i];
-        if is_short(slack, n) {
-            return true;
-        }
-        i += 1;
-    }
-    false
+    x as usize
 }
 
 // "the lowest such activity"
@@ -70,11 +57,17 @@ pub fn short_from(plan: Plan, slack: u64) -> Short
     requires { ⌜ InLimits plan ⌝ }
     ensures { λ r. ⌜ r ≡ shortFrom plan slack 0 (plan .activities) ⌝ }
 {
-    let mut a: u8 = 0;
-    while a < plan.activities {
-        let activity = activity::activity_of(plan, a);
-        if any_short(slack, activity) {
-            return Short::Activity(a as usize);
+    let activities = wide(plan.activities);
+    let mut a: usize = 0;
+    while a < activities {
+        let size = wide(plan.sizes[a]);
+        let mut n: usize = 0;
+        while n < size {
+            let x = plan.nodes[64 * a + n];
+            if is_short(slack, x) {
+                return Short::Activity(a);
+            }
+            n += 1;
         }
         a += 1;
     }

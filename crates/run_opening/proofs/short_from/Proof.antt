@@ -1,83 +1,132 @@
--- `short_from` is the lowest activity that is too short. The loop's invariant: the activities that are passed change nothing.
-use mathlib.Core.Path.{_≡_, sym, ap, _∙_, subst}
-use Prim.Native.Nat.{_-_, _≤_}
+-- `short_from` is the lowest activity that is too short. The loops' invariants: the activities, and the nodes of one, that are
+-- passed change nothing.
+use mathlib.Core.Path.{_≡_, sym, _∙_}
+use Prim.Native.Nat.{_+_, _-_, _*_, _≤_, _<_}
 use native.Mathlib.Omega.{arith}
-use Rattle.plan.specs.declared.Activity.{Activity}
-use Rattle.activity.specs.Copied.{fits-copied}
-use Rattle.run_opening.specs.Short.{shortFrom}
-use Rattle.run_opening.proofs.Shortest.{low-starts, low-here, low-past, low-none, short-copied}
+use Rattle.basis.specs.Parts.{part}
+use Rattle.plan.specs.Plan.{pastNode, sizeOf, activityOf}
+use Rattle.run_opening.specs.Short.{anyShort, shortFrom}
+use Rattle.run_opening.proofs.Shortest.{short-starts, short-here, short-past, short-none, low-starts, low-here, low-past, low-none}
 use borrow.Author.Needs.{needs}
 use Rattle.run_opening.proofs.short_from.Statement.{statement}
 use Rattle.run_opening.proofs.short_from.Tie as tie
 
+abbrev Inv-loop2 : tie.InvT-loop2
+Inv-loop2 slack plan activities a size n₀ n =
+    (n ≤ size) × (anyShort slack (activityOf plan a) ≡ anyShort slack (part pastNode (plan .nodes) (64 * a + n) (sizeOf plan a - n)))
+
+abbrev μ-loop2 : tie.MeasureT-loop2
+μ-loop2 slack plan activities a size n₀ n = size - n
+
 abbrev Inv-loop : tie.InvT-loop
-Inv-loop plan slack a₀ a =
-    (a ≤ plan .activities) × (shortFrom plan slack 0 (plan .activities) ≡ shortFrom plan slack a (plan .activities - a))
+Inv-loop slack plan activities a₀ a =
+    (a ≤ plan .activities) × (activities ≡ plan .activities) × (shortFrom plan slack 0 (plan .activities) ≡ shortFrom plan slack a (plan .activities - a))
 
 abbrev μ-loop : tie.MeasureT-loop
-μ-loop plan slack a₀ a = plan .activities - a
+μ-loop slack plan activities a₀ a = activities - a
 
-loop-holds : tie.Need-loop-holds Inv-loop μ-loop
-loop-holds c = (search needs, low-starts (c .args .plan) (c .args .slack) (c .args .plan .activities))
+wide-requires : tie.Need-wide-requires Inv-loop2 μ-loop2 Inv-loop μ-loop
+wide-requires c κs = search needs
 
-activity-of-requires : tie.Need-activity-of-requires Inv-loop μ-loop
-activity-of-requires c κs =
-    let limits = c .before .before .before .pre in
-    (omega (arith, limits .activities), limits .sizes (c .before .before .loop .a) (c .if1 .taken) .1)
+loop-holds : tie.Need-loop-holds Inv-loop2 μ-loop2 Inv-loop μ-loop
+loop-holds c = (omega arith, c .wide .ensures, low-starts (c .before .args .t1) (c .before .args .slack) (c .before .args .t1 .activities))
 
-any-short-requires : tie.Need-any-short-requires Inv-loop μ-loop
-any-short-requires c κs =
-    let s = c .before .before .before .before in
-    let a = c .before .before .before .loop .a in
-    subst (λ (x : Activity). x .count ≤ 64) (sym (c .activity-of .ensures))
-    (fits-copied (s .args .plan) (s .pre) a (c .before .if1 .taken) .small)
+element-copy-out-wide : tie.Need-element-copy-out-wide Inv-loop2 μ-loop2 Inv-loop μ-loop
+element-copy-out-wide c = omega (arith, c .before .before .before .pre .activities)
 
-cast-t7 : tie.Need-cast-t7 Inv-loop μ-loop
-cast-t7 c = search needs
+wide-requires-2 : tie.Need-wide-requires-2 Inv-loop2 μ-loop2 Inv-loop μ-loop
+wide-requires-2 c κs = search needs
 
-returns : tie.Need-returns Inv-loop μ-loop
+loop2-holds : tie.Need-loop2-holds Inv-loop2 μ-loop2 Inv-loop μ-loop
+loop2-holds c = let s = c .before .before .before .before .before .args in let a = c .before .before .before .loop .a in (omega arith, short-starts (s .slack) (64 * a) (sizeOf (s .t1) a) (s .t1 .nodes))
+
+-- the node is one of the plan's
+inside : (c : tie.After-wide2 Inv-loop2 μ-loop2 Inv-loop μ-loop) → (c .wide2 .result ≤ 64) × (c .before .before .before .loop .a < 32)
+inside c =
+    let limits = c .before .before .before .before .before .pre in
+    let l = c .before .before .before .loop in
+    let h : l .a < c .before .before .before .before .before .args .t1 .activities = omega (arith, l .inv .1, c .before .before .loop-test .taken) in
+    (omega (arith, c .wide2 .ensures, limits .sizes (l .a) h .1), omega (arith, limits .activities))
+
+mul-x : tie.Need-mul-x Inv-loop2 μ-loop2 Inv-loop μ-loop
+mul-x c = let h = inside (c .before .before) in omega (arith, h .0, h .1)
+
+add-x : tie.Need-add-x Inv-loop2 μ-loop2 Inv-loop μ-loop
+add-x c = let h = inside (c .before .before) in omega (arith, h .0, h .1)
+
+mul-x-2 : tie.Need-mul-x-2 Inv-loop2 μ-loop2 Inv-loop μ-loop
+mul-x-2 c = let h = inside (c .before .before) in omega (arith, h .0, h .1)
+
+element-copy-out-x : tie.Need-element-copy-out-x Inv-loop2 μ-loop2 Inv-loop μ-loop
+element-copy-out-x c = let h = inside (c .before .before) in omega (arith, h .0, h .1)
+
+is-short-requires : tie.Need-is-short-requires Inv-loop2 μ-loop2 Inv-loop μ-loop
+is-short-requires c κs = search needs
+
+returns : tie.Need-returns Inv-loop2 μ-loop2 Inv-loop μ-loop
 returns c =
-    let l = c .before .before .before .before .before .loop in
-    let s = c .before .before .before .before .before .before .args in
-    let q = c .before .before .activity-of in
-    let h = short-copied (s .plan) (s .slack) (l .a) (q .result) (q .ensures) in
-    sym (l .inv .1 ∙ low-here (s .plan) (s .slack) (s .plan .activities) (l .a) (c .before .before .before .if1 .taken) (sym h ∙ (sym (c .before .any-short .ensures) ∙ c .if2 .taken)))
+    let s = c .before .before .before .before .before .before .before .before .before .before .args in
+    let l = c .before .before .before .before .before .before .before .before .loop in
+    let k = c .before .before .before .before .loop2 in
+    let f = short-here (s .slack) (64 * l .a) (sizeOf (s .t1) (l .a)) (k .n) (s .t1 .nodes) (omega (arith, c .before .before .before .before .before .wide2 .ensures, c .before .before .before .loop2-test .taken)) (sym (c .before .is-short .ensures) ∙ c .if1 .taken) in
+    sym (l .inv .2 ∙ low-here (s .t1) (s .slack) (s .t1 .activities) (l .a) (omega (arith, l .inv .1, c .before .before .before .before .before .before .before .loop-test .taken)) (k .inv .1 ∙ f))
 
-add-a : tie.Need-add-a Inv-loop μ-loop
-add-a c =
-    let limits = c .before .before .before .before .before .before .pre in
-    omega (arith, limits .activities)
+add-n : tie.Need-add-n Inv-loop2 μ-loop2 Inv-loop μ-loop
+add-n c = search needs
 
-loop-less : tie.Need-loop-less Inv-loop μ-loop
+loop2-less : tie.Need-loop2-less Inv-loop2 μ-loop2 Inv-loop μ-loop
+loop2-less c = search needs
+
+loop2-again : tie.Need-loop2-again Inv-loop2 μ-loop2 Inv-loop μ-loop
+loop2-again c =
+    let s = c .before .before .before .before .before .before .before .before .before .before .args in
+    let l = c .before .before .before .before .before .before .before .before .loop in
+    let k = c .before .before .before .before .loop2 in
+    (omega arith, k .inv .1 ∙ short-past (s .slack) (64 * l .a) (sizeOf (s .t1) (l .a)) (k .n) (s .t1 .nodes) (omega (arith, c .before .before .before .before .before .wide2 .ensures, c .before .before .before .loop2-test .taken)) (sym (c .before .is-short .ensures) ∙ c .if1 .left))
+
+add-a : tie.Need-add-a Inv-loop2 μ-loop2 Inv-loop μ-loop
+add-a c = search needs
+
+loop-less : tie.Need-loop-less Inv-loop2 μ-loop2 Inv-loop μ-loop
 loop-less c = search needs
 
-loop-again : tie.Need-loop-again Inv-loop μ-loop
+loop-again : tie.Need-loop-again Inv-loop2 μ-loop2 Inv-loop μ-loop
 loop-again c =
+    let s = c .before .before .before .before .before .before .before .args in
     let l = c .before .before .before .before .before .loop in
-    let s = c .before .before .before .before .before .before .args in
-    let q = c .before .before .activity-of in
-    let h = short-copied (s .plan) (s .slack) (l .a) (q .result) (q .ensures) in (
-      search needs,
-      l .inv .1 ∙ low-past (s .plan) (s .slack) (s .plan .activities) (l .a) (c .before .before .before .if1 .taken) (sym h ∙ (sym (c .before .any-short .ensures) ∙ c .if2 .left)),
-    )
+    let k = c .before .loop2 in
+    let f = short-none (s .slack) (64 * l .a) (sizeOf (s .t1) (l .a)) (k .n) (s .t1 .nodes) (omega (arith, c .before .before .wide2 .ensures, c .loop2-test .left)) in
+    let h : l .a < s .t1 .activities = omega (arith, l .inv .1, c .before .before .before .before .loop-test .taken) in
+    (omega arith, l .inv .1, l .inv .2 ∙ low-past (s .t1) (s .slack) (s .t1 .activities) (l .a) h (k .inv .1 ∙ f))
 
-returns-2 : tie.Need-returns-2 Inv-loop μ-loop
+returns-2 : tie.Need-returns-2 Inv-loop2 μ-loop2 Inv-loop μ-loop
 returns-2 c =
-    let l = c .before .before .loop in
     let s = c .before .before .before .args in
-    sym (l .inv .1 ∙ low-none (s .plan) (s .slack) (s .plan .activities) (l .a) (c .if1 .left))
+    let l = c .before .loop in
+    sym (l .inv .2 ∙ low-none (s .t1) (s .slack) (s .t1 .activities) (l .a) (omega (arith, l .inv .1, c .loop-test .left)))
 
 pub short-from-spec : {M : Type 1} → statement M
 short-from-spec =
     tie.close
     (tie.spec
+    Inv-loop2
+    μ-loop2
     Inv-loop
     μ-loop
+    wide-requires
     loop-holds
-    activity-of-requires
-    any-short-requires
-    cast-t7
+    element-copy-out-wide
+    wide-requires-2
+    loop2-holds
+    mul-x
+    add-x
+    mul-x-2
+    element-copy-out-x
+    is-short-requires
     returns
+    add-n
+    loop2-less
+    loop2-again
     add-a
     loop-less
     loop-again
