@@ -1,10 +1,10 @@
-//! The least time of a turn, over many short batches in which the turns take part one after the other: other work on the
-//! machine cuts into some batches of each, and the least is what it has not cut into.
+//! The least time of a turn, over many short batches that several turns take one after the other: other work on the machine
+//! cuts into some batches of each, and the least is what it has not cut into.
 
 use std::time::{Duration, Instant};
 
 const BATCH: Duration = Duration::from_micros(250);
-const ROUNDS: usize = 1_000;
+const ROUNDS: usize = 100;
 
 pub type Turn = Box<dyn FnMut() + Send>;
 
@@ -29,7 +29,7 @@ fn batch(turn: &mut Turn, turns: u32) -> f64 {
     took(turn, turns).as_secs_f64() * 1e6 / turns as f64
 }
 
-/// The least microseconds of one turn of each.
+/// The least microseconds of one turn of each, over some rounds of batches.
 pub fn least(turns: &mut [&mut Turn]) -> Vec<f64> {
     let counts: Vec<u32> = turns.iter_mut().map(|turn| turns_of(turn)).collect();
     let mut least = vec![f64::INFINITY; turns.len()];

@@ -59,22 +59,38 @@ fn of_one(times: &[f64], units: f64) -> Option<f64> {
 }
 
 impl Case {
-    /// Microseconds of a unit in both builds. Where a difference does not come out, it is measured again.
-    pub fn timed(&mut self) -> Row {
+    /// Some rounds more; `times` are the least so far, of the turns in order.
+    fn measure(&mut self, times: &mut Vec<f64>) {
         let mut turns = self.rust.turns();
-        let of_rust = turns.len();
         turns.extend(self.rattle.iter_mut().flat_map(Work::turns));
-        let mut times = vec![f64::INFINITY; turns.len()];
-        let mut row = Row::new(&self.name, None, None);
-        for _ in 0..8 {
-            let again = least(&mut turns);
-            times.iter_mut().zip(again).for_each(|(time, again)| *time = time.min(again));
-            let (rust, rattle) = times.split_at(of_rust);
-            row = Row::new(&self.name, of_one(rust, self.units), of_one(rattle, self.units));
-            if row.rust.is_some() && (row.rattle.is_some() || rattle.is_empty()) {
-                break;
+        times.resize(turns.len(), f64::INFINITY);
+        times.iter_mut().zip(least(&mut turns)).for_each(|(time, again)| *time = time.min(again));
+    }
+
+    /// Microseconds of a unit in both builds.
+    fn row(&self, times: &[f64]) -> Row {
+        let (rust, rattle) = times.split_at(1 + self.rust.part.is_some() as usize);
+        Row::new(&self.name, of_one(rust, self.units), of_one(rattle, self.units))
+    }
+
+    fn came_out(&self, times: &[f64]) -> bool {
+        let row = self.row(times);
+        row.rust.is_some() && row.rattle.is_some() == self.rattle.is_some()
+    }
+}
+
+/// How often all cases are gone through. A slow spell of the machine then falls on all of them, and on a part of each.
+const PASSES: usize = 10;
+
+/// The rows of some cases. Where a difference does not come out, it is measured again.
+pub fn timed(mut cases: Vec<Case>) -> Vec<Row> {
+    let mut times = vec![vec![]; cases.len()];
+    for pass in 0..8 * PASSES {
+        for (case, times) in cases.iter_mut().zip(&mut times) {
+            if pass < PASSES || !case.came_out(times) {
+                case.measure(times);
             }
         }
-        row
     }
+    cases.iter().zip(&times).map(|(case, times)| case.row(times)).collect()
 }

@@ -36,7 +36,7 @@ const GROUPS: [Group; 5] = [
 ];
 
 fn timed(cases: Vec<Case>, tell: &mut dyn FnMut(Row)) -> Result<()> {
-    cases.into_iter().for_each(|mut case| tell(case.timed()));
+    cases::timed(cases).into_iter().for_each(tell);
     Ok(())
 }
 
