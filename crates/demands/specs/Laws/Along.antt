@@ -30,7 +30,7 @@ use Rattle.times_equal.specs.Words.{Opening, traceBy}
 use Rattle.times_equal.specs.Plans.{AtMostEight, progressAfter, First, whole, later, times-at, stored-at as kept-at, plan-equal, plan-run, plan-times, plan-free, progressAt, scheduleAt}
 use Rattle.run_opening.specs.Given.{atFirst}
 use Rattle.run_path.specs.Path.{isWork, loaded, entriesFrom, entriesBy, activityNumber}
-use Rattle.timetable_lines.specs.Lines.{rows, free}
+use Rattle.timetable_lines.specs.Lines.{rows, freeOf, free}
 use Rattle.timetable_text.specs.Text.{decimal, line, wordFree}
 use Rattle.demands_theory.specs.TheWord.{stateAfter, wholeOf}
 use Rattle.demands_run.specs.Laws.Taken.{next-position, next-state}
@@ -204,7 +204,7 @@ module _ (setting : Setting) where
         value-at stored r ∙ ap (λ (t : Specified). t .0) (getD-part (specified 0) (after is .available) 0 (p .resources) r h) ∙ ap (λ (n : ℕ). at (after is .available) n) z
 
     pub frees : Frees p is E (free p (after is))
-    unfolding free
+    unfolding freeOf
     frees = record {
       values = values stored;
       many = many-values stored ∙ length-part (specified 0) (after is .available) 0 (p .resources);
@@ -213,7 +213,7 @@ module _ (setting : Setting) where
     }
 
     pub frees-only : (text : List ℕ) → Frees p is E text → text ≡ free p (after is)
-    unfolding free
+    unfolding freeOf
     frees-only text x =
         let long : length (x .values) ≡ length (values stored) = x .many ∙ sym (many-values stored ∙ length-part (specified 0) (after is .available) 0 (p .resources)) in
         let same : x .values ≡ values stored = ext-getD 0 (x .values) (values stored) long (λ r h.
