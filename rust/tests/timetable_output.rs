@@ -1,5 +1,6 @@
 //! The text of the program *timetable* on its way out: texts longer than its buffer, a full device,
-//! a reader that closes. After a failed write it ends without reading on.
+//! a reader that closes. After a failed write it ends without reading on. And its outcomes on their
+//! way in: spare ones are left to the next reader, and rows come out before it waits for one.
 
 #![cfg(feature = "rattle_timetable")]
 
@@ -7,7 +8,7 @@ use jidlekuvo_reference::compare::rattle;
 use jidlekuvo_reference::generate::plan_t;
 use jidlekuvo_reference::timetable::timetable;
 use std::fs::OpenOptions;
-use std::io::Write;
+use std::io::{Read, Seek, Write};
 use std::process::{Child, Command, ExitStatus, Stdio};
 use std::time::{Duration, Instant};
 
@@ -113,4 +114,63 @@ fn a_reader_that_closes_ends_the_program_before_it_reads_on() {
     stdin.write_all(&input_of(&plan_t())[10..]).expect("a pipe holds the input");
     ends(child);
     drop(stdin);
+}
+
+/// Outcomes of T that take it to its end, and more that no state asks for.
+fn with_spare() -> Vec<u8> {
+    [input_of(&plan_t()), vec![0, 0, 1, 7, 0, 5]].concat()
+}
+
+/// What a reader finds in an input after the program has ended.
+fn read_after(stdin: Stdio, input: &[u8]) -> Vec<u8> {
+    let program = rattle::target_folder().join("bin/timetable");
+    let mut shell = Command::new("sh");
+    shell.arg("-c").arg("\"$0\" > /dev/null; cat").arg(program).stdin(stdin).stdout(Stdio::piped());
+    let mut child = shell.spawn().expect("a shell starts");
+    if let Some(mut pipe) = child.stdin.take() {
+        pipe.write_all(input).expect("a pipe holds the input");
+    }
+    child.wait_with_output().expect("the shell can be waited for").stdout
+}
+
+#[test]
+fn spare_outcomes_of_a_pipe_are_left_to_the_next_reader() {
+    assert_eq!(read_after(Stdio::piped(), &with_spare()), [7, 0, 5]);
+}
+
+#[test]
+fn spare_outcomes_of_a_file_are_given_back() {
+    let path = std::env::temp_dir().join(format!("jidlekuvo-spare-{}", std::process::id()));
+    std::fs::write(&path, with_spare()).expect("a file can be written");
+    let mut file = std::fs::File::open(&path).expect("the file can be read");
+    let shared = file.try_clone().expect("its offset is shared");
+    let left = read_after(shared.into(), &[]);
+    let program = rattle::target_folder().join("bin/timetable");
+    file.rewind().expect("the file can seek");
+    let stdin: Stdio = file.try_clone().expect("its offset is shared").into();
+    let status = Command::new(program).stdin(stdin).stdout(Stdio::null()).status();
+    assert!(status.expect("the program runs").success());
+    assert_eq!(file.stream_position().expect("the file can seek"), with_spare().len() as u64 - 3);
+    std::fs::remove_file(&path).expect("the file can be removed");
+    assert_eq!(left, [7, 0, 5]);
+}
+
+#[test]
+fn a_reader_at_a_pipe_sees_every_settled_row_before_the_program_waits() {
+    let input = [input_of(&plan_t()), vec![0]].concat();
+    let whole = timetable(&input);
+    let settled = &whole[..whole.find("free").expect("the table waits")];
+    let (mut child, stdin) = started(&input, Stdio::piped());
+    let mut stdout = child.stdout.take().expect("stdout is piped");
+    let (sender, receiver) = std::sync::mpsc::channel();
+    let size = settled.len();
+    std::thread::spawn(move || {
+        let mut seen = vec![0; size];
+        let _ = sender.send(stdout.read_exact(&mut seen).map(|()| seen));
+    });
+    let seen = receiver.recv_timeout(Duration::from_secs(20)).expect("the rows come before the input ends");
+    assert_eq!(seen.expect("the rows are whole"), settled.as_bytes());
+    assert!(child.try_wait().expect("the program can be waited for").is_none());
+    drop(stdin);
+    assert!(ends(child).success());
 }

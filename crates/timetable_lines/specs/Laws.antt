@@ -6,14 +6,13 @@ use native.Mathlib.Omega.{arith}
 use lib.ListN.{length, getD, length-append}
 use Rattle.basis.specs.Parts.{part, length-part}
 use Rattle.time.specs.declared.Specified.{Specified}
-use Rattle.plan.specs.declared.Plan.{Plan}
 use Rattle.times.specs.Times.{specified}
 use Rattle.times.specs.declared.Progress.{Progress}
 use Rattle.run_window.specs.declared.Entry.{Entry}
 use Rattle.wire.specs.Puts.{Puts, puts-join}
 use Rattle.timetable_text.specs.Text.{decimal, line, space, newline, wordFree}
 use Rattle.timetable_text.specs.Digits.{decimal-length, digits-within}
-use Rattle.timetable_lines.specs.Lines.{header, row, rows, free, ended, waiting, refused}
+use Rattle.timetable_lines.specs.Lines.{header, row, rows, freeOf, endedOf, waitingOf, refused}
 
 -- ---- the line of availabilities
 
@@ -27,9 +26,9 @@ unfolding line
 line-spaced w [] = refl
 line-spaced w (t ∷ ts) = ap (λ (l : List ℕ). w ++ (space ∷ l)) (line-spaced (decimal (t .0)) ts)
 
-pub free-is : (p : Plan) (g : Progress) → free p g ≡ wordFree ++ spaced (part (specified 0) (g .available) 0 (p .resources))
-unfolding free
-free-is p g = line-spaced wordFree (part (specified 0) (g .available) 0 (p .resources))
+pub free-is : (resources : ℕ) (g : Progress) → freeOf resources g ≡ wordFree ++ spaced (part (specified 0) (g .available) 0 resources)
+unfolding freeOf
+free-is resources g = line-spaced wordFree (part (specified 0) (g .available) 0 resources)
 
 -- the times from place i on
 module _ (ts : List Specified) (n i : ℕ) where
@@ -94,18 +93,18 @@ unfolding rows
 rows-length [] = omega arith
 rows-length (e ∷ es) = rw length-append (omega (arith, row-length e, rows-length es))
 
-module _ (p : Plan) (g : Progress) (few : p .resources ≤ 16) where
-  pub free-length : length (free p g) ≤ 341
+module _ (resources : ℕ) (g : Progress) (few : resources ≤ 16) where
+  pub free-length : length (freeOf resources g) ≤ 341
   free-length =
-      let ts = part (specified 0) (g .available) 0 (p .resources) in
-      rw (free-is p g)
-      (omega (arith, spaced-length ts, length-part (specified 0) (g .available) 0 (p .resources)))
+      let ts = part (specified 0) (g .available) 0 resources in
+      rw (free-is resources g)
+      (omega (arith, spaced-length ts, length-part (specified 0) (g .available) 0 resources))
 
-  pub ended-length : length (ended p g) ≤ 366
+  pub ended-length : length (endedOf resources g) ≤ 366
   unfolding line
   ended-length = simp length-append (omega (arith, free-length, decimal-length (g .state)))
 
-  pub waiting-length : (e : ℕ) → length (waiting p g e) ≤ 389
+  pub waiting-length : (e : ℕ) → length (waitingOf resources g e) ≤ 389
   unfolding line
   waiting-length e = simp length-append (omega (arith, free-length, decimal-length (g .state), decimal-length e))
 

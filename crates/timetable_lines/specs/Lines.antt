@@ -22,17 +22,27 @@ unfoldable pub rows : List Entry → List ℕ
 rows [] = []
 rows (e ∷ es) = row e ++ rows es
 
--- "availability by resource"
-unfoldable pub free : Plan → Progress → List ℕ
-free p g = line (wordFree ∷ map (λ (t : Specified). decimal (t .0)) (part (specified 0) (g .available) 0 (p .resources)))
+-- "availability by resource", of so many resources
+unfoldable pub freeOf : ℕ → Progress → List ℕ
+freeOf resources g = line (wordFree ∷ map (λ (t : Specified). decimal (t .0)) (part (specified 0) (g .available) 0 resources))
 
 -- "the final state"
-abbrev pub ended : Plan → Progress → List ℕ
-ended p g = free p g ++ line (wordEnd ∷ decimal (g .state) ∷ [])
+abbrev pub endedOf : ℕ → Progress → List ℕ
+endedOf resources g = freeOf resources g ++ line (wordEnd ∷ decimal (g .state) ∷ [])
 
 -- "If outcomes run out, free is printed and the last line is waits, state, event, in place of end."
+abbrev pub waitingOf : ℕ → Progress → ℕ → List ℕ
+waitingOf resources g e = freeOf resources g ++ line (wordWaits ∷ decimal (g .state) ∷ decimal e ∷ [])
+
+-- the same of a plan
+abbrev pub free : Plan → Progress → List ℕ
+free p g = freeOf (p .resources) g
+
+abbrev pub ended : Plan → Progress → List ℕ
+ended p g = endedOf (p .resources) g
+
 abbrev pub waiting : Plan → Progress → ℕ → List ℕ
-waiting p g e = free p g ++ line (wordWaits ∷ decimal (g .state) ∷ decimal e ∷ [])
+waiting p g e = waitingOf (p .resources) g e
 
 -- "refused, number, place"
 abbrev pub refused : ℕ → ℕ → List ℕ

@@ -1,13 +1,12 @@
 // The lines that the program timetable prints, put into a lent buffer: each function answers the offset past what it puts.
-use plan::Plan;
+use run_window::Entry;
 use time::Specified;
 use times::Progress;
-use run_window::Entry;
 ghost use Prim.Native.Nat.{_≤_, _<_};
 ghost use Rattle.basis.specs.Parts.{part};
 ghost use Rattle.times.specs.Times.{specified};
 ghost use Rattle.wire.specs.Puts.{Puts};
-ghost use Rattle.timetable_lines.specs.Lines.{header, row, free, ended, waiting, refused};
+ghost use Rattle.timetable_lines.specs.Lines.{header, row, freeOf, endedOf, waitingOf, refused};
 ghost use Rattle.timetable_lines.specs.Laws.{spaced};
 
 // The names of a row's numbers.
@@ -48,32 +47,32 @@ fn put_times(out: &mut [u8], at: usize, times: [Specified; 16], count: u8) -> us
 }
 
 // What is available after the last transition, by resource.
-pub fn put_free(out: &mut [u8], at: usize, plan: Plan, progress: Progress) -> usize
-    requires { ⌜ (at < 130000) × (plan .resources ≤ 16) ⌝ }
-    ensures { λ r. ⌜ Puts (now (out .entry)) at (free plan progress) (now (out .exit)) r ⌝ }
+pub fn put_free(out: &mut [u8], at: usize, resources: u8, progress: Progress) -> usize
+    requires { ⌜ (at < 130000) × (resources ≤ 16) ⌝ }
+    ensures { λ r. ⌜ Puts (now (out .entry)) at (freeOf resources progress) (now (out .exit)) r ⌝ }
 {
     let available = progress.available;
     let next = wire::puts::put_list(out, at, b"free", 4);
-    put_times(out, next, available, plan.resources)
+    put_times(out, next, available, resources)
 }
 
 // The last two lines where the path ended in a final state.
-pub fn put_ended(out: &mut [u8], at: usize, plan: Plan, progress: Progress) -> usize
-    requires { ⌜ (at < 130000) × (plan .resources ≤ 16) ⌝ }
-    ensures { λ r. ⌜ Puts (now (out .entry)) at (ended plan progress) (now (out .exit)) r ⌝ }
+pub fn put_ended(out: &mut [u8], at: usize, resources: u8, progress: Progress) -> usize
+    requires { ⌜ (at < 130000) × (resources ≤ 16) ⌝ }
+    ensures { λ r. ⌜ Puts (now (out .entry)) at (endedOf resources progress) (now (out .exit)) r ⌝ }
 {
-    let a = put_free(out, at, plan, progress);
+    let a = put_free(out, at, resources, progress);
     let b = wire::puts::put_list(out, a, b"end", 3);
     let c = timetable_text::put_after_space(out, b, progress.state as u64);
     timetable_text::put_newline(out, c)
 }
 
 // The last two lines where the outcomes ran out.
-pub fn put_waiting(out: &mut [u8], at: usize, plan: Plan, progress: Progress, e: u8) -> usize
-    requires { ⌜ (at < 130000) × (plan .resources ≤ 16) ⌝ }
-    ensures { λ r. ⌜ Puts (now (out .entry)) at (waiting plan progress e) (now (out .exit)) r ⌝ }
+pub fn put_waiting(out: &mut [u8], at: usize, resources: u8, progress: Progress, e: u8) -> usize
+    requires { ⌜ (at < 130000) × (resources ≤ 16) ⌝ }
+    ensures { λ r. ⌜ Puts (now (out .entry)) at (waitingOf resources progress e) (now (out .exit)) r ⌝ }
 {
-    let a = put_free(out, at, plan, progress);
+    let a = put_free(out, at, resources, progress);
     let b = wire::puts::put_list(out, a, b"waits", 5);
     let c = timetable_text::put_after_space(out, b, progress.state as u64);
     let d = timetable_text::put_after_space(out, c, e as u64);

@@ -13,7 +13,7 @@ use Rattle.times.specs.declared.Progress.{Progress}
 use Rattle.timetable_lines.specs.Laws.{Remains, remains-all, remains-less}
 use Rattle.timetable_turns.specs.declared.Begun.{Begun}
 use Rattle.timetable_turns.specs.declared.Drafted.{Drafted}
-use Rattle.timetable_turns.specs.declared.Heard.{Heard}
+use Rattle.timetable_steps.specs.declared.Heard.{Heard}
 use Rattle.timetable_turns.specs.declared.Place.{Place}
 use Rattle.timetable_turns.specs.Turn.{OneTurn, turnOf, headOf, turnsFrom, mostTurns, isRefused, firstText, firstProgress, Open}
 use Rattle.timetable_turns.specs.Timetable.{textOfPlan}

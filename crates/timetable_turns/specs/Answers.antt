@@ -1,12 +1,16 @@
 -- What the functions of the table answer: the text is put into the lent buffer, and the rest is as it is defined.
 use mathlib.Core.Path.{_≡_}
-use mathlib.Core.Bool.{false}
+use mathlib.Core.Bool.{Bool, false}
 use mathlib.Core.List.{List}
-use Prim.Native.Nat.{ℕ, _≤_, _<_}
+use Prim.Native.Nat.{ℕ, _≤_}
 use Rattle.wire.specs.Puts.{Puts}
+use Rattle.plan.specs.declared.Activity.{Activity}
+use Rattle.plan.specs.declared.Transition.{Transition}
 use Rattle.plan.specs.declared.Plan.{Plan}
 use Rattle.judge.specs.Judge.{judgeOf}
+use Rattle.times.specs.Limits.{StepFits}
 use Rattle.times.specs.declared.Progress.{Progress}
+use Rattle.timetable_steps.specs.declared.Step.{Step}
 use Rattle.timetable_turns.specs.declared.Begun.{Begun}
 use Rattle.timetable_turns.specs.declared.Drafted.{Drafted}
 use Rattle.timetable_turns.specs.declared.Turned.{Turned}
@@ -47,7 +51,8 @@ pub record Turnable (p : Plan) (g : Progress) (at : ℕ) : Type 0 where
   pub within : Open p g
   pub room : at ≤ 61_440
 
--- and transition t is one of the plan's
-pub record Takeable (p : Plan) (g : Progress) (at t : ℕ) : Type 0 where
-  pub turnable : Turnable p g at
-  pub named : t < p .automaton .count
+-- the parts of a turn: where it takes a transition, that one can be taken
+pub record Steppable (resources : ℕ) (a : Activity) (g : Progress) (at : ℕ) (x : Step) : Type 0 where
+  pub room : at ≤ 61_440
+  pub few : resources ≤ 16
+  pub fits : (m : Transition) (heard : Bool) → x ≡ Step.Takes m heard → StepFits resources a (m .input) g

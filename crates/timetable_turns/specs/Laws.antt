@@ -3,6 +3,7 @@ pub mod ByTurns
 pub mod InLimits
 pub mod Short
 pub mod Hearing
+pub mod Stepping
 -- and about text put into a lent buffer
 pub mod Lent
 -- and about the text of a whole input

@@ -2,6 +2,8 @@
 pub mod Timetable
 -- the same, one turn at a time
 pub mod Turn
+-- a turn from its parts
+pub mod Stepped
 -- the text in a lent buffer
 pub mod Lent
 pub mod Answers

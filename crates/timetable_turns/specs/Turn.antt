@@ -20,7 +20,7 @@ use Rattle.run_path.specs.Pathed.{ProgressIn}
 use Rattle.run_outcomes.specs.Way.{onChosen}
 use Rattle.run_opening.specs.Given.{atFirst}
 use Rattle.timetable_lines.specs.Lines.{header, rows, ended, waiting, refused}
-use Rattle.timetable_turns.specs.declared.Heard.{Heard}
+use Rattle.timetable_steps.specs.declared.Heard.{Heard}
 
 -- ---- one turn
 

@@ -1,18 +1,16 @@
 // The timetable, one turn at a time.
-use automaton::Next;
-use automaton::next_of;
 use lent::lend;
-use timetable_lines::put_header;
-use timetable_lines::put_refused;
 use plan::Plan;
 use plan::Verdict;
 use time::Specified;
 use times::Progress;
+use timetable_lines::put_header;
+use timetable_lines::put_refused;
 ghost use mathlib.Core.Path.{_≡_};
 ghost use Rattle.plan.specs.Fault.{numberOf};
 ghost use Rattle.plan.specs.declared.Fault.{Fault};
 ghost use Rattle.timetable_lines.specs.Lines.{header, refused};
-ghost use Rattle.timetable_turns.specs.Turn.{isWaiting, waitsOf, isRefused, firstText, Open};
+ghost use Rattle.timetable_turns.specs.Turn.{isRefused, firstText};
 ghost use Rattle.timetable_turns.specs.Lent.{Lends};
 ghost use Rattle.timetable_turns.specs.Answers.{Begins};
 
@@ -21,12 +19,6 @@ pub mod turns; // one turn
 mod whole; // the timetable of a whole input
 
 pub use whole::timetable;
-
-// The next outcome byte, if there is one.
-pub enum Heard {
-    Nothing,
-    Outcome(u8),
-}
 
 // Text put into a lent buffer.
 pub enum Put {
@@ -140,24 +132,4 @@ pub fn cut(out: &mut [u8], present: u64) -> Put
     ensures { λ r. ⌜ Lends (now (out .entry)) 0 (refused (numberOf Fault.Ends) present) (now (out .exit)) r ⌝ }
 {
     refused_line(out, 1, present)
-}
-
-fn is_waiting(next: Next) -> bool
-    ensures { λ r. ⌜ r ≡ isWaiting next ⌝ }
-{
-    match next {
-        Next::Ended => false,
-        Next::Goes(_) => false,
-        Next::Waits(_) => true,
-    }
-}
-
-// Whether the next turn asks for an outcome byte.
-pub fn waits(plan: Plan, progress: Progress) -> bool
-    requires { ⌜ Open plan progress ⌝ }
-    ensures { λ r. ⌜ r ≡ waitsOf plan progress ⌝ }
-{
-    let automaton = plan.automaton;
-    let next = next_of(automaton, progress.state);
-    is_waiting(next)
 }

@@ -1,44 +1,37 @@
 // One turn of the table: the rows of one position, or the text that closes it.
 use crate::Drafted;
-use crate::Heard;
 use crate::Turned;
 use crate::lent::lend;
-use automaton::Chosen;
-use automaton::Next;
-use automaton::chosen_of;
-use automaton::next_of;
+use plan::Activity;
+use plan::Plan;
+use run_path::activity_number;
+use run_path::emitted;
+use run_path::is_work;
+use run_window::Entry;
+use run_window::Phase;
+use times::Progress;
+use times::Schedule;
+use times::engine::advance;
 use timetable_lines::put_ended;
 use timetable_lines::put_refused;
 use timetable_lines::put_row;
 use timetable_lines::put_waiting;
-use run_path::activity_number;
-use run_path::emitted;
-use run_path::is_work;
-use plan::Activity;
-use plan::Plan;
-use times::Progress;
-use times::Schedule;
-use times::engine::advance;
-use run_window::Entry;
-use run_window::Phase;
+use timetable_steps::Heard;
+use timetable_steps::Step;
+use timetable_steps::output_of;
+use timetable_steps::step_of;
 ghost use mathlib.Core.Path.{_≡_};
 ghost use mathlib.Core.Bool.{cond};
 ghost use Prim.Native.Nat.{_+_, _-_, _≤_, _<_};
 ghost use Rattle.wire.specs.Puts.{Puts};
 ghost use Rattle.plan.specs.Plan.{nodesOf};
-ghost use Rattle.automaton.specs.Next.{chosenOf};
 ghost use Rattle.run_path.specs.Path.{entriesFrom};
-ghost use Rattle.timetable_lines.specs.Lines.{rows, waiting};
-ghost use Rattle.timetable_turns.specs.Turn.{closes, takes, chooses, hears, turnOf, Open};
-ghost use Rattle.timetable_turns.specs.Answers.{Drafts, Turns, Turnable, Takeable};
+ghost use Rattle.timetable_lines.specs.Lines.{rows};
+ghost use Rattle.timetable_turns.specs.Turn.{closes, turnOf, Open};
+ghost use Rattle.timetable_turns.specs.Answers.{Drafts, Turns, Turnable, Steppable};
+ghost use Rattle.timetable_turns.specs.Stepped.{closing, stepped, closedAt};
 
 fn wide(x: u8) -> usize
-    ensures { λ r. ⌜ r ≡ x ⌝ }
-{
-    x as usize
-}
-
-fn long(x: u16) -> usize
     ensures { λ r. ⌜ r ≡ x ⌝ }
 {
     x as usize
@@ -81,45 +74,10 @@ fn put_rows(
     next
 }
 
-// Transition t; "44, place = the position, whose rows are left out".
-fn take(out: &mut [u8], at: usize, plan: Plan, progress: Progress, heard: bool, t: u16) -> Drafted
-    requires { ⌜ Takeable plan progress at t ⌝ }
-    ensures { λ r. ⌜ Drafts (now (out .entry)) at (takes plan progress heard t) (now (out .exit)) r ⌝ }
+// The text closes the table.
+fn closed(next: usize, progress: Progress) -> Drafted
+    ensures { λ r. ⌜ r ≡ closedAt next progress ⌝ }
 {
-    let i = long(t);
-    let automaton = plan.automaton;
-    let m = automaton.moves[i];
-    let output = m.output;
-    let input = m.input;
-    let activity = emitted(plan, output);
-    let advanced = advance(plan.resources, activity, input, m.to, progress);
-    if advanced.beyond {
-        let next = put_refused(out, at, 44, progress.position as u64);
-        return Drafted {
-            next,
-            closed: true,
-            heard: false,
-            progress,
-        };
-    }
-    let after = advanced.progress;
-    let times = advanced.schedule;
-    let number = activity_number(output);
-    let next = put_rows(out, at, progress.position, number, times, activity);
-    Drafted {
-        next,
-        closed: false,
-        heard,
-        progress: after,
-    }
-}
-
-// The table ends in waiting for event e.
-fn wait(out: &mut [u8], at: usize, plan: Plan, progress: Progress, e: u8) -> Drafted
-    requires { ⌜ Turnable plan progress at ⌝ }
-    ensures { λ r. ⌜ Drafts (now (out .entry)) at (closes progress (waiting plan progress e)) (now (out .exit)) r ⌝ }
-{
-    let next = put_waiting(out, at, plan, progress, e);
     Drafted {
         next,
         closed: true,
@@ -128,76 +86,83 @@ fn wait(out: &mut [u8], at: usize, plan: Plan, progress: Progress, e: u8) -> Dra
     }
 }
 
-// The transition of outcome o of event e, if the state has one.
-fn choose(out: &mut [u8], at: usize, plan: Plan, progress: Progress, e: u8, o: u8) -> Drafted
-    requires { ⌜ Turnable plan progress at ⌝ }
-    ensures { λ r. ⌜ Drafts (now (out .entry)) at (chooses plan progress e (chosenOf (plan .automaton) (progress .state) e o)) (now (out .exit)) r ⌝ }
-{
-    let automaton = plan.automaton;
-    let chosen = chosen_of(automaton, progress.state, e, o);
-    match chosen {
-        Chosen::Nothing => {
-            return wait(out, at, plan, progress, e);
-        }
-        Chosen::Move(t) => {
-            return take(out, at, plan, progress, true, t);
-        }
-    }
-}
-
-// "55 for an outcome the event lacks, place = its index"
-fn judge_outcome(
+// A turn that takes no transition; "55 for an outcome the event lacks, place = its index".
+fn close(
     out: &mut [u8],
     at: usize,
-    plan: Plan,
+    resources: u8,
     progress: Progress,
-    e: u8,
     read: u32,
-    o: u8,
+    step: Step,
 ) -> Drafted
-    requires { ⌜ Turnable plan progress at ⌝ }
-    requires { ⌜ e < 16 ⌝ }
-    ensures { λ r. ⌜ Drafts (now (out .entry)) at (hears plan progress e read (Heard.Outcome o)) (now (out .exit)) r ⌝ }
+    requires { ⌜ (at ≤ 61_440) × (resources ≤ 16) ⌝ }
+    ensures { λ r. ⌜ Drafts (now (out .entry)) at (closes progress (closing resources progress read step)) (now (out .exit)) r ⌝ }
 {
-    let i = wide(e);
-    let outcomes = plan.outcomes;
-    if o < outcomes[i] {
-        return choose(out, at, plan, progress, e, o);
-    }
-    let next = put_refused(out, at, 55, read as u64);
-    Drafted {
-        next,
-        closed: true,
-        heard: false,
-        progress,
+    match step {
+        Step::Ends => {
+            let next = put_ended(out, at, resources, progress);
+            return closed(next, progress);
+        }
+        Step::Waits(e) => {
+            let next = put_waiting(out, at, resources, progress, e);
+            return closed(next, progress);
+        }
+        Step::Lacks => {
+            let next = put_refused(out, at, 55, read as u64);
+            return closed(next, progress);
+        }
+        Step::Takes(_, _) => {
+            return closed(at, progress);
+        }
     }
 }
 
-// "If outcomes run out, free is printed and the last line is waits".
-fn hear(
+// One turn, by what it does, with the activity that is emitted; "44, place = the position, whose rows are left out".
+pub fn put_step(
     out: &mut [u8],
     at: usize,
-    plan: Plan,
+    resources: u8,
+    activity: Activity,
     progress: Progress,
-    e: u8,
     read: u32,
-    heard: Heard,
+    step: Step,
 ) -> Drafted
-    requires { ⌜ Turnable plan progress at ⌝ }
-    requires { ⌜ e < 16 ⌝ }
-    ensures { λ r. ⌜ Drafts (now (out .entry)) at (hears plan progress e read heard) (now (out .exit)) r ⌝ }
+    requires { ⌜ Steppable resources activity progress at step ⌝ }
+    ensures { λ r. ⌜ Drafts (now (out .entry)) at (stepped resources (nodesOf activity) progress read step) (now (out .exit)) r ⌝ }
 {
-    match heard {
-        Heard::Nothing => {
-            return wait(out, at, plan, progress, e);
+    match step {
+        Step::Ends => {
+            return close(out, at, resources, progress, read, step);
         }
-        Heard::Outcome(o) => {
-            return judge_outcome(out, at, plan, progress, e, read, o);
+        Step::Waits(_) => {
+            return close(out, at, resources, progress, read, step);
+        }
+        Step::Lacks => {
+            return close(out, at, resources, progress, read, step);
+        }
+        Step::Takes(m, heard) => {
+            let input = m.input;
+            let advanced = advance(resources, activity, input, m.to, progress);
+            if advanced.beyond {
+                let next = put_refused(out, at, 44, progress.position as u64);
+                return closed(next, progress);
+            }
+            let after = advanced.progress;
+            let times = advanced.schedule;
+            let output = m.output;
+            let number = activity_number(output);
+            let next = put_rows(out, at, progress.position, number, times, activity);
+            return Drafted {
+                next,
+                closed: false,
+                heard,
+                progress: after,
+            };
         }
     }
 }
 
-// The turn by what the state does next.
+// One turn of a plan.
 pub fn turn_by(
     out: &mut [u8],
     at: usize,
@@ -210,24 +175,11 @@ pub fn turn_by(
     ensures { λ r. ⌜ Drafts (now (out .entry)) at (turnOf plan progress read heard) (now (out .exit)) r ⌝ }
 {
     let automaton = plan.automaton;
-    let next = next_of(automaton, progress.state);
-    match next {
-        Next::Ended => {
-            let past = put_ended(out, at, plan, progress);
-            return Drafted {
-                next: past,
-                closed: true,
-                heard: false,
-                progress,
-            };
-        }
-        Next::Goes(t) => {
-            return take(out, at, plan, progress, false, t);
-        }
-        Next::Waits(e) => {
-            return hear(out, at, plan, progress, e, read, heard);
-        }
-    }
+    let outcomes = plan.outcomes;
+    let step = step_of(automaton, outcomes, progress.state, heard);
+    let output = output_of(step);
+    let activity = emitted(plan, output);
+    put_step(out, at, plan.resources, activity, progress, read, step)
 }
 
 // How many outcome bytes were taken after a turn.

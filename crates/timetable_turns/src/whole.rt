@@ -1,5 +1,4 @@
 // The timetable of a whole input. The inner functions put what fits, and answer the offset past the text.
-use crate::Heard;
 use crate::Place;
 use crate::Put;
 use crate::begin;
@@ -8,8 +7,9 @@ use crate::lent::past;
 use crate::turns::counted;
 use crate::turns::left_after;
 use crate::turns::turn_by;
-use timetable_lines::put_refused;
 use plan::Plan;
+use timetable_lines::put_refused;
+use timetable_steps::Heard;
 ghost use mathlib.Core.Path.{_≡_};
 ghost use mathlib.Core.Bool.{cond};
 ghost use Prim.Native.Nat.{_+_, _*_, _≤_, _<_};

@@ -32,7 +32,7 @@ use Rattle.times_equal.specs.Plans.{progressAfter, scheduleAt}
 use Rattle.times_equal.specs.Laws.Plans.{AtMostEight, First, whole, later, times-at, stored-at as kept-at, plan-equal, plan-run, plan-times, plan-free, progressAt}
 use Rattle.run_opening.specs.Given.{atFirst}
 use Rattle.run_path.specs.Path.{isWork, loaded, entriesFrom, entriesBy, activityNumber}
-use Rattle.timetable_lines.specs.Lines.{rows, free}
+use Rattle.timetable_lines.specs.Lines.{rows, freeOf, free}
 use Rattle.timetable_text.specs.Text.{decimal, line, wordFree}
 use Rattle.demands_theory.specs.TheWord.{stateAfter, wholeOf}
 use Rattle.demands_run.specs.Laws.Taken.{next-position, next-state}
@@ -205,7 +205,7 @@ module _ (setting : Setting) where
         value-at stored r ∙ ap (λ (t : Specified). t .0) (getD-part (specified 0) (after is .available) 0 (p .resources) r h) ∙ ap (λ (n : ℕ). at (after is .available) n) z
 
     pub frees : Frees p is E (free p (after is))
-    unfolding free
+    unfolding freeOf
     frees = record {
       values = values stored;
       many = many-values stored ∙ length-part (specified 0) (after is .available) 0 (p .resources);
@@ -214,7 +214,7 @@ module _ (setting : Setting) where
     }
 
     pub frees-only : (text : List ℕ) → Frees p is E text → text ≡ free p (after is)
-    unfolding free
+    unfolding freeOf
     frees-only text x =
         let long : length (x .values) ≡ length (values stored) = x .many ∙ sym (many-values stored ∙ length-part (specified 0) (after is .available) 0 (p .resources)) in
         let same : x .values ≡ values stored = ext-getD 0 (x .values) (values stored) long (λ r h.

@@ -22,7 +22,7 @@ same-length : tie.Need-same-length
 same-length c = search needs
 
 returns : tie.Need-returns
-returns c = rw (free-is (c .before .before .before .before .before .before .before .before .before .before .before .args .plan) (c .before .before .before .before .before .before .before .before .before .before .before .args .progress)) (puts-join (c .before .before .before .before .before .before .put-list .ensures) (c .before .before .put-times .ensures))
+returns c = rw (free-is (c .before .before .before .before .before .before .before .before .before .before .before .args .resources) (c .before .before .before .before .before .before .before .before .before .before .before .args .progress)) (puts-join (c .before .before .before .before .before .before .put-list .ensures) (c .before .before .put-times .ensures))
 
 pub put-free-spec : {M : Type 1} → statement M
 put-free-spec =

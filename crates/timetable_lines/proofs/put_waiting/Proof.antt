@@ -21,19 +21,19 @@ slice-aggregate-put-list : tie.Need-slice-aggregate-put-list
 slice-aggregate-put-list c = search needs
 
 put-list-requires : tie.Need-put-list-requires
-put-list-requires c κs = (omega (arith, free-length (c .before .before .before .before .before .before .before .args .plan) (c .before .before .before .before .before .before .before .args .progress) (c .before .before .before .before .before .before .before .pre .1)), search needs)
+put-list-requires c κs = (omega (arith, free-length (c .before .before .before .before .before .before .before .args .resources) (c .before .before .before .before .before .before .before .args .progress) (c .before .before .before .before .before .before .before .pre .1)), search needs)
 
 cast-put-after-space : tie.Need-cast-put-after-space
 cast-put-after-space c = search needs
 
 put-after-space-requires : tie.Need-put-after-space-requires
-put-after-space-requires c κs = omega (arith, free-length (c .before .before .before .before .before .before .before .before .before .before .before .before .args .plan) (c .before .before .before .before .before .before .before .before .before .before .before .before .args .progress) (c .before .before .before .before .before .before .before .before .before .before .before .before .pre .1))
+put-after-space-requires c κs = omega (arith, free-length (c .before .before .before .before .before .before .before .before .before .before .before .before .args .resources) (c .before .before .before .before .before .before .before .before .before .before .before .before .args .progress) (c .before .before .before .before .before .before .before .before .before .before .before .before .pre .1))
 
 put-after-space-requires-2 : tie.Need-put-after-space-requires-2
-put-after-space-requires-2 c κs = omega (arith, free-length (c .before .before .before .before .before .before .before .before .before .before .before .before .before .before .before .before .args .plan) (c .before .before .before .before .before .before .before .before .before .before .before .before .before .before .before .before .args .progress) (c .before .before .before .before .before .before .before .before .before .before .before .before .before .before .before .before .pre .1), decimal-length (c .before .before .before .before .before .before .before .before .before .before .before .before .before .before .before .before .args .progress .state))
+put-after-space-requires-2 c κs = omega (arith, free-length (c .before .before .before .before .before .before .before .before .before .before .before .before .before .before .before .before .args .resources) (c .before .before .before .before .before .before .before .before .before .before .before .before .before .before .before .before .args .progress) (c .before .before .before .before .before .before .before .before .before .before .before .before .before .before .before .before .pre .1), decimal-length (c .before .before .before .before .before .before .before .before .before .before .before .before .before .before .before .before .args .progress .state))
 
 put-newline-requires : tie.Need-put-newline-requires
-put-newline-requires c κs = omega (arith, free-length (c .before .before .before .before .before .before .before .before .before .before .before .before .before .before .before .before .before .before .before .before .args .plan) (c .before .before .before .before .before .before .before .before .before .before .before .before .before .before .before .before .before .before .before .before .args .progress) (c .before .before .before .before .before .before .before .before .before .before .before .before .before .before .before .before .before .before .before .before .pre .1), decimal-length (c .before .before .before .before .before .before .before .before .before .before .before .before .before .before .before .before .before .before .before .before .args .progress .state), decimal-length (c .before .before .before .before .before .before .before .before .before .before .before .before .before .before .before .before .before .before .before .before .args .e))
+put-newline-requires c κs = omega (arith, free-length (c .before .before .before .before .before .before .before .before .before .before .before .before .before .before .before .before .before .before .before .before .args .resources) (c .before .before .before .before .before .before .before .before .before .before .before .before .before .before .before .before .before .before .before .before .args .progress) (c .before .before .before .before .before .before .before .before .before .before .before .before .before .before .before .before .before .before .before .before .pre .1), decimal-length (c .before .before .before .before .before .before .before .before .before .before .before .before .before .before .before .before .before .before .before .before .args .progress .state), decimal-length (c .before .before .before .before .before .before .before .before .before .before .before .before .before .before .before .before .before .before .before .before .args .e))
 
 same-length : tie.Need-same-length
 same-length c = search needs

@@ -3,18 +3,16 @@ use mathlib.Core.Path.{_≡_, refl, sym, _∙_, subst}
 use mathlib.Core.Bool.{Bool, true, false, cond}
 use mathlib.Core.List.{List, []}
 use Prim.Native.Nat.{ℕ, _<_}
-use native.Mathlib.Omega.{arith}
 use lib.Dec.{ltb}
 use lib.ListN.{getD}
 use Rattle.plan.specs.Plan.{outcomesOf}
-use Rattle.plan.specs.Limits.{InLimits, InputNames}
+use Rattle.plan.specs.Limits.{InLimits}
 use Rattle.plan.specs.declared.Plan.{Plan}
 use Rattle.plan.specs.declared.PlanRead.{PlanRead}
 use Rattle.plan.specs.declared.Verdict.{Verdict}
 use Rattle.judge.specs.Judge.{accepted, judgeOf}
 use Rattle.judge.specs.Laws.{passed, read-limits}
 use Rattle.automaton.specs.Next.{nextOf, chosenOf}
-use Rattle.automaton.specs.States.{NextIs, next-is, ChosenIs, chosen-is}
 use Rattle.automaton.specs.declared.Next.{Next}
 use Rattle.automaton.specs.declared.Chosen.{Chosen}
 use Rattle.times.specs.declared.Progress.{Progress}
@@ -24,7 +22,8 @@ use Rattle.run_path.specs.Laws.Stepping.{next-leads, taken-kept}
 use Rattle.run_opening.specs.Given.{anyAbove}
 use Rattle.run_opening.specs.Laws.{first-in}
 use Rattle.timetable_lines.specs.Lines.{rows, refused}
-use Rattle.timetable_turns.specs.declared.Heard.{Heard}
+use Rattle.timetable_steps.specs.Laws.{chosen-below}
+use Rattle.timetable_steps.specs.declared.Heard.{Heard}
 use Rattle.timetable_turns.specs.Turn.{OneTurn, closes, takes, chooses, hears, turnBy, turnOf, firstProgress, Open}
 use Rattle.timetable_turns.specs.Laws.ByTurns.{never}
 
@@ -41,27 +40,6 @@ unfolding anyAbove
 first-open p limits = record { plan = limits; progress = first-in p limits [] refl }
 
 -- ---- one turn
-
--- the event that a state awaits is one of the plan's
-pub awaited-below : (p : Plan) → InLimits p → (s e : ℕ) → nextOf (p .automaton) s ≡ Next.Waits e → e < 16
-awaited-below p limits s e q = go (subst (NextIs (p .automaton) s) q (next-is (p .automaton) s))
-  where
-    go : NextIs (p .automaton) s (Next.Waits e) → e < 16
-    go (NextIs.waits o x) =
-        let h = subst (InputNames p) (x .input) (limits .moves (x .index) (x .leaves .low) .input) .0 in
-        let m = limits .events in
-        omega arith
-
--- the transition of an outcome is one of the plan's
-pub chosen-below : (p : Plan) (s e o t : ℕ) → chosenOf (p .automaton) s e o ≡ Chosen.Move t → t < p .automaton .count
-chosen-below p s e o t q = go (subst (ChosenIs (p .automaton) s e o) q (chosen-is (p .automaton) s e o))
-  where
-    go : ChosenIs (p .automaton) s e o (Chosen.Move t) → t < p .automaton .count
-    go (ChosenIs.moves l h) = l .low
-
--- the transition that is taken without an event is one of the plan's
-pub goes-below : (p : Plan) (s t : ℕ) → nextOf (p .automaton) s ≡ Next.Goes t → t < p .automaton .count
-goes-below p s t q = subst (Leads (p .automaton .count)) q (next-leads (p .automaton) s)
 
 module _ (p : Plan) (g : Progress) (within : Open p g) where
   Stays : OneTurn → Type 0
@@ -86,7 +64,7 @@ module _ (p : Plan) (g : Progress) (within : Open p g) where
   hears-open e read (Heard.Outcome o) = go (ltb o (outcomesOf p e))
     where
       go : (b : Bool) → Stays (cond b (chooses p g e (chosenOf (p .automaton) (g .state) e o)) (closes g (refused 55 read)))
-      go true = chooses-open e (chosenOf (p .automaton) (g .state) e o) (λ t q. chosen-below p (g .state) e o t q)
+      go true = chooses-open e (chosenOf (p .automaton) (g .state) e o) (λ t q. chosen-below (p .automaton) (g .state) e o t q)
       go false = λ k. never k
 
   by-open : (read : ℕ) (h : Heard) (n : Next) → Leads (p .automaton .count) n → Stays (turnBy p g read h n)

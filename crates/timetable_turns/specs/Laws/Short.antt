@@ -26,9 +26,9 @@ use Rattle.run_path.specs.Laws.Emitting.{emitted-nodes, emitted-fits}
 use Rattle.run_path.specs.Laws.Stepping.{next-leads}
 use Rattle.timetable_lines.specs.Lines.{row, rows, refused}
 use Rattle.timetable_lines.specs.Laws.{header-length, row-within, ended-length, waiting-length, refused-length}
-use Rattle.timetable_turns.specs.declared.Heard.{Heard}
+use Rattle.timetable_steps.specs.declared.Heard.{Heard}
+use Rattle.timetable_steps.specs.Laws.{chosen-below}
 use Rattle.timetable_turns.specs.Turn.{closes, takes, chooses, hears, turnBy, turnOf, firstText, Open}
-use Rattle.timetable_turns.specs.Laws.InLimits.{chosen-below}
 
 -- ---- rows
 
@@ -82,21 +82,21 @@ module _ (p : Plan) (g : Progress) (within : Open p g) where
 
   chooses-short : (e : ℕ) (c : Chosen) → ((t : ℕ) → c ≡ Chosen.Move t → t < p .automaton .count) → length (chooses p g e c .text) ≤ longestTurn
   unfolding chooses
-  chooses-short e Chosen.Nothing l = let u = waiting-length p g (within .plan .resources) e in omega arith
+  chooses-short e Chosen.Nothing l = let u = waiting-length (p .resources) g (within .plan .resources) e in omega arith
   chooses-short e (Chosen.Move t) l = takes-short true t (l t refl)
 
   hears-short : (e read : ℕ) (h : Heard) → length (hears p g e read h .text) ≤ longestTurn
   unfolding hears
-  hears-short e read Heard.Nothing = let u = waiting-length p g (within .plan .resources) e in omega arith
+  hears-short e read Heard.Nothing = let u = waiting-length (p .resources) g (within .plan .resources) e in omega arith
   hears-short e read (Heard.Outcome o) = go (ltb o (outcomesOf p e))
     where
       go : (b : Bool) → length (cond b (chooses p g e (chosenOf (p .automaton) (g .state) e o)) (closes g (refused 55 read)) .text) ≤ longestTurn
-      go true = chooses-short e (chosenOf (p .automaton) (g .state) e o) (λ t q. chosen-below p (g .state) e o t q)
+      go true = chooses-short e (chosenOf (p .automaton) (g .state) e o) (λ t q. chosen-below (p .automaton) (g .state) e o t q)
       go false = let u = refused-length 55 read in omega arith
 
   by-short : (read : ℕ) (h : Heard) (n : Next) → Leads (p .automaton .count) n → length (turnBy p g read h n .text) ≤ longestTurn
   unfolding turnBy
-  by-short read h Next.Ended l = let u = ended-length p g (within .plan .resources) in omega arith
+  by-short read h Next.Ended l = let u = ended-length (p .resources) g (within .plan .resources) in omega arith
   by-short read h (Next.Goes t) l = takes-short false t l
   by-short read h (Next.Waits e) l = hears-short e read h
 

@@ -12,7 +12,7 @@ use Rattle.plan.specs.declared.Fault.{Fault}
 use Rattle.plan.specs.declared.Plan.{Plan}
 use Rattle.times.specs.declared.Progress.{Progress}
 use Rattle.timetable_lines.specs.Lines.{refused}
-use Rattle.timetable_turns.specs.declared.Heard.{Heard}
+use Rattle.timetable_steps.specs.declared.Heard.{Heard}
 use Rattle.timetable_turns.specs.declared.Place.{Place}
 use Rattle.timetable_turns.specs.Turn.{OneTurn, turnOf, headOf, readAfter, restOf, leftAfter, turnsFrom}
 use Rattle.timetable_turns.specs.Timetable.{textOfPlan, timetableOf}
