@@ -10,10 +10,10 @@ use Rattle.plan.specs.declared.Node.{Node}
 use Rattle.plan.specs.declared.Fault.{Fault}
 use Rattle.activity.specs.Rules.{Is, Before, Ordered}
 use Rattle.activity.specs.Number.{kindOf}
-use Rattle.activity.specs.Closure.{first-arrow, last-arrow}
-use Rattle.activity.specs.Nodes.{At}
-use Rattle.activity.specs.Tells.{differ}
-use Rattle.activity.specs.Sight.{labelOf, heldOf, Label, InLine, Alone, Claimed, Released}
+use Rattle.activity.specs.Laws.Tells.{differ}
+use Rattle.activity.specs.Inner.Sight.{labelOf, heldOf, Label, InLine, Alone, Claimed, Released}
+use Rattle.activity.specs.Laws.Closure.{first-arrow, last-arrow}
+use Rattle.activity.specs.Inner.Nodes.{At}
 
 -- a label says the kind
 action-of : (k : Kind) (p : ℕ) → labelOf k ≡ 4 * p → (x : ℕ) × (k ≡ Kind.Action x p)

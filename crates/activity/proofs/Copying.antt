@@ -6,15 +6,16 @@ use native.Mathlib.Omega.{arith}
 use borrow.Author.Count.{below-more}
 use lib.ListN.{length, getD, set, replicate, length-set}
 use lib.Seq.{set-at, append-snoc, ext-getD, getD-set-same, getD-set-other}
-use Rattle.basis.specs.Parts.{part, length-part, getD-part}
+use Rattle.basis.specs.Parts.{part}
 use Rattle.basis.specs.Laws.Parts.{part-more}
+use Rattle.basis.specs.Laws.PartsHold.{length-part, getD-part}
 use Rattle.plan.specs.Plan.{pastNode, sizeOf, nodesOf, activityOf}
 use Rattle.plan.specs.Limits.{InLimits}
 use Rattle.plan.specs.declared.Node.{Node}
 use Rattle.plan.specs.declared.Activity.{Activity}
 use Rattle.plan.specs.declared.Plan.{Plan}
-use Rattle.activity.specs.Copied.{emptyNode, filled, copied}
-use Rattle.activity.specs.Fits.{NodeFits, Fits}
+use Rattle.activity.specs.Inner.Fits.{NodeFits, Fits}
+use Rattle.activity.specs.Inner.Copied.{emptyNode, filled, copied}
 
 pub filled-more : (p : Plan) (a n : ℕ) → n < 64 → set (filled p a n) n (getD (p .nodes) (64 * a + n) pastNode) ≡ filled p a (n + 1)
 filled-more p a n h =

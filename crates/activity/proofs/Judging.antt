@@ -14,9 +14,11 @@ use Rattle.activity.specs.declared.Finding.{Finding}
 use Rattle.activity.specs.Rules.{Meets}
 use Rattle.activity.specs.Number.{faultOf}
 use Rattle.activity.specs.Judged.{Rule, First}
-use Rattle.activity.specs.Nodes.{At, each-within}
-use Rattle.activity.specs.Order.{Lowest, none, keep, take-new}
-use Rattle.activity.specs.Theorem.{judged, only}
+use Rattle.activity.specs.Laws.Theorem.{judged, only}
+use Rattle.activity.specs.Inner.Nodes.{At}
+use Rattle.activity.specs.Laws.Nodes.{each-within}
+use Rattle.activity.specs.Inner.Order.{Lowest}
+use Rattle.activity.specs.Laws.Order.{none, keep, take-new}
 
 module _ (belongs : ℕ → ℕ) (a : List Node) where
   -- what the nodes below n ask

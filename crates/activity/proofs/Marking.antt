@@ -6,9 +6,10 @@ use Prim.Native.Nat.{ℕ, _+_, _<_, _≤_}
 use native.Mathlib.Nat.{eq-or-lt-of-le}
 use native.Mathlib.Omega.{arith}
 use Rattle.basis.specs.Laws.Tells.{is-true}
-use Rattle.activity.specs.Bits.{Bit, no-bit}
-use Rattle.activity.specs.Sight.{Marks}
-use Rattle.activity.specs.Tells.{Tells, told-true}
+use Rattle.activity.specs.Inner.Sight.{Marks}
+use Rattle.activity.specs.Laws.Tells.{Tells, told-true}
+use Rattle.activity.specs.Inner.Bits.{Bit}
+use Rattle.activity.specs.Laws.Bits.{no-bit}
 
 pub nothing-marked : (Q : ℕ → Type 0) → Marks 0 (λ j. (j < 0) × Q j)
 nothing-marked Q j = (λ b. absurd (no-bit j b), λ h. absurd (omega (arith, h .0)))

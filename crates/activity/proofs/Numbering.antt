@@ -7,9 +7,11 @@ use Rattle.plan.specs.declared.Kind.{Kind}
 use Rattle.plan.specs.declared.Node.{Node}
 use Rattle.plan.specs.declared.Fault.{Fault}
 use Rattle.activity.specs.Rules.{Is, Before}
-use Rattle.activity.specs.Order.{Below, Lowest, up, stop, none}
-use Rattle.activity.specs.Nodes.{At, start-at}
-use Rattle.activity.specs.Sight.{InLine, Alone, Claimed, Released}
+use Rattle.activity.specs.Inner.Sight.{InLine, Alone, Claimed, Released}
+use Rattle.activity.specs.Inner.Order.{Below, Lowest}
+use Rattle.activity.specs.Laws.Order.{up, stop, none}
+use Rattle.activity.specs.Inner.Nodes.{At}
+use Rattle.activity.specs.Laws.Nodes.{start-at}
 use Rattle.activity.proofs.ByKind as kind
 
 -- a node on a cycle

@@ -7,13 +7,14 @@ use native.Mathlib.Nat.{zero-add}
 use native.Mathlib.Omega.{arith}
 use lib.ListN.{length, getD}
 use Rattle.basis.specs.Lists.{Among}
-use Rattle.basis.specs.Parts.{part, among-part, part-among, length-part, getD-part}
+use Rattle.basis.specs.Parts.{part}
+use Rattle.basis.specs.Laws.PartsHold.{among-part, part-among, length-part, getD-part}
 use Rattle.plan.specs.Plan.{pastNode, predecessors, nodesOf}
 use Rattle.plan.specs.declared.Node.{Node}
 use Rattle.plan.specs.declared.Activity.{Activity}
 use Rattle.activity.specs.Rules.{node, Arrow}
 use Rattle.activity.specs.Number.{kindOf}
-use Rattle.activity.specs.Sight.{labelOf, Labels}
+use Rattle.activity.specs.Inner.Sight.{labelOf, Labels}
 
 -- the members of the first k are what stands at the places below k
 pub listed : (l : List ℕ) (k m : ℕ) → Among m (part 0 l 0 k) ↔ ((i : ℕ) × (i < k) × (getD l i 0 ≡ m))

@@ -11,9 +11,11 @@ use Rattle.plan.specs.declared.Node.{Node}
 use Rattle.activity.specs.declared.nodes.Sight.{Sight}
 use Rattle.activity.specs.Rules.{Before}
 use Rattle.activity.specs.Number.{kindOf}
-use Rattle.activity.specs.Bits.{Bit, or-iff, no-bit}
-use Rattle.activity.specs.Closure.{Rel, Closure, within}
-use Rattle.activity.specs.Sight.{labelOf, Label, Labels, Marks, Seen, InLine, Alone, Claimed, Released}
+use Rattle.activity.specs.Inner.Sight.{labelOf, Label, Labels, Marks, Seen, InLine, Alone, Claimed, Released}
+use Rattle.activity.specs.Inner.Bits.{Bit}
+use Rattle.activity.specs.Laws.Bits.{or-iff, no-bit}
+use Rattle.activity.specs.Inner.Closure.{Rel, Closure}
+use Rattle.activity.specs.Laws.Closure.{within}
 
 module _ (belongs : ℕ → ℕ) (a : List Node) (n : ℕ) (s : Sight) (h : Seen belongs a n s) where
   pub seen-in-line :

@@ -10,8 +10,9 @@ use lib.Arith.{bin-ind}
 use lib.Bits.{bitOr, bitAnd, or-step, or-zero-l}
 use lib.Dec.{eqb}
 use lib.Pow.{shr-shr}
-use Rattle.activity.specs.Bits.{Bit, or-iff, and-iff, no-bit}
-use Rattle.activity.specs.Tells.{Tells, tells-iff, tells-not, tells-eqb}
+use Rattle.activity.specs.Laws.Tells.{Tells, tells-iff, tells-not, tells-eqb}
+use Rattle.activity.specs.Inner.Bits.{Bit}
+use Rattle.activity.specs.Laws.Bits.{or-iff, and-iff, no-bit}
 
 half-bit : (w j : ℕ) → Bit (w / 2) j ↔ Bit w (1 + j)
 half-bit w j = let e = ap (λ (x : ℕ). x % 2) (shr-shr w 1 j) in (λ h. sym e ∙ h, λ h. e ∙ h)

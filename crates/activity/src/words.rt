@@ -3,9 +3,9 @@ ghost use mathlib.Core.Path.{_≡_};
 ghost use mathlib.Core.Bool.{true};
 ghost use mathlib.Core.Logic.{_⊎_, _↔_};
 ghost use Prim.Native.Nat.{ℕ, _<_};
-ghost use Rattle.activity.specs.Tells.{Tells};
-ghost use Rattle.activity.specs.Bits.{Bit};
-ghost use Rattle.activity.specs.Closure.{Stepped};
+ghost use Rattle.activity.specs.Laws.Tells.{Tells};
+ghost use Rattle.activity.specs.Inner.Bits.{Bit};
+ghost use Rattle.activity.specs.Inner.Closure.{Stepped};
 
 // Bit m of w.
 pub(crate) fn has(w: u64, m: usize) -> bool

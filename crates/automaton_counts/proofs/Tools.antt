@@ -13,13 +13,14 @@ use Rattle.plan.specs.declared.Fault.{Fault}
 use Rattle.plan.specs.declared.Verdict.{Verdict}
 use Rattle.plan.specs.Plan.{move, isFinal}
 use Rattle.automaton.specs.Tests.{at, flag, pick, true-false}
-use Rattle.automaton.specs.Counts.{InRange, MoveOk, Ready, Left, Crowd}
 use Rattle.automaton.specs.Rules.{ToFinal}
 use Rattle.automaton.specs.Number.{lowest, toFinal, pathVerdict, wayVerdict}
-use Rattle.automaton.specs.OnPaths.{same-on-paths, path-verdict}
-use Rattle.automaton.specs.Lowest.{none-found}
-use Rattle.automaton.specs.Decides.{tells-24}
-use Rattle.automaton_counts.specs.Emits.{finalBit, Either, gives, Few, Judged, gives-small, gives-bounded}
+use Rattle.automaton.specs.Laws.Lowest.{none-found}
+use Rattle.automaton.specs.Laws.Decides.{tells-24}
+use Rattle.automaton.specs.Inner.Counts.{InRange, MoveOk, Ready, Left, Crowd}
+use Rattle.automaton.specs.Laws.OnPaths.{same-on-paths, path-verdict}
+use Rattle.automaton_counts.specs.Inner.Emits.{finalBit, Either, gives, Few, Judged}
+use Rattle.automaton_counts.specs.Laws.Emits.{gives-small, gives-bounded}
 
 pub sure : {P Q : Type 0} → P → Either true P Q
 sure p = record { yea = λ e. p; nay = λ e. absurd (true-false e) }

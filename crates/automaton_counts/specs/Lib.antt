@@ -1,2 +1,3 @@
 -- What the activities emit, as a table, and the contracts of numbers 24 to 26.
-pub mod Emits
+pub mod Inner
+pub mod Laws

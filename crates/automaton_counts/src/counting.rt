@@ -12,9 +12,9 @@ ghost use Prim.Native.Nat.{ℕ, _+_, _*_, _<_, _≤_};
 ghost use lib.ListN.{length};
 ghost use Rattle.automaton.specs.Tests.{at, Tells};
 ghost use Rattle.automaton.specs.Rules.{takes};
-ghost use Rattle.automaton.specs.Counts.{InputOk, OutputOk, InRange, Ready, Known};
-ghost use Rattle.automaton.specs.Passes.{Advanced, Going};
-ghost use Rattle.automaton_counts.specs.Emits.{gives, Few};
+ghost use Rattle.automaton.specs.Inner.Counts.{InputOk, OutputOk, InRange, Ready, Known};
+ghost use Rattle.automaton.specs.Inner.Passes.{Advanced, Going};
+ghost use Rattle.automaton_counts.specs.Inner.Emits.{gives, Few};
 
 pub(crate) fn taken(input: Input, e: usize) -> u16
     ensures { λ r. ⌜ r ≡ takes input e ⌝ }

@@ -7,9 +7,9 @@ ghost use mathlib.Core.Path.{_≡_};
 ghost use Prim.Native.Nat.{_<_, _≤_};
 ghost use Rattle.automaton.specs.Tests.{flag};
 ghost use Rattle.automaton.specs.Number.{lowest, toFinal};
-ghost use Rattle.automaton.specs.Counts.{InRange};
-ghost use Rattle.automaton.specs.Passes.{Backing};
-ghost use Rattle.automaton_counts.specs.Emits.{finalBit, Finals};
+ghost use Rattle.automaton.specs.Inner.Counts.{InRange};
+ghost use Rattle.automaton.specs.Inner.Passes.{Backing};
+ghost use Rattle.automaton_counts.specs.Inner.Emits.{finalBit, Finals};
 
 pub(crate) fn is_final(finals: u64, s: usize) -> bool
     requires { ⌜ s < 64 ⌝ }

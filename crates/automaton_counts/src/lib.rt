@@ -15,9 +15,9 @@ ghost use mathlib.Core.Path.{_≡_};
 ghost use Prim.Native.Nat.{ℕ, _<_, _≤_};
 ghost use Rattle.automaton.specs.Tests.{at, Tells};
 ghost use Rattle.automaton.specs.Number.{wayVerdict};
-ghost use Rattle.automaton.specs.Counts.{MoveOk, InRange, Kept, Keeps, Clash, Left, Crowd};
+ghost use Rattle.automaton.specs.Inner.Counts.{MoveOk, InRange, Kept, Keeps, Clash, Left, Crowd};
 ghost use Rattle.plan.specs.declared.Automaton.{Automaton};
-ghost use Rattle.automaton_counts.specs.Emits.{gives, Few, Within, Unkept, Either, Judged};
+ghost use Rattle.automaton_counts.specs.Inner.Emits.{gives, Few, Within, Unkept, Either, Judged};
 
 mod counting;
 mod final_states;

@@ -16,8 +16,8 @@ use Rattle.plan.specs.Plan.{pastNode, sizeOf}
 use Rattle.plan.specs.Limits.{InLimits}
 use Rattle.automaton.specs.Tests.{at}
 use Rattle.automaton.specs.Rules.{one, ofEvent, eventsIn}
-use Rattle.automaton.specs.Bounds.{events-le}
-use Rattle.automaton_verdict.specs.Table.{eventNumber, Table}
+use Rattle.automaton.specs.Laws.Bounds.{events-le}
+use Rattle.automaton_verdict.specs.Inner.Table.{eventNumber, Table}
 
 -- how many nodes of event e activity k has among the nodes looked at
 abbrev seen : Plan → ℕ → ℕ → ℕ → ℕ

@@ -13,13 +13,15 @@ use Rattle.plan.specs.declared.Automaton.{Automaton}
 use Rattle.plan.specs.declared.Fault.{Fault}
 use Rattle.plan.specs.declared.Verdict.{Verdict}
 use Rattle.plan.specs.Plan.{pastMove}
-use Rattle.automaton.specs.Tests.{pick, both, all, true-false, all-true}
+use Rattle.automaton.specs.Tests.{pick, both, all, true-false}
 use Rattle.automaton.specs.declared.Next.{Next}
 use Rattle.automaton.specs.Next.{nextOf}
-use Rattle.automaton.specs.States.{NextIs, waits, next-is}
-use Rattle.automaton.specs.Counts.{InputOk, InRange}
-use Rattle.automaton.specs.Scan.{rest, rest-more, rest-none}
+use Rattle.automaton.specs.Laws.States.{NextIs, waits, next-is}
 use Rattle.automaton.specs.Number.{lowest, noWayOut, apart, apartFrom, branchesIn, branches, serves, orElse, stateVerdict}
+use Rattle.automaton.specs.Laws.Tests.{all-true}
+use Rattle.automaton.specs.Inner.Counts.{InputOk, InRange}
+use Rattle.automaton.specs.Inner.Scan.{rest}
+use Rattle.automaton.specs.Laws.Scan.{rest-more, rest-none}
 
 -- ---- a test of each transition of s together with those after it
 

@@ -1,2 +1,3 @@
 -- What the activities of a plan emit, as a table.
-pub mod Table
+pub mod Inner
+pub mod Laws

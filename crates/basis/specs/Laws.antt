@@ -5,3 +5,4 @@ pub mod Every
 pub mod Flags
 pub mod Lists
 pub mod Parts
+pub mod PartsHold

@@ -1,2 +1,4 @@
 -- What is proved of the definitions.
 pub mod Kept
+pub mod ByCases
+pub mod Latest

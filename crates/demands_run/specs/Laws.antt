@@ -27,3 +27,6 @@ pub mod Short
 pub mod Opening
 pub mod EngineHolds
 pub mod AcceptedHolds
+pub mod Engine
+pub mod Stands
+pub mod Theorem

@@ -11,3 +11,10 @@ pub mod World
 pub mod TheWord
 pub mod Longest
 pub mod Nodes
+pub mod Machine
+pub mod OfPlan
+pub mod OfRun
+pub mod OfTheLog
+pub mod Theorem
+pub mod Way
+pub mod Works

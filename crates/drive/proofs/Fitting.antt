@@ -18,7 +18,7 @@ use Rattle.drive_input.specs.Input.{callsAt, head, headOf}
 use Rattle.drive.specs.Drive.{openedBy}
 use Rattle.drive_records.specs.Records.{openingRecord}
 use Rattle.drive.specs.Drive.{callsFrom, callsOf, recordsFrom, recordsOf, joined, textOf, recordedOf, bufferOf}
-use Rattle.drive_records.specs.Laws.{record-length}
+use Rattle.drive_records.specs.Laws.Records.{record-length}
 use Rattle.drive.proofs.Turns.{text-whole, calls-same, records-length}
 
 joined-length : (rs : List Record) → length (joined rs) ≡ 16 * length rs

@@ -5,7 +5,7 @@ use Prim.Native.Nat.{ℕ, _+_, _≤_}
 use native.Mathlib.Omega.{arith}
 use lib.ListN.{length}
 use Rattle.wire.specs.Number.{little, fieldAt}
-use Rattle.wire.specs.Fields.{are-there, are-short}
+use Rattle.wire.specs.Laws.Fields.{are-there, are-short}
 use Rattle.wire.specs.declared.Short.{Short}
 use Rattle.wire.specs.declared.Long.{Long}
 use Rattle.wire.specs.declared.Wide.{Wide}

@@ -5,7 +5,7 @@ use plan::Verdict;
 ghost use mathlib.Core.Path.{_≡_};
 ghost use Rattle.plan.specs.Limits.{InLimits};
 ghost use Rattle.judge.specs.Judge.{judgeOf};
-ghost use Rattle.judge.specs.Inner.{planVerdict};
+ghost use Rattle.judge.specs.Inner.Judge.{planVerdict};
 
 // The verdict on a plan that was read.
 fn plan_verdict(plan: Plan) -> Verdict

@@ -7,14 +7,15 @@ use native.Mathlib.Omega.{arith}
 use borrow.Author.Tests.{le-leb, lt-leb}
 use lib.ListN.{length, drop, length-append}
 use lib.Seq.{sets-eq}
-use Rattle.wire.specs.Puts.{Puts, puts-join}
+use Rattle.wire.specs.Puts.{Puts}
+use Rattle.wire.specs.Laws.Puts.{puts-join}
 use Rattle.run.specs.declared.Run.{Run}
 use Rattle.run.specs.declared.Call.{Call}
 use Rattle.run.specs.declared.Answer.{Answer}
 use Rattle.run.specs.Calls.{callOf}
 use Rattle.drive_records.specs.declared.Record.{Record}
 use Rattle.drive_records.specs.Records.{recordBytes, replyRecord}
-use Rattle.drive_records.specs.Laws.{record-length}
+use Rattle.drive_records.specs.Laws.Records.{record-length}
 use Rattle.made_up.specs.Made.{madeOf, callAt, firstFrom, secondFrom}
 use Rattle.made_up.specs.Answers.{madeRecords, madeCode, madeBuffer}
 

@@ -7,4 +7,4 @@ pub mod Nodes
 pub mod Sections
 pub mod Moves
 pub mod Reading
-pub mod Example
+pub mod Laws

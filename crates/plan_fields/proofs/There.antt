@@ -12,7 +12,7 @@ use lib.Dec.{ltb, eqb}
 use lib.Pow.{pow-pos}
 use borrow.Author.Tests.{lt-ltb, le-ltb, eq-eqb, ne-eqb}
 use Rattle.wire.specs.Number.{little, fieldAt}
-use Rattle.wire.specs.Fields.{Present, are-there, are-short}
+use Rattle.wire.specs.Laws.Fields.{Present, are-there, are-short}
 use Rattle.wire.specs.declared.Byte.{Byte}
 use Rattle.wire.specs.declared.Short.{Short}
 use Rattle.wire.specs.declared.Long.{Long}

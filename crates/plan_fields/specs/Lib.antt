@@ -1,2 +1,2 @@
 -- What a field of one byte that was read says.
-pub mod Read
+pub mod Laws

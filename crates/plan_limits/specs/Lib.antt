@@ -1,7 +1,3 @@
 -- The limits of a plan as tests, and that the tests tell what is in limits.
 pub mod Limits
-pub mod Every
-pub mod Tells
-pub mod Shift
-pub mod Plans
-pub mod Files
+pub mod Laws

@@ -4,7 +4,7 @@ use mathlib.Core.List.{List}
 use Prim.Native.Nat.{ℕ, zero, suc, _+_, _*_, _-_, _≤_, _<_}
 use native.Mathlib.Omega.{arith}
 use lib.ListN.{set}
-use Rattle.plan_fields.specs.Read.{byte-most}
+use Rattle.plan_fields.specs.Laws.Read.{byte-most}
 use Rattle.plan.specs.Fields.{onField, onStep, byteAt, countAt, numbersThen}
 use Rattle.plan.specs.Nodes.{nodeAt, zeroNode}
 use Rattle.plan.specs.Sections.{noActivities, nodesThen, activitiesLoop}
@@ -14,7 +14,7 @@ use Rattle.plan.specs.declared.fields.Field.{Field}
 use Rattle.plan.specs.declared.fields.Step.{Step}
 use Rattle.plan.specs.declared.fields.NodeRead.{NodeRead}
 use Rattle.plan.specs.declared.fields.ActivitiesRead.{ActivitiesRead}
-use Rattle.plan_sections.specs.Parts.{allActivities, noPart, nodePart, countPart, partAt}
+use Rattle.plan_sections.specs.Inner.Parts.{allActivities, noPart, nodePart, countPart, partAt}
 use Rattle.plan_sections.specs.declared.parts.Part.{Part}
 use Rattle.plan_sections.specs.declared.parts.PartRead.{PartRead}
 

@@ -1,3 +1,3 @@
 -- A limit that every answer of a section keeps, and the parts of the section of activities.
-pub mod Counts
-pub mod Parts
+pub mod Laws
+pub mod Inner

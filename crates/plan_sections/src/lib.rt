@@ -13,7 +13,7 @@ ghost use Prim.Native.Nat.{_≤_};
 ghost use lib.ListN.{replicate};
 ghost use Rattle.plan.specs.Nodes.{zeroNode};
 ghost use Rattle.plan.specs.Sections.{noPeripherals, belongsAt, peripheralsAt, noEvents, outcomesAt, eventsAt, noActivities, activitiesLoop, activitiesAt};
-ghost use Rattle.plan_sections.specs.Parts.{allActivities};
+ghost use Rattle.plan_sections.specs.Inner.Parts.{allActivities};
 
 mod parts;
 

@@ -4,7 +4,7 @@ use plan::Node;
 use plan::fields::Field;
 use plan::fields::Step;
 ghost use mathlib.Core.Path.{_≡_};
-ghost use Rattle.plan_sections.specs.Parts.{noPart, nodePart, countPart, partAt};
+ghost use Rattle.plan_sections.specs.Inner.Parts.{noPart, nodePart, countPart, partAt};
 
 // What stands at a place of the section.
 pub enum Part {

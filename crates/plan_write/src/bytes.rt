@@ -14,11 +14,11 @@ ghost use Rattle.wire.specs.Number.{present, optionalBytes, numberBytes};
 ghost use Rattle.wire.specs.Map.{mapOf};
 ghost use Rattle.wire.specs.Puts.{Puts};
 ghost use Rattle.format.specs.Format.{print};
-ghost use Rattle.format.specs.Laws.{flat};
+ghost use Rattle.format.specs.Laws.Format.{flat};
 ghost use Rattle.plan.specs.Plan.{movesOf};
 ghost use Rattle.plan.specs.Limits.{InLimits};
 ghost use Rattle.plan_file.specs.PlanFile.{nodeMap, inputBit, outputBit, moveMap, planFile};
-ghost use Rattle.plan_write.specs.Bytes.{kindBytes, nodeBytes, inputBytes, outputBytes, moveBytes, automatonBytes, namedBytes, sectionBytes, activityBytes};
+ghost use Rattle.plan_write.specs.Inner.Bytes.{kindBytes, nodeBytes, inputBytes, outputBytes, moveBytes, automatonBytes, namedBytes, sectionBytes, activityBytes};
 ghost use Rattle.plan_write.specs.Laws.Sums.{digit, kindBit};
 
 // The bit of a number that is absent where it is 0.

@@ -12,32 +12,32 @@ use Rattle.time.specs.declared.Clock.{Clock}
 use Rattle.plan.specs.Limits.{InLimits}
 use Rattle.times.specs.Engine.{lastPosition}
 use Rattle.times.specs.Limits.{ProgressInLimits}
-use Rattle.activity.specs.Tells.{Tells, holds, fails, told-true, tells-and, tells-or}
+use Rattle.activity.specs.Laws.Tells.{Tells, holds, fails, told-true, tells-and, tells-or}
 use Rattle.run_limits.specs.Window.{entryInLimits}
-use Rattle.plan_limits.specs.Tells.{tells-ltb, tells-leb}
-use Rattle.plan_limits.specs.Plans.{tells-in-limits}
+use Rattle.plan_limits.specs.Laws.Tells.{tells-ltb, tells-leb}
+use Rattle.plan_limits.specs.Laws.Plans.{tells-in-limits}
 use Rattle.run_limits.specs.Laws.Stored.{tells-stored}
 use Rattle.run_limits.specs.Laws.Places.{tells-window}
 use Rattle.run_window.specs.declared.Entry.{Entry}
 use Rattle.run_window.specs.declared.Found.{Found}
 use Rattle.run_window.specs.declared.Sought.{Sought}
 use Rattle.run_window.specs.Window.{vacant, isFree, isHeld, isStarted, isNode, isDue, startsBefore, first}
-use Rattle.run_window.specs.Search.{firstOf}
-use Rattle.run_window.specs.Tests.{by-test, started-true, held-unfree}
-use Rattle.run_window.specs.Order.{starts-order}
-use Rattle.run_window.specs.Firsts.{First, first-found, by-first}
+use Rattle.run_window.specs.Inner.Search.{firstOf}
+use Rattle.run_window.specs.Laws.Tests.{by-test, started-true, held-unfree}
+use Rattle.run_window.specs.Laws.Order.{starts-order}
+use Rattle.run_window.specs.Laws.Firsts.{First, first-found, by-first}
 use Rattle.run_checks.specs.declared.Refusal.{Refusal}
 use Rattle.run_checks.specs.declared.Objection.{Objection}
 use Rattle.run_checks.specs.declared.Check.{Check}
 use Rattle.run_checks.specs.declared.Report.{Report}
 use Rattle.run_checks.specs.Order.{Timed, calledBy, startedThen, reportedBy}
-use Rattle.run_checks.specs.Laws.{Passed, passed, called-goes, called-objects, onReport, reported-said}
+use Rattle.run_checks.specs.Laws.Checks.{Passed, passed, called-goes, called-objects, onReport, reported-said}
 use Rattle.run.specs.declared.Run.{Run}
 use Rattle.run.specs.declared.Answer.{Answer}
 use Rattle.run.specs.Limits.{haltInLimits, runInLimits}
 use Rattle.run.specs.Calls.{refuse, objected, momentOf, called, reported, asked}
-use Rattle.run.specs.Checks.{checkOf, Named, idle, starts}
-use Rattle.run.specs.Loads.{Loads}
+use Rattle.run.specs.Inner.Checks.{checkOf, Named, idle, starts}
+use Rattle.run.specs.Inner.Loads.{Loads}
 
 -- the length of an array of structs
 pub unmapped : (X Y : Type 0) (f : X → Y) (l : List X) (n : ℕ) → length (map f l) ≡ n → length l ≡ n

@@ -20,7 +20,7 @@ use Rattle.run.specs.declared.Run.{Run}
 use Rattle.run.specs.declared.Answer.{Answer}
 use Rattle.run.specs.Calls.{heard, cleared, afterLoading, learnt}
 use Rattle.run.specs.Loading.{Loading, loading, loadPath, load, onWay, onLoading, further, mostPending}
-use Rattle.run.specs.Inner.{replyAfter, haltAfter}
+use Rattle.run.specs.Inner.Calls.{replyAfter, haltAfter}
 
 -- the run with what loading made of its progress and its window
 abbrev pub within : Run → declared.Loading → Loading

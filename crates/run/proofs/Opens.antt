@@ -13,22 +13,22 @@ use Rattle.plan.specs.declared.Fault.{Fault}
 use Rattle.plan.specs.declared.Verdict.{Verdict}
 use Rattle.plan.specs.declared.PlanRead.{PlanRead}
 use Rattle.judge.specs.Judge.{accepted, judgeOf}
-use Rattle.judge.specs.Laws.{passed, read-limits}
+use Rattle.judge.specs.Laws.Judge.{passed, read-limits}
 use Rattle.run.specs.declared.Unopened.{Unopened}
 use Rattle.run_opening.specs.declared.Short.{Short}
 use Rattle.run_opening.specs.Given.{atFirst, availabilities, anyAbove}
 use Rattle.run_opening.specs.Short.{onShort}
-use Rattle.run_opening.specs.Laws.{first-in}
+use Rattle.run_opening.specs.Laws.Given.{first-in}
 use Rattle.run.specs.Limits.{slackInLimits}
 use Rattle.automaton.specs.Next.{nextOf}
 use Rattle.times.specs.declared.Progress.{Progress}
 use Rattle.run_window.specs.Window.{vacant}
-use Rattle.run_loading.specs.Inner.{Loads}
+use Rattle.run_loading.specs.Inner.Loading.{Loads}
 use Rattle.run_loading.specs.Loading.{load}
 use Rattle.run_loading.specs.declared.Loading.{Loading}
 use Rattle.run.proofs.Loaded.{load-parts}
 use Rattle.run.specs.Opening.{uncalled, fresh, unopened, afterFirst, firstLoaded, begin, openPlan, openJudged, openOf}
-use Rattle.run.specs.Inner.{firstPath}
+use Rattle.run.specs.Inner.Calls.{firstPath}
 
 -- ---- the run at its opening
 

@@ -10,11 +10,11 @@ use Rattle.times.specs.declared.Progress.{Progress}
 use Rattle.times.specs.Queues.{noInstance, pendingOf}
 use Rattle.times.specs.Limits.{InstanceInLimits}
 use Rattle.run_window.specs.declared.Entry.{Entry}
-use Rattle.run_window.specs.Tests.{by-test}
+use Rattle.run_window.specs.Laws.Tests.{by-test}
 use Rattle.run.specs.declared.Run.{Run}
 use Rattle.run_outcomes.specs.Told.{tell, isInstance, toldFrom, toldOf}
-use Rattle.run_loading.specs.Inner as parts
-use Rattle.run.specs.Loads.{Loads}
+use Rattle.run_loading.specs.Inner.Loading as parts
+use Rattle.run.specs.Inner.Loads.{Loads}
 
 -- what holds of every place, and of one place once it is told, holds of every place once that one is told
 set-each : (Q : ℕ → Instance → Type 0) (xs : List Instance) (i : ℕ) (v : Instance) → ((j : ℕ) → Q j (getD xs j noInstance)) → Q i v → (j : ℕ) → Q j (getD (set xs i v) j noInstance)

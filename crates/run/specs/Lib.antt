@@ -4,6 +4,4 @@ pub mod Limits
 pub mod Loading
 pub mod Opening
 pub mod Calls
-pub mod Checks
-pub mod Loads
 pub mod Inner

@@ -5,7 +5,7 @@ ghost use mathlib.Core.Bool.{_&&_};
 ghost use Rattle.run_limits.specs.Progress.{progressInLimits};
 ghost use Rattle.run_limits.specs.Window.{windowInLimits};
 ghost use Rattle.run.specs.Limits.{runInLimits};
-ghost use Rattle.run.specs.Checks.{storedInLimits};
+ghost use Rattle.run.specs.Inner.Checks.{storedInLimits};
 
 pub use run_checks::bounds::slack_in_limits;
 

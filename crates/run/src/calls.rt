@@ -15,10 +15,10 @@ use run_window::Found;
 ghost use mathlib.Core.Path.{_≡_};
 ghost use Prim.Native.Nat.{_<_};
 ghost use Rattle.run_checks.specs.declared.Halt.{Halt};
-ghost use Rattle.run_checks.specs.Laws.{onReport};
+ghost use Rattle.run_checks.specs.Laws.Checks.{onReport};
 ghost use Rattle.run_window.specs.Window.{isDue, startsBefore, first};
 ghost use Rattle.run.specs.Calls.{refuse, heard, objected, isDone, asked, kindOf, completedBy, learnsBy};
-ghost use Rattle.run.specs.Checks.{Passes, Named, starts, idle};
+ghost use Rattle.run.specs.Inner.Checks.{Passes, Named, starts, idle};
 
 // "A refused call hands back the run exactly as it came in."
 pub fn refuse(run: Run, f: Refusal) -> Answer

@@ -7,9 +7,9 @@ use run_window::Sought;
 use time::Clock;
 ghost use mathlib.Core.Bool.{true};
 ghost use mathlib.Core.Path.{_≡_};
-ghost use Rattle.run_window.specs.Search.{SoughtInTime};
+ghost use Rattle.run_window.specs.Inner.Search.{SoughtInTime};
 ghost use Rattle.run.specs.Limits.{runInLimits};
-ghost use Rattle.run.specs.Checks.{checkOf};
+ghost use Rattle.run.specs.Inner.Checks.{checkOf};
 
 pub fn check_call(run: Run, t: Clock, sought: Sought) -> Check
     requires { ⌜ (runInLimits run ≡ true → SoughtInTime sought) ⌝ }

@@ -15,8 +15,8 @@ ghost use Prim.Native.Nat.{_<_};
 ghost use Rattle.plan.specs.Plan.{outcomesOf};
 ghost use Rattle.plan.specs.Limits.{KindNames};
 ghost use Rattle.run.specs.Calls.{learnt, learnsBy};
-ghost use Rattle.run.specs.Loads.{Loads};
-ghost use Rattle.run.specs.Inner.{toldRun, replyAfter, haltAfter};
+ghost use Rattle.run.specs.Inner.Loads.{Loads};
+ghost use Rattle.run.specs.Inner.Calls.{toldRun, replyAfter, haltAfter};
 
 fn reply_after(failure: Failure) -> Reply
     ensures { λ r. ⌜ r ≡ replyAfter failure ⌝ }

@@ -20,7 +20,7 @@ ghost use lib.ListN.{length};
 ghost use Rattle.plan.specs.Limits.{InLimits};
 ghost use Rattle.run_opening.specs.Given.{anyAbove};
 ghost use Rattle.run.specs.Opening.{uncalled, zeroRun, unopened, afterFirst, openPlan};
-ghost use Rattle.run.specs.Inner.{firstPath};
+ghost use Rattle.run.specs.Inner.Calls.{firstPath};
 
 // ---- the run at its opening
 

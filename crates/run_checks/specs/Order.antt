@@ -8,7 +8,7 @@ use Rattle.time.specs.Time.{horizon}
 use Rattle.run_window.specs.declared.Entry.{Entry}
 use Rattle.run_window.specs.declared.Found.{Found}
 use Rattle.run_window.specs.Window.{isStarted, isOverdue, isLate, startsBefore, endsBefore, onFound, first}
-use Rattle.run_window.specs.Times.{AllInTime}
+use Rattle.run_window.specs.Inner.Times.{AllInTime}
 use Rattle.run_checks.specs.declared.Stop.{Stop}
 use Rattle.run_checks.specs.declared.Halt.{Halt}
 use Rattle.run_checks.specs.declared.Refusal.{Refusal}

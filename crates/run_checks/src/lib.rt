@@ -8,7 +8,7 @@ use time::Clock;
 ghost use mathlib.Core.Bool.{true};
 ghost use mathlib.Core.Path.{_≡_};
 ghost use Rattle.run_window.specs.Window.{isStarted};
-ghost use Rattle.run_window.specs.Search.{SoughtInTime, firstOf};
+ghost use Rattle.run_window.specs.Inner.Search.{SoughtInTime, firstOf};
 ghost use Rattle.run_checks.specs.Order.{Timed, overdueThen, lateThen, timelyBy, calledBy, startedThen, reportedBy};
 
 pub mod bounds;

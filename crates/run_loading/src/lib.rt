@@ -16,7 +16,7 @@ ghost use lib.ListN.{replicate};
 ghost use Rattle.automaton.specs.Next.{nextOf};
 ghost use Rattle.run_window.specs.Window.{vacant};
 ghost use Rattle.run_loading.specs.Loading.{load, further, mostPending};
-ghost use Rattle.run_loading.specs.Inner.{Loads, hasFailed, settledBy};
+ghost use Rattle.run_loading.specs.Inner.Loading.{Loads, hasFailed, settledBy};
 
 // Whether loading failed.
 pub enum Failure {

@@ -9,7 +9,7 @@ use Rattle.automaton.specs.declared.Next.{Next}
 use Rattle.times.specs.declared.Progress.{Progress}
 use Rattle.times.specs.Limits.{ProgressInLimits}
 use Rattle.run_window.specs.Window.{vacant}
-use Rattle.run_window.specs.Times.{AllInTime}
+use Rattle.run_window.specs.Inner.Times.{AllInTime}
 use Rattle.run_window.specs.declared.Entry.{Entry}
 use Rattle.run_path.specs.declared.Pathed.{Pathed}
 use Rattle.run_path.specs.Path.{Path, pathFrom, longestPath}

@@ -20,9 +20,9 @@ ghost use Rattle.plan.specs.Plan.{nodesOf};
 ghost use Rattle.plan.specs.Limits.{InLimits, OutputNames};
 ghost use Rattle.run_path.specs.Path.{isWork, entriesFrom, activityNumber, pathFrom, longestPath};
 ghost use Rattle.run_path.specs.Pathed.{ProgressIn, Leads, pathed};
-ghost use Rattle.activity.specs.Copied.{emptyNode};
+ghost use Rattle.activity.specs.Inner.Copied.{emptyNode};
 ghost use Rattle.times.specs.Limits.{StepFits};
-ghost use Rattle.run_path.specs.Inner.{emittedOf, emittedCount, broughtOf, steppedOf};
+ghost use Rattle.run_path.specs.Inner.Path.{emittedOf, emittedCount, broughtOf, steppedOf};
 
 // One transition of a path: the entries that it brings, and where the behaviour stands after it.
 struct Step {

@@ -9,7 +9,7 @@ use lib.ListN.{length, getD, take, drop, set, take-append-drop, drop-of-length-l
 use lib.Seq.{take-nil, drop-nil, take-suc, drop-cons, take-suc-set, drop-set-lt}
 use Rattle.run_window.specs.declared.Entry.{Entry}
 use Rattle.run_window.specs.Window.{isFree, placed}
-use Rattle.run_window.specs.Placed.{placed-nothing, placed-none, placed-first, placed-past}
+use Rattle.run_window.specs.Laws.Placed.{placed-nothing, placed-none, placed-first, placed-past}
 
 -- the places before `at` as they are, and the entries in the free ones from there on
 abbrev pub placedFrom : ℕ → List Entry → List Entry → List Entry

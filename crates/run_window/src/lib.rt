@@ -5,8 +5,8 @@ ghost use mathlib.Core.Path.{_≡_};
 ghost use Prim.Native.Nat.{_≤_, _<_};
 ghost use Rattle.time.specs.Time.{horizon};
 ghost use Rattle.run_window.specs.Window.{vacant, isFree, startedOf, isOverdue, isLate, isDue, isNode, before, better};
-ghost use Rattle.run_window.specs.Times.{InTime, AllInTime};
-ghost use Rattle.run_window.specs.Search.{isSought, SoughtInTime, timeOf, sooner, kept, seenOf};
+ghost use Rattle.run_window.specs.Inner.Times.{InTime, AllInTime};
+ghost use Rattle.run_window.specs.Inner.Search.{isSought, SoughtInTime, timeOf, sooner, kept, seenOf};
 
 mod places; // the whole window
 

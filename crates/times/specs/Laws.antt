@@ -7,3 +7,4 @@ pub mod Leaves
 pub mod Fits
 pub mod Places
 pub mod Kept
+pub mod Example

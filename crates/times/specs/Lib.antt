@@ -4,6 +4,5 @@ pub mod Times
 pub mod Queues
 pub mod Engine
 pub mod Limits
-pub mod Example
 pub mod Inner
 pub mod Laws

@@ -19,7 +19,7 @@ ghost use Rattle.plan.specs.Plan.{nodesOf};
 ghost use Rattle.times.specs.Times.{orderOf};
 ghost use Rattle.times.specs.Engine.{lastPosition, raisedOf, leftOf, aboveOf, beyondOf, advanceOf};
 ghost use Rattle.times.specs.Limits.{StepFits};
-ghost use Rattle.times.specs.Inner.{Leaving};
+ghost use Rattle.times.specs.Inner.Times.{Leaving};
 
 // The times of the first `count` resources, each raised to c.
 fn raised(available: [Specified; 16], count: u8, c: Specified) -> [Specified; 16]

@@ -10,7 +10,7 @@ ghost use Prim.Native.Nat.{max};
 ghost use Rattle.time.specs.declared.Specified.{Specified};
 ghost use Rattle.plan.specs.Plan.{predecessors, nodesOf};
 ghost use Rattle.times.specs.Times.{specified, readyOf, largestOf, unscheduled, scheduleOf};
-ghost use Rattle.times.specs.Inner.{ArrowsFit, Timeable, numbers, claimOf, eventOf, startOn};
+ghost use Rattle.times.specs.Inner.Times.{ArrowsFit, Timeable, numbers, claimOf, eventOf, startOn};
 
 pub fn wide(x: u8) -> usize
     ensures { λ r. ⌜ r ≡ x ⌝ }

@@ -12,3 +12,7 @@ pub mod Exists
 pub mod Counts
 pub mod Later
 pub mod Plans
+pub mod Accepted
+pub mod Engine
+pub mod Exec
+pub mod Theorems

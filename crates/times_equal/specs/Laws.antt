@@ -6,3 +6,6 @@ pub mod Events
 pub mod Queue
 pub mod Left
 pub mod Plans
+pub mod Seen
+pub mod Steps
+pub mod Words

@@ -1,6 +1,3 @@
 -- The engine's transition, as the functions compute it, goes the way that the theorems about the combined activity ask.
-pub mod Seen
-pub mod Steps
-pub mod Words
 pub mod Plans
 pub mod Laws

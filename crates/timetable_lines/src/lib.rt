@@ -7,7 +7,7 @@ ghost use Rattle.basis.specs.Parts.{part};
 ghost use Rattle.times.specs.Times.{specified};
 ghost use Rattle.wire.specs.Puts.{Puts};
 ghost use Rattle.timetable_lines.specs.Lines.{header, row, freeOf, endedOf, waitingOf, refused};
-ghost use Rattle.timetable_lines.specs.Laws.{spaced};
+ghost use Rattle.timetable_lines.specs.Laws.Lines.{spaced};
 
 // The names of a row's numbers.
 pub fn put_header(out: &mut [u8], at: usize) -> usize

@@ -8,7 +8,7 @@ use lib.ListN.{length, take}
 use Rattle.plan.specs.declared.Plan.{Plan}
 use Rattle.judge.specs.Judge.{judgeOf}
 use Rattle.times.specs.declared.Progress.{Progress}
-use Rattle.timetable_turns.specs.Turn.{OneTurn, turnOf, turnsFrom, waitsOf, readAfter, mostTurns, isRefused, firstText, firstProgress}
+use Rattle.timetable_turns.specs.Inner.Turn.{OneTurn, turnOf, turnsFrom, waitsOf, readAfter, mostTurns, isRefused, firstText, firstProgress}
 use Rattle.timetable_turns.specs.Timetable.{textOfPlan}
 use Rattle.timetable_turns.specs.Laws.ByTurns.{never, plan-by-turns}
 use Rattle.timetable_turns.specs.Lent.{Lends, pastOf}
@@ -18,7 +18,7 @@ use Rattle.timetable_steps.specs.declared.Heard.{Heard}
 use Rattle.timetable_turns.specs.declared.Put.{Put}
 use Rattle.timetable_output.specs.declared.Output.{Output}
 use Rattle.timetable_output.specs.declared.Between.{Between}
-use Rattle.timetable_output.specs.Between.{Gathers, HandsOn, Goes, Prints, Ends, Printed}
+use Rattle.timetable_output.specs.Inner.Between.{Gathers, HandsOn, Goes, Prints, Ends, Printed}
 use Rattle.timetable_output.proofs.Turning.{output, between}
 
 -- text that is handed on is no new text

@@ -10,14 +10,14 @@ use Rattle.wire.specs.Puts.{Puts}
 use Rattle.plan.specs.declared.Plan.{Plan}
 use Rattle.times.specs.declared.Progress.{Progress}
 use Rattle.timetable_steps.specs.declared.Heard.{Heard}
-use Rattle.timetable_turns.specs.Turn.{OneTurn, turnOf, Open}
-use Rattle.timetable_turns.specs.Answers.{Drafts}
+use Rattle.timetable_turns.specs.Inner.Turn.{OneTurn, turnOf, Open}
+use Rattle.timetable_turns.specs.Inner.Answers.{Drafts}
 use Rattle.timetable_turns.specs.Laws.InLimits.{turn-open}
 use Rattle.timetable_turns.specs.Laws.Short.{turn-short}
 use Rattle.timetable_turns.specs.declared.Drafted.{Drafted}
 use Rattle.timetable_output.specs.declared.Output.{Output}
 use Rattle.timetable_output.specs.declared.Between.{Between}
-use Rattle.timetable_output.specs.Between.{Gathers, HandsOn, Stands, Goes}
+use Rattle.timetable_output.specs.Inner.Between.{Gathers, HandsOn, Stands, Goes}
 
 abbrev pub output : ℕ → ℕ → Bool → Output
 output handed gathered lost = record { handed = handed; gathered = gathered; lost = lost }

@@ -1,2 +1,2 @@
 -- The program timetable between two turns.
-pub mod Between
+pub mod Inner

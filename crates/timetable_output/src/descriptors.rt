@@ -7,7 +7,7 @@ use timetable_steps::Step;
 ghost use mathlib.Core.Path.{_≡_};
 ghost use Prim.Native.Nat.{_+_, _≤_, _<_};
 ghost use lib.ListN.{length};
-ghost use Rattle.timetable_output.specs.Between.{HandsOn, Held, Asks, Listens};
+ghost use Rattle.timetable_output.specs.Inner.Between.{HandsOn, Held, Asks, Listens};
 
 // All that is gathered goes to the output.
 pub fn hand_on(out: &[u8], o: Output) -> Output

@@ -18,7 +18,7 @@ ghost use Rattle.plan.specs.Fault.{numberOf};
 ghost use Rattle.plan.specs.Limits.{InLimits};
 ghost use Rattle.plan.specs.declared.Fault.{Fault};
 ghost use Rattle.timetable_lines.specs.Lines.{refused};
-ghost use Rattle.timetable_output.specs.Between.{HandsOn, Stands, Ends, Printed, Held};
+ghost use Rattle.timetable_output.specs.Inner.Between.{HandsOn, Stands, Ends, Printed, Held};
 
 mod descriptors; // what is read and written
 

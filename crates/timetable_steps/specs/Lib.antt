@@ -1,3 +1,3 @@
 -- What a turn of the table does, and the tables in which it is looked up.
-pub mod Steps
 pub mod Laws
+pub mod Inner

@@ -12,7 +12,7 @@ use run_path::emitted;
 ghost use mathlib.Core.Path.{_≡_};
 ghost use Prim.Native.Nat.{_+_, _*_, _≤_, _<_};
 ghost use Rattle.plan.specs.Limits.{InLimits};
-ghost use Rattle.timetable_steps.specs.Steps.{Named, Below, chosenStep, heardStep, stepOf, columnOf, heardAs, Looks, outputOf, placeOf, Emits};
+ghost use Rattle.timetable_steps.specs.Inner.Steps.{Named, Below, chosenStep, heardStep, stepOf, columnOf, heardAs, Looks, outputOf, placeOf, Emits};
 
 // The next outcome byte, if there is one.
 pub enum Heard {

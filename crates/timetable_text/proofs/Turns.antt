@@ -3,9 +3,10 @@ use mathlib.Core.Path.{_≡_, sym, _∙_, ap, subst}
 use mathlib.Core.List.{List, [], _∷_, _++_}
 use Prim.Native.Nat.{ℕ, suc, _+_, _-_, _/_, _%_, _≤_, _<_}
 use native.Mathlib.Omega.{arith}
-use Rattle.wire.specs.Puts.{Puts, puts-none, puts-join}
+use Rattle.wire.specs.Puts.{Puts}
+use Rattle.wire.specs.Laws.Puts.{puts-none, puts-join}
 use Rattle.timetable_text.specs.Text.{digits}
-use Rattle.timetable_text.specs.Digits.{digits-small, digits-more}
+use Rattle.timetable_text.specs.Laws.Digits.{digits-small, digits-more}
 
 pub put-none : (l : List ℕ) (at k n : ℕ) → k ≡ 0 → Puts l at (digits k n) l at
 unfolding digits

@@ -12,9 +12,9 @@ use Rattle.judge.specs.Judge.{judgeOf}
 use Rattle.times.specs.declared.Progress.{Progress}
 use Rattle.timetable_lines.specs.Lines.{refused}
 use Rattle.timetable_turns.specs.declared.Put.{Put}
-use Rattle.timetable_turns.specs.Turn.{isRefused, firstText, firstProgress, Open}
+use Rattle.timetable_turns.specs.Inner.Turn.{isRefused, firstText, firstProgress, Open}
 use Rattle.timetable_turns.specs.Lent.{Lends}
-use Rattle.timetable_turns.specs.Answers.{Begins}
+use Rattle.timetable_turns.specs.Inner.Answers.{Begins}
 use Rattle.timetable_turns.specs.Laws.ByTurns.{never}
 use Rattle.timetable_turns.specs.Laws.Lent.{lends-as}
 use Rattle.timetable_turns.specs.Laws.InLimits.{judged-limits, first-open}

@@ -6,20 +6,21 @@ use Prim.Native.Nat.{ℕ, _+_, _-_, _≤_, _<_}
 use native.Mathlib.Nat.{add-zero}
 use native.Mathlib.Omega.{arith}
 use lib.ListN.{length, take, drop}
-use Rattle.wire.specs.Puts.{Puts, puts-none, puts-join}
+use Rattle.wire.specs.Puts.{Puts}
+use Rattle.wire.specs.Laws.Puts.{puts-none, puts-join}
 use Rattle.plan.specs.declared.Plan.{Plan}
 use Rattle.judge.specs.Judge.{judgeOf}
 use Rattle.times.specs.declared.Progress.{Progress}
-use Rattle.timetable_lines.specs.Laws.{Remains, remains-all, remains-less}
+use Rattle.timetable_lines.specs.Laws.Lines.{Remains, remains-all, remains-less}
 use Rattle.timetable_turns.specs.declared.Begun.{Begun}
 use Rattle.timetable_turns.specs.declared.Drafted.{Drafted}
 use Rattle.timetable_steps.specs.declared.Heard.{Heard}
 use Rattle.timetable_turns.specs.declared.Place.{Place}
-use Rattle.timetable_turns.specs.Turn.{OneTurn, turnOf, headOf, turnsFrom, mostTurns, isRefused, firstText, firstProgress, Open}
+use Rattle.timetable_turns.specs.Inner.Turn.{OneTurn, turnOf, headOf, turnsFrom, mostTurns, isRefused, firstText, firstProgress, Open}
 use Rattle.timetable_turns.specs.Timetable.{textOfPlan}
 use Rattle.timetable_turns.specs.Lent.{pastOf}
-use Rattle.timetable_turns.specs.Answers.{Begins, Drafts}
-use Rattle.timetable_turns.specs.Whole.{leftText, Standing}
+use Rattle.timetable_turns.specs.Inner.Answers.{Begins, Drafts}
+use Rattle.timetable_turns.specs.Inner.Whole.{leftText, Standing}
 use Rattle.timetable_turns.specs.Laws.ByTurns.{plan-by-turns}
 use Rattle.timetable_turns.specs.Laws.InLimits.{turn-open}
 use Rattle.timetable_turns.specs.Laws.Lent.{lent-puts, put-front}

@@ -6,7 +6,8 @@ use Prim.Native.Nat.{ℕ, _+_, _*_, _≤_, _<_}
 use native.Mathlib.Omega.{arith}
 use lib.ListN.{getD}
 use Rattle.basis.specs.Parts.{part}
-use Rattle.wire.specs.Puts.{Puts, puts-none, puts-join}
+use Rattle.wire.specs.Puts.{Puts}
+use Rattle.wire.specs.Laws.Puts.{puts-none, puts-join}
 use Rattle.plan.specs.Plan.{pastNode}
 use Rattle.plan.specs.declared.Node.{Node}
 use Rattle.times.specs.declared.Schedule.{Schedule}
@@ -15,7 +16,7 @@ use Rattle.run_window.specs.declared.Entry.{Entry}
 use Rattle.run_path.specs.Path.{isWork, loaded, entriesFrom}
 use Rattle.run_path.specs.Laws.Collecting.{rest, rest-all}
 use Rattle.timetable_lines.specs.Lines.{row, rows}
-use Rattle.timetable_lines.specs.Laws.{row-within}
+use Rattle.timetable_lines.specs.Laws.Lines.{row-within}
 
 module _ (position a : ℕ) (s : Schedule) (l : List Node) (size : ℕ) where
   -- the rows of the nodes from number n on

@@ -15,9 +15,9 @@ use Rattle.run_path.specs.Path.{activityNumber, entriesFrom}
 use Rattle.timetable_lines.specs.Lines.{rows, refused}
 use Rattle.timetable_steps.specs.declared.Step.{Step}
 use Rattle.timetable_turns.specs.declared.Drafted.{Drafted}
-use Rattle.timetable_turns.specs.Turn.{OneTurn, closes}
-use Rattle.timetable_turns.specs.Stepped.{taking, closing, stepped, closedAt}
-use Rattle.timetable_turns.specs.Answers.{Drafts}
+use Rattle.timetable_turns.specs.Inner.Turn.{OneTurn, closes}
+use Rattle.timetable_turns.specs.Inner.Stepped.{taking, closing, stepped, closedAt}
+use Rattle.timetable_turns.specs.Inner.Answers.{Drafts}
 use Rattle.timetable_turns.specs.Laws.ByTurns.{never}
 
 -- whether a step takes a transition

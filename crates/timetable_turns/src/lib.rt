@@ -10,9 +10,9 @@ ghost use mathlib.Core.Path.{_≡_};
 ghost use Rattle.plan.specs.Fault.{numberOf};
 ghost use Rattle.plan.specs.declared.Fault.{Fault};
 ghost use Rattle.timetable_lines.specs.Lines.{header, refused};
-ghost use Rattle.timetable_turns.specs.Turn.{isRefused, firstText};
+ghost use Rattle.timetable_turns.specs.Inner.Turn.{isRefused, firstText};
 ghost use Rattle.timetable_turns.specs.Lent.{Lends};
-ghost use Rattle.timetable_turns.specs.Answers.{Begins};
+ghost use Rattle.timetable_turns.specs.Inner.Answers.{Begins};
 
 pub mod lent; // text put into a lent buffer
 pub mod turns; // one turn

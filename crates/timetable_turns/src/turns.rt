@@ -27,9 +27,9 @@ ghost use Rattle.wire.specs.Puts.{Puts};
 ghost use Rattle.plan.specs.Plan.{nodesOf};
 ghost use Rattle.run_path.specs.Path.{entriesFrom};
 ghost use Rattle.timetable_lines.specs.Lines.{rows};
-ghost use Rattle.timetable_turns.specs.Turn.{closes, turnOf, Open};
-ghost use Rattle.timetable_turns.specs.Answers.{Drafts, Turns, Turnable, Steppable};
-ghost use Rattle.timetable_turns.specs.Stepped.{closing, stepped, closedAt};
+ghost use Rattle.timetable_turns.specs.Inner.Turn.{closes, turnOf, Open};
+ghost use Rattle.timetable_turns.specs.Inner.Answers.{Drafts, Turns, Turnable, Steppable};
+ghost use Rattle.timetable_turns.specs.Inner.Stepped.{closing, stepped, closedAt};
 
 fn wide(x: u8) -> usize
     ensures { λ r. ⌜ r ≡ x ⌝ }

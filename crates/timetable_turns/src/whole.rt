@@ -15,11 +15,11 @@ ghost use mathlib.Core.Bool.{cond};
 ghost use Prim.Native.Nat.{_+_, _*_, _≤_, _<_};
 ghost use lib.ListN.{length, drop, getD, take};
 ghost use Rattle.wire.specs.Puts.{Puts};
-ghost use Rattle.timetable_lines.specs.Laws.{Remains};
-ghost use Rattle.timetable_turns.specs.Turn.{headOf, mostTurns};
+ghost use Rattle.timetable_lines.specs.Laws.Lines.{Remains};
+ghost use Rattle.timetable_turns.specs.Inner.Turn.{headOf, mostTurns};
 ghost use Rattle.timetable_turns.specs.Timetable.{timetableOf, textOfPlan};
 ghost use Rattle.timetable_turns.specs.Lent.{Lends};
-ghost use Rattle.timetable_turns.specs.Whole.{leftText, Standing};
+ghost use Rattle.timetable_turns.specs.Inner.Whole.{leftText, Standing};
 
 // The byte at an offset, if there is one.
 fn heard_at(input: &[u8], at: usize) -> Heard

@@ -6,7 +6,7 @@ use Prim.Native.Nat.{_≤_, _-_, _+_, _*_}
 use mathlib.Core.Path.{_≡_, refl, ap, _∙_}
 use native.Mathlib.Omega.{arith}
 use lib.ListN.{getD, set}
-use Rattle.activity.specs.Copied.{filled, copied}
+use Rattle.activity.specs.Inner.Copied.{filled, copied}
 use Rattle.activity.proofs.Copying.{filled-more}
 use borrow.Author.Needs.{needs}
 use Rattle.activity.proofs.activity_of.Statement.{statement}

@@ -5,9 +5,9 @@ use denote.Ref.{now}
 use lib.ListN.{getD}
 use Rattle.plan.specs.Plan.{nodesOf}
 use Rattle.activity.specs.Rules.{Is}
-use Rattle.activity.specs.Closure.{Closure}
-use Rattle.activity.specs.Order.{Lowest}
-use Rattle.activity.specs.Sight.{Seen}
+use Rattle.activity.specs.Inner.Sight.{Seen}
+use Rattle.activity.specs.Inner.Closure.{Closure}
+use Rattle.activity.specs.Inner.Order.{Lowest}
 use Rattle.activity.proofs.Judging.{Asked, no-nodes, node-more, all-nodes}
 use Rattle.activity.proofs.Places.{count-of, kind-of}
 use borrow.Author.Needs.{needs}

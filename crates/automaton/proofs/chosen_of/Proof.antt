@@ -7,7 +7,8 @@ use Rattle.basis.specs.Parts.{part}
 use Rattle.plan.specs.declared.Transition.{Transition}
 use Rattle.plan.specs.Plan.{pastMove}
 use Rattle.automaton.specs.Next.{chosenFrom, chosenOf}
-use Rattle.automaton.specs.Scan.{rest, rest-all, chosen-here, chosen-other, chosen-past, chosen-none}
+use Rattle.automaton.specs.Inner.Scan.{rest}
+use Rattle.automaton.specs.Laws.Scan.{rest-all, chosen-here, chosen-other, chosen-past, chosen-none}
 use borrow.Author.Needs.{needs}
 use Rattle.automaton.proofs.chosen_of.Statement.{statement}
 use Rattle.automaton.proofs.chosen_of.Tie as tie

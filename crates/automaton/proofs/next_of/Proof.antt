@@ -7,7 +7,8 @@ use Rattle.basis.specs.Parts.{part}
 use Rattle.plan.specs.declared.Transition.{Transition}
 use Rattle.plan.specs.Plan.{pastMove}
 use Rattle.automaton.specs.Next.{nextFrom, nextOf}
-use Rattle.automaton.specs.Scan.{rest, rest-all, next-here, next-past, next-none}
+use Rattle.automaton.specs.Inner.Scan.{rest}
+use Rattle.automaton.specs.Laws.Scan.{rest-all, next-here, next-past, next-none}
 use borrow.Author.Needs.{needs}
 use Rattle.automaton.proofs.next_of.Statement.{statement}
 use Rattle.automaton.proofs.next_of.Tie as tie

@@ -1,7 +1,7 @@
 -- `keeps` looks at all transitions of reached states.
-use Rattle.automaton_counts.specs.Emits.{gives}
-use Rattle.automaton.specs.Counts.{Kept}
+use Rattle.automaton_counts.specs.Inner.Emits.{gives}
 use Rattle.automaton.specs.Tests.{true-false, flag}
+use Rattle.automaton.specs.Inner.Counts.{Kept}
 use Rattle.automaton_counts.proofs.Tools.{moved, move-ok, sure, fails}
 use Rattle.plan.specs.Plan.{move}
 use borrow.Author.Count.{below-more}

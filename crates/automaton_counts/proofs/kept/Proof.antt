@@ -1,9 +1,9 @@
 -- `kept` looks at all events.
-use Rattle.automaton.specs.Counts.{Fitting}
 use Rattle.automaton.specs.Tests.{at}
+use Rattle.automaton.specs.Inner.Counts.{Fitting}
 use Rattle.automaton_counts.proofs.Tools.{sure, fails}
-use Rattle.automaton_counts.specs.Emits.{gives-few}
-use Rattle.automaton_counts.specs.Emits.{gives}
+use Rattle.automaton_counts.specs.Laws.Emits.{gives-few}
+use Rattle.automaton_counts.specs.Inner.Emits.{gives}
 use borrow.Author.Count.{below-more}
 use Prim.Native.Nat.{ℕ, _+_, _*_, _-_, _≤_, _<_}
 use mathlib.Core.Path.{ap}

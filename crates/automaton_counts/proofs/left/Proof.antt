@@ -7,7 +7,7 @@ use borrow.Author.Count.{below-more}
 use borrow.Author.Tests.{not-true, not-false}
 use Rattle.basis.specs.Inner.Tells.{holds, fails}
 use Rattle.automaton.specs.Tests.{at, flag, true-false}
-use Rattle.automaton_counts.specs.Emits.{finalBit}
+use Rattle.automaton_counts.specs.Inner.Emits.{finalBit}
 use Rattle.automaton_counts.proofs.Tools.{left-at, no-left, final-same}
 use borrow.Author.Needs.{needs}
 use Rattle.automaton_counts.proofs.left.Statement.{statement}

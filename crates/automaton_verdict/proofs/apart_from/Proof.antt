@@ -3,8 +3,8 @@ use mathlib.Core.Path.{_≡_, sym, ap, _∙_}
 use Prim.Native.Nat.{ℕ, _-_, _≤_}
 use native.Mathlib.Omega.{arith}
 use borrow.Author.Tests.{not-true, not-false}
-use Rattle.automaton.specs.Scan.{rest}
 use Rattle.automaton.specs.Number.{apartFrom}
+use Rattle.automaton.specs.Inner.Scan.{rest}
 use Rattle.automaton_verdict.proofs.Tools.{apart-scans, scan-other, scan-good, scan-bad, scan-done}
 use borrow.Author.Needs.{needs}
 use Rattle.automaton_verdict.proofs.apart_from.Statement.{statement}

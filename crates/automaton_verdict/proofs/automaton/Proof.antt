@@ -4,7 +4,7 @@ use mathlib.Core.Path.{sym, ap, _∙_}
 use Rattle.plan.specs.declared.Verdict.{Verdict}
 use Rattle.automaton.specs.Tests.{at}
 use Rattle.automaton.specs.Number.{wayVerdict}
-use Rattle.automaton_counts.specs.Emits.{gives}
+use Rattle.automaton_counts.specs.Inner.Emits.{gives}
 use Rattle.automaton_verdict.proofs.Tools.{andThen, state-then}
 use borrow.Author.Needs.{needs}
 use Rattle.automaton_verdict.proofs.automaton.Statement.{statement}

@@ -8,8 +8,9 @@ use lib.ListN.{getD}
 use Rattle.basis.specs.Parts.{part}
 use Rattle.plan.specs.declared.Transition.{Transition}
 use Rattle.plan.specs.Plan.{pastMove}
-use Rattle.automaton.specs.Scan.{rest, rest-all}
 use Rattle.automaton.specs.Number.{apartFrom, branchesIn, branches}
+use Rattle.automaton.specs.Inner.Scan.{rest}
+use Rattle.automaton.specs.Laws.Scan.{rest-all}
 use Rattle.automaton_verdict.proofs.Tools.{branches-scans, scan-other, scan-good, scan-bad, scan-done}
 use borrow.Author.Needs.{needs}
 use Rattle.automaton_verdict.proofs.branches.Statement.{statement}

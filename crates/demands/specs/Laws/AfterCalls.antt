@@ -15,12 +15,12 @@ use Rattle.run_checks.specs.declared.Refusal.{Refusal}
 use Rattle.run.specs.Calls.{callOf, readingOf}
 use Rattle.demands_log.specs.Log.{Log, said, reading, StoppedIn, StoppedBy}
 use Rattle.demands_log.specs.Drive.{drive}
-use Rattle.demands_log.specs.Latest.{Right, reading-last}
+use Rattle.demands_log.specs.Laws.Latest.{Right, reading-last}
 use Rattle.demands_theory.specs.Laws.Replies.{same-stop}
 use Rattle.demands.specs.InLimits.{RunInLimits}
-use Rattle.demands.specs.InLimitsIff.{in-limits}
-use Rattle.demands.specs.InLimitsKept.{limits-kept}
-use Rattle.demands.specs.Unchanged.{refused-unchanged, stop-kept}
+use Rattle.demands.specs.Laws.InLimitsIff.{in-limits}
+use Rattle.demands.specs.Laws.InLimitsKept.{limits-kept}
+use Rattle.demands.specs.Laws.Unchanged.{refused-unchanged, stop-kept}
 use Rattle.demands.specs.ByLog.{lastReading}
 
 pub record After (log : Log) (run : Run) : Type 0 where

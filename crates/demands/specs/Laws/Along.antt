@@ -7,8 +7,9 @@ use Prim.Native.Nat.{ℕ, zero, suc, _+_, _≤_, _<_}
 use native.Mathlib.Omega.{arith}
 use lib.ListN.{length, getD}
 use lib.Seq.{ext-getD}
-use Rattle.basis.specs.Parts.{part, length-part, getD-part}
+use Rattle.basis.specs.Parts.{part}
 use Rattle.basis.specs.Inner.Tells.{Tells}
+use Rattle.basis.specs.Laws.PartsHold.{length-part, getD-part}
 use Rattle.time.specs.Time.{horizon}
 use Rattle.time.specs.declared.Specified.{Specified}
 use Rattle.plan.specs.Plan.{pastNode, move, emittedBy, resourceOf}
@@ -25,9 +26,9 @@ use Rattle.times_combined.specs.Word.{size}
 use Rattle.times_combined.specs.Combined.{Ident, identity, NotClaim, NotRelease, Is, Nodes, Joined}
 use Rattle.times_combined.specs.Times.{Timing}
 use Rattle.times_combined.specs.Paths.{wordOf, Follows, Lawful}
-use Rattle.times_combined.specs.Accepted.{GoodWord}
+use Rattle.times_combined.specs.Laws.Accepted.{GoodWord}
 use Rattle.times_combined.specs.Laws.Plans.{good-path}
-use Rattle.times_equal.specs.Words.{Opening, traceBy}
+use Rattle.times_equal.specs.Laws.Words.{Opening, traceBy}
 use Rattle.times_equal.specs.Plans.{progressAfter, scheduleAt}
 use Rattle.times_equal.specs.Laws.Plans.{AtMostEight, First, whole, later, times-at, stored-at as kept-at, plan-equal, plan-run, plan-times, plan-free, progressAt}
 use Rattle.run_opening.specs.Given.{atFirst}

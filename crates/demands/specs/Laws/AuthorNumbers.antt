@@ -7,7 +7,7 @@ use Rattle.plan.specs.declared.Fault.{Fault}
 use Rattle.plan.specs.declared.Verdict.{Verdict}
 use Rattle.demands.specs.Accepted.{Bytes}
 use Rattle.demands.specs.Verdicts.{Judged, RefusedAs}
-use Rattle.demands.specs.VerdictsHold.{verdict}
+use Rattle.demands.specs.Laws.VerdictsHold.{verdict}
 use Rattle.demands.specs.AuthorNumbers.{RefusedFor, StatementAuthorNumbers}
 
 module _ (b : List ℕ) (place : ℕ) where

@@ -13,7 +13,7 @@ use Rattle.plan.specs.declared.Plan.{Plan}
 use Rattle.times_combined.specs.Combined.{Ident, Is}
 use Rattle.times_combined.specs.Paths.{Follows, Lawful}
 use Rattle.run_window.specs.Window.{isHeld, isFree, startsBefore}
-use Rattle.run_window.specs.Tests.{free-or-held, unfree-held}
+use Rattle.run_window.specs.Laws.Tests.{free-or-held, unfree-held}
 use Rattle.run_window.specs.declared.Phase.{Phase}
 use Rattle.run.specs.declared.Run.{Run}
 use Rattle.run_checks.specs.declared.Halt.{Halt}

@@ -11,8 +11,8 @@ use Rattle.times_combined.specs.Combined.{Ident, Is}
 use Rattle.times_combined.specs.Paths.{Follows, Lawful}
 use Rattle.times_combined.specs.Laws.Plans.{good-path}
 use Rattle.run_window.specs.Window.{before, startsBefore, isHeld, isStarted}
-use Rattle.run_window.specs.Tests.{started-true}
-use Rattle.run_window.specs.Order.{AtMost, earlier, position, node, not-before, at-most-not, at-most-both}
+use Rattle.run_window.specs.Laws.Tests.{started-true}
+use Rattle.run_window.specs.Laws.Order.{AtMost, earlier, position, node, not-before, at-most-not, at-most-both}
 use Rattle.run_window.specs.declared.Entry.{Entry}
 use Rattle.run_window.specs.declared.Phase.{Phase}
 use Rattle.run.specs.declared.Run.{Run}

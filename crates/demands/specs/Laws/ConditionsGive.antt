@@ -10,7 +10,7 @@ use Rattle.plan.specs.declared.Kind.{Kind}
 use Rattle.run_window.specs.declared.Entry.{Entry}
 use Rattle.run_window.specs.declared.Phase.{Phase}
 use Rattle.run_window.specs.Window.{isFree, isOverdue, isLate, isDue, isNode, startsBefore, endsBefore}
-use Rattle.run_window.specs.Order.{starts-order, ends-order}
+use Rattle.run_window.specs.Laws.Order.{starts-order, ends-order}
 use Rattle.run_checks.specs.Order.{timelyBy}
 use Rattle.run.specs.declared.Run.{Run}
 use Rattle.run_checks.specs.declared.Halt.{Halt}
@@ -24,7 +24,7 @@ use Rattle.run_outcomes.specs.Told.{toldOf}
 use Rattle.run.specs.Calls.{answer, refuse, stops, readingOf, isDone, asked, kindOf, reported, completedBy, completed, cleared, afterLoading, learnt, learnsBy, learns, timely, called, askOf, completionOf, outcomeOf, callOf}
 use Rattle.demands.specs.Conditions.{entryAt, OverdueAt, LateAt, DueAt, NodeAt, NamedAt, IsReport, RightKind, IsAction, IsEvent, Nowhere, FirstOf, Going, Rises, NotOverdue, Timely, Reports, Learns, loadingAfter, Ended, Refuses, Halts, Asks, Takes, Condition}
 use Rattle.demands.specs.InLimits.{RunInLimits}
-use Rattle.demands.specs.InLimitsIff.{tells-run, in-limits}
+use Rattle.demands.specs.Laws.InLimitsIff.{tells-run, in-limits}
 use Rattle.demands.specs.Laws.FirstPlaces.{first-place, none-place, overdue-places, late-places, due-places, node-places}
 use Rattle.demands.specs.Laws.ConditionsMet.{done-ended, ended-done}
 

@@ -12,9 +12,9 @@ use Rattle.plan.specs.declared.Kind.{Kind}
 use Rattle.run_window.specs.declared.Entry.{Entry}
 use Rattle.run_window.specs.declared.Phase.{Phase}
 use Rattle.run_window.specs.Window.{isHeld, isStarted, isOverdue, isLate, isDue, isNode, startsBefore, endsBefore, isEmpty}
-use Rattle.run_window.specs.Tests.{started-true}
-use Rattle.run_window.specs.Order.{starts-order, ends-order}
-use Rattle.run_window.specs.Places.{empty-none, none-empty}
+use Rattle.run_window.specs.Laws.Tests.{started-true}
+use Rattle.run_window.specs.Laws.Order.{starts-order, ends-order}
+use Rattle.run_window.specs.Laws.Places.{empty-none, none-empty}
 use Rattle.run_checks.specs.Order.{timelyBy}
 use Rattle.run.specs.declared.Run.{Run}
 use Rattle.run.specs.declared.Call.{Call}
@@ -23,8 +23,8 @@ use Rattle.run.specs.declared.Answer.{Answer}
 use Rattle.run_checks.specs.declared.Refusal.{Refusal}
 use Rattle.run_loading.specs.declared.Failure.{Failure}
 use Rattle.run.specs.Limits.{runInLimits}
-use Rattle.demands_log.specs.ByCases.{by-halt}
-use Rattle.demands.specs.InLimitsIff.{tells-run, in-limits}
+use Rattle.demands_log.specs.Laws.ByCases.{by-halt}
+use Rattle.demands.specs.Laws.InLimitsIff.{tells-run, in-limits}
 use Rattle.run.specs.Calls.{refuse, readingOf, isDone, asked, kindOf, completedBy, completed, afterLoading, learnsBy, learns, timely, called, askOf, completionOf, outcomeOf, callOf}
 use Rattle.demands.specs.Conditions.{entryAt, OverdueAt, LateAt, DueAt, NodeAt, Going, Rises, NotOverdue, Timely, Reports, Learns, loadingAfter, Ended, Refuses, Halts, Asks, Takes, Condition}
 use Rattle.demands.specs.Laws.FirstPlaces.{by-place, overdue-places, late-places, due-places, node-places}

@@ -22,14 +22,14 @@ use Rattle.run_opening.specs.Given.{atFirst, availabilities}
 use Rattle.judge.specs.Judge.{judgeOf}
 use Rattle.demands_theory.specs.Loading.{FirstBeyond, FirstMany}
 use Rattle.demands_theory.specs.Laws.Next.{lawful}
-use Rattle.demands_run.specs.Stands.{Accepted}
+use Rattle.demands_run.specs.Laws.Stands.{Accepted}
 use Rattle.demands_run.specs.Laws.Opening.{Judged, tells-first, tells-many}
 use Rattle.demands_run.specs.Laws.EngineHolds.{engine-laws}
 use Rattle.demands_run.specs.Laws.AcceptedHolds.{accepted-laws}
 use Rattle.demands.specs.Accepted.{Bytes}
 use Rattle.demands.specs.Openings.{TimeAbove, planOf, Lasting}
 use Rattle.demands.specs.Laws.OpeningTests.{tells-slack, is-true, outside}
-use Rattle.demands.specs.VerdictsHold.{verdict}
+use Rattle.demands.specs.Laws.VerdictsHold.{verdict}
 
 -- where the behaviour stands at its opening, and the first path from there
 abbrev pub atOpening : Plan → List ℕ → Progress

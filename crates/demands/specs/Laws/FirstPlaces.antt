@@ -9,9 +9,9 @@ use Rattle.time.specs.declared.Clock.{Clock}
 use Rattle.run_window.specs.declared.Entry.{Entry}
 use Rattle.run_window.specs.declared.Found.{Found}
 use Rattle.run_window.specs.Window.{vacant, better, first, onFound, isOverdue, isLate, isDue, isNode}
-use Rattle.run_window.specs.Tests.{overdue-tells, late-tells, due-tells, node-tells}
-use Rattle.run_window.specs.Order.{Order}
-use Rattle.run_window.specs.Firsts.{first-found, first-nothing, nothing-first}
+use Rattle.run_window.specs.Laws.Tests.{overdue-tells, late-tells, due-tells, node-tells}
+use Rattle.run_window.specs.Laws.Order.{Order}
+use Rattle.run_window.specs.Laws.Firsts.{first-found, first-nothing, nothing-first}
 use Rattle.run.specs.declared.Run.{Run}
 use Rattle.demands.specs.Conditions.{entryAt, OverdueAt, LateAt, DueAt, NodeAt, Nowhere, FirstOf}
 

@@ -9,8 +9,8 @@ use Rattle.plan.specs.declared.Automaton.{Automaton}
 use Rattle.plan.specs.declared.Plan.{Plan}
 use Rattle.automaton.specs.Rules.{Leaves, MeetsAutomaton}
 use Rattle.automaton.specs.Next.{nextOf, chosenOf}
-use Rattle.automaton.specs.States.{NextIs, ended, goes, waits, next-is}
-use Rattle.automaton.specs.Later.{processes-waits, waits-chosen}
+use Rattle.automaton.specs.Laws.States.{NextIs, ended, goes, waits, next-is}
+use Rattle.automaton.specs.Laws.Later.{processes-waits, waits-chosen}
 use Rattle.automaton.specs.declared.Next.{Next}
 use Rattle.automaton.specs.declared.Chosen.{Chosen}
 use Rattle.automaton.specs.Laws.Cases.{unlike}

@@ -20,7 +20,7 @@ use Rattle.run.specs.declared.Run.{Run}
 use Rattle.run_loading.specs.declared.Failure.{Failure}
 use Rattle.run.specs.Loading.{Loading}
 use Rattle.run_outcomes.specs.Way.{wayOn}
-use Rattle.demands_log.specs.ByCases.{by-way}
+use Rattle.demands_log.specs.Laws.ByCases.{by-way}
 use Rattle.demands_run.specs.Laws.Crosses.{Crosses, tells-crosses}
 use Rattle.demands.specs.Laws.OpeningTests.{is-true}
 use Rattle.plan.specs.declared.Plan.{Plan}

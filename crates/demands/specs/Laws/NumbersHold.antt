@@ -13,10 +13,10 @@ use Rattle.run.specs.declared.Unopened.{Unopened}
 use Rattle.run.specs.Numbers.{refusalNumber, stopNumber, openNumber, openPlace}
 use Rattle.demands.specs.Accepted.{Bytes}
 use Rattle.demands.specs.Conditions.{Refuses, Halts}
-use Rattle.demands.specs.ConditionsHold.{replies, refusals}
+use Rattle.demands.specs.Laws.ConditionsHold.{replies, refusals}
 use Rattle.demands.specs.Openings as Openings
 use Rattle.demands.specs.Openings.{OpensBy}
-use Rattle.demands.specs.OpeningsHold.{opening-by}
+use Rattle.demands.specs.Laws.OpeningsHold.{opening-by}
 use Rattle.demands.specs.Numbers.{RefusedFor, RefusedWith, StoppedFor, StoppedWith, StatementRefusalNumbers, StatementStopNumbers, UnopenedFor, StatementUnopenedNumbers}
 
 module _ (run : Run) (c : Call) where

@@ -3,7 +3,7 @@ use mathlib.Core.Path.{_≡_, refl, sym, _∙_, ap, subst}
 use Prim.Native.Nat.{ℕ, _*_, _<_}
 use native.Mathlib.Omega.{arith}
 use lib.ListN.{length, getD}
-use Rattle.basis.specs.Parts.{length-part, getD-part}
+use Rattle.basis.specs.Laws.PartsHold.{length-part, getD-part}
 use Rattle.plan.specs.Plan.{pastNode, pastMove, sizeOf, resourceOf, outcomesOf, activityOf, move}
 use Rattle.plan.specs.Limits.{nodeAt, KindNames, InputNames, OutputNames, InLimits}
 use Rattle.plan.specs.declared.Fault.{Fault}

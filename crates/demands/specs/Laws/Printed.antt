@@ -18,8 +18,8 @@ use Rattle.plan.specs.declared.Automaton.{Automaton}
 use Rattle.plan.specs.declared.Plan.{Plan}
 use Rattle.automaton.specs.Rules.{Leaves, Processes, MeetsAutomaton}
 use Rattle.automaton.specs.Next.{nextOf, chosenOf}
-use Rattle.automaton.specs.States.{NextIs, ended, goes, waits, next-is}
-use Rattle.automaton.specs.Later.{final-ends, ended-final, processes-waits, waits-chosen}
+use Rattle.automaton.specs.Laws.States.{NextIs, ended, goes, waits, next-is}
+use Rattle.automaton.specs.Laws.Later.{final-ends, ended-final, processes-waits, waits-chosen}
 use Rattle.automaton.specs.declared.Next.{Next}
 use Rattle.times.specs.Times.{specified}
 use Rattle.times.specs.Engine.{takenBy}
@@ -28,7 +28,7 @@ use Rattle.times_combined.specs.Word.{size}
 use Rattle.times_combined.specs.Combined.{Ident}
 use Rattle.times_combined.specs.Times.{Timing}
 use Rattle.times_combined.specs.Paths.{wordOf, Lawful}
-use Rattle.times_equal.specs.Words.{Opening}
+use Rattle.times_equal.specs.Laws.Words.{Opening}
 use Rattle.times_equal.specs.Plans.{progressAfter}
 use Rattle.times_equal.specs.Laws.Plans.{AtMostEight}
 use Rattle.run_opening.specs.Given.{atFirst}
@@ -43,7 +43,7 @@ use Rattle.demands_run.specs.Laws.Taken.{size-is}
 use Rattle.timetable_turns.specs.Timetable.{Move, Takes, moveBy, tableFrom, positions}
 use Rattle.timetable_turns.specs.Timetable as T
 use Rattle.demands.specs.Laws.OpeningTests.{is-true}
-use Rattle.demands.specs.TimesEqual.{none-at}
+use Rattle.demands.specs.Laws.TimesEqual.{none-at}
 use Rattle.demands.specs.Timetables.{Steps, Walk, Closes}
 use Rattle.demands.specs.Laws.Leaving.{goes-next, chosen-is}
 use Rattle.demands.specs.Laws.Along as Along

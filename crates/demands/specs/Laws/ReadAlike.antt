@@ -8,12 +8,12 @@ use Rattle.plan.specs.declared.Node.{Node}
 use Rattle.plan.specs.declared.Automaton.{Automaton}
 use Rattle.plan.specs.declared.Plan.{Plan}
 use Rattle.format.specs.Format.{part-of, each, Holds, result}
-use Rattle.format.specs.Alike.{Same, same-read, same-result, then-same, part-same, all-same, read-same}
+use Rattle.format.specs.Laws.Alike.{Same, same-read, same-result, then-same, part-same, all-same, read-same}
 use Rattle.plan_file.specs.PlanFile.{faultOrder, nodeMap, sectionMap, rising, duration, arrowCount, node, nodeOf, activity, moveOf, transition, automaton, resourceCount, peripheralCount, itsResource, eventCount, itsOutcomes, activityCount, planFile}
-use Rattle.plan_file.specs.Stages.{nodeLast, counted, timed, kinded, end, last, lastly, acting, outcoming, eventing, belonging, having, resourced}
-use Rattle.plan_file.specs.Known.{self, nothing}
-use Rattle.plan_file.specs.KnownPlan.{plan-knows}
-use Rattle.plan_file.specs.Reads.{rising-read, kindPart, kind-read, duration-read, count-read, move-read, bs, os, r0, r1, r2, r3, rb, ro}
+use Rattle.plan_file.specs.Laws.Stages.{nodeLast, counted, timed, kinded, end, last, lastly, acting, outcoming, eventing, belonging, having, resourced}
+use Rattle.plan_file.specs.Laws.Known.{self, nothing}
+use Rattle.plan_file.specs.Laws.KnownPlan.{plan-knows}
+use Rattle.plan_file.specs.Laws.Reads.{rising-read, kindPart, kind-read, duration-read, count-read, move-read, bs, os, r0, r1, r2, r3, rb, ro}
 use Rattle.demands.specs.Alike.{SameNode, SamePlan}
 
 same-node : (X R E size : ℕ) (n u : Node) → Same (node X R E size) n u → SameNode n u

@@ -15,16 +15,16 @@ use Rattle.plan.specs.declared.Plan.{Plan}
 use Rattle.times.specs.Engine.{lastPosition}
 use Rattle.times.specs.declared.Progress.{Progress}
 use Rattle.run_window.specs.Window.{vacant, isHeld}
-use Rattle.run_window.specs.Tests.{held-unfree}
+use Rattle.run_window.specs.Laws.Tests.{held-unfree}
 use Rattle.run_window.specs.declared.Entry.{Entry}
 use Rattle.run_limits.specs.Window.{entryInLimits, windowInLimits}
-use Rattle.plan_limits.specs.Plans.{tells-in-limits}
+use Rattle.plan_limits.specs.Laws.Plans.{tells-in-limits}
 use Rattle.run_limits.specs.Laws.Stored.{tells-progress}
 use Rattle.run.specs.Limits.{runInLimits, haltInLimits, stopInLimits}
 use Rattle.run_checks.specs.declared.Halt.{Halt}
 use Rattle.run_checks.specs.declared.Stop.{Stop}
-use Rattle.demands_run.specs.Engine.{Within}
-use Rattle.demands_run.specs.Stands.{Accepted}
+use Rattle.demands_run.specs.Laws.Engine.{Within}
+use Rattle.demands_run.specs.Laws.Stands.{Accepted}
 
 -- ---- the window
 

@@ -7,8 +7,8 @@ use borrow.Author.Tests.{eqb-true}
 use native.Mathlib.Omega.{arith}
 use lib.Dec.{eqb}
 use lib.ListN.{length, length-append, length-map}
-use Rattle.basis.specs.Parts.{length-part}
 use Rattle.basis.specs.Laws.Lists.{fewer}
+use Rattle.basis.specs.Laws.PartsHold.{length-part}
 use Rattle.plan.specs.Plan.{move, emittedBy, resourceOf}
 use Rattle.plan.specs.declared.Input.{Input}
 use Rattle.plan.specs.declared.Plan.{Plan}
@@ -26,8 +26,8 @@ use Rattle.demands_log.specs.Log.{Log}
 use Rattle.demands_theory.specs.TheWord.{stateAfter, wholeOf, Takes}
 use Rattle.demands_theory.specs.Laws.TheWord.{takes-follows}
 use Rattle.demands_theory.specs.Laws.Next.{few-pending}
-use Rattle.demands_run.specs.Engine.{rest, remaining, Pending, Possible}
-use Rattle.demands_run.specs.Stands.{identOf, Stands}
+use Rattle.demands_run.specs.Laws.Engine.{rest, remaining, Pending, Possible}
+use Rattle.demands_run.specs.Laws.Stands.{identOf, Stands}
 
 -- ---- the queues
 

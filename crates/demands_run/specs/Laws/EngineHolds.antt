@@ -9,8 +9,9 @@ use native.Mathlib.Decide.{ℕ-discrete}
 use borrow.Author.Tests.{lt-ltb, eq-eqb, ne-eqb}
 use lib.Dec.{eqb}
 use lib.ListN.{length, getD}
-use Rattle.basis.specs.Parts.{part, length-part}
+use Rattle.basis.specs.Parts.{part}
 use Rattle.basis.specs.Laws.Parts.{part-same}
+use Rattle.basis.specs.Laws.PartsHold.{length-part}
 use Rattle.plan.specs.Plan.{pastNode, nodesOf, sizeOf, activityOf, resourceOf, emittedBy, move}
 use Rattle.plan.specs.Limits.{KindNames, InputNames, OutputNames, NodeInLimits, InLimits}
 use Rattle.plan.specs.declared.Kind.{Kind}
@@ -21,9 +22,9 @@ use Rattle.plan.specs.declared.Output.{Output}
 use Rattle.plan.specs.declared.Plan.{Plan}
 use Rattle.activity.specs.Rules.{node, Is}
 use Rattle.automaton.specs.Rules.{MeetsAutomaton}
-use Rattle.automaton.specs.Later.{Goes, stay, go, waits-chosen}
-use Rattle.automaton.specs.Halts.{goes-few}
-use Rattle.times_combined.specs.Accepted.{Good}
+use Rattle.automaton.specs.Laws.Later.{Goes, stay, go, waits-chosen}
+use Rattle.automaton.specs.Laws.Halts.{goes-few}
+use Rattle.times_combined.specs.Laws.Accepted.{Good}
 use Rattle.times_combined.specs.Paths.{Lawful}
 use Rattle.times_combined.specs.Laws.TimesEqual.{good-empty}
 use Rattle.times_combined.specs.Laws.Plans.{good-activity, node-is}
@@ -35,12 +36,12 @@ use Rattle.times.specs.Laws.Places.{shifted-inside, shifted-outside}
 use Rattle.times.specs.Laws.Kept.{kept}
 use Rattle.times.specs.declared.Instance.{Instance}
 use Rattle.times.specs.declared.Progress.{Progress}
-use Rattle.times_equal.specs.Seen.{Whole, Ready, emitted}
-use Rattle.times_equal.specs.Seen as Seen
-use Rattle.times_equal.specs.Steps.{steps, queue-grows, whole-after}
+use Rattle.times_equal.specs.Laws.Seen.{Whole, Ready, emitted}
+use Rattle.times_equal.specs.Laws.Seen as Seen
+use Rattle.times_equal.specs.Laws.Steps.{steps, queue-grows, whole-after}
 use Rattle.times_equal.specs.Laws.Queue.{apart, gone-length}
 use Rattle.run_path.specs.Path.{takenBy}
-use Rattle.demands_run.specs.Engine.{Sized, Within, rest, remaining, Pending, Possible, Advances, Settles, EngineLaws}
+use Rattle.demands_run.specs.Laws.Engine.{Sized, Within, rest, remaining, Pending, Possible, Advances, Settles, EngineLaws}
 
 -- ---- the queues after an instance is processed
 

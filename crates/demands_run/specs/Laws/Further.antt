@@ -34,14 +34,14 @@ use Rattle.run_checks.specs.declared.Halt.{Halt}
 use Rattle.run_loading.specs.declared.Failure.{Failure}
 use Rattle.run.specs.Loading.{Loading}
 use Rattle.demands_log.specs.Log.{Id, Log, Reported, Told}
-use Rattle.demands_log.specs.ByCases.{by-way}
-use Rattle.demands_theory.specs.Machine.{Held}
+use Rattle.demands_log.specs.Laws.ByCases.{by-way}
+use Rattle.demands_theory.specs.Laws.Machine.{Held}
 use Rattle.demands_theory.specs.Nodes.{Work, lengthOf, idOf}
 use Rattle.demands_theory.specs.TheWord.{wholeOf}
 use Rattle.demands_theory.specs.Loading.{NextPath, PathBeyond, Unreported, EndsAt, whole, beyond, full, Loads, ends}
 use Rattle.demands_theory.specs.Laws.Growth.{Tail}
-use Rattle.demands_run.specs.Engine.{rest, remaining, Settles, EngineLaws}
-use Rattle.demands_run.specs.Stands.{Stands}
+use Rattle.demands_run.specs.Laws.Engine.{rest, remaining, Settles, EngineLaws}
+use Rattle.demands_run.specs.Laws.Stands.{Stands}
 use Rattle.demands_run.specs.Laws.Silent.{one-rest}
 use Rattle.demands_run.specs.Laws.Loaded.{Loaded, tail-length}
 use Rattle.demands_run.specs.Laws.Paths.{tolds, Rests, tail-on, Arrives, first-of, path-on}

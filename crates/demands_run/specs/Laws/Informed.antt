@@ -36,7 +36,7 @@ use Rattle.demands_log.specs.Log.{Id, id, Log, said, Accepts}
 use Rattle.demands_theory.specs.Nodes.{whose, lengthOf}
 use Rattle.demands_theory.specs.TheWord.{stateAfter, wholeOf}
 use Rattle.demands_theory.specs.Laws.TheWord.{takes-follows}
-use Rattle.demands_run.specs.Stands.{identOf, idOf, ToldAs, Queued, Stands}
+use Rattle.demands_run.specs.Laws.Stands.{identOf, idOf, ToldAs, Queued, Stands}
 use Rattle.demands_run.specs.Laws.Later.{takes-more, told-later}
 use Rattle.demands_run.specs.Laws.Counts.{pending-few}
 use Rattle.demands_run.specs.Laws.Telling.{instance-tells, instance-is, informed, told-length, told-cases, told-outside, told-part}

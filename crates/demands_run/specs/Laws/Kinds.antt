@@ -3,7 +3,7 @@ use mathlib.Core.Path.{_≡_, sym, ap, _∙_, subst}
 use mathlib.Core.List.{List, _∷_}
 use Prim.Native.Nat.{ℕ, suc, _*_}
 use native.Mathlib.Omega.{arith}
-use Rattle.basis.specs.Parts.{length-part, getD-part}
+use Rattle.basis.specs.Laws.PartsHold.{length-part, getD-part}
 use Rattle.plan.specs.Plan.{pastNode, move, emittedBy, activityOf, sizeOf, resourceOf}
 use Rattle.plan.specs.Limits.{nodeAt}
 use Rattle.plan.specs.declared.Kind.{Kind}
@@ -11,7 +11,7 @@ use Rattle.plan.specs.declared.Node.{Node}
 use Rattle.plan.specs.declared.Output.{Output}
 use Rattle.plan.specs.declared.Plan.{Plan}
 use Rattle.times_combined.specs.Word.{size}
-use Rattle.times_combined.specs.Accepted.{GoodWord}
+use Rattle.times_combined.specs.Laws.Accepted.{GoodWord}
 use Rattle.times_combined.specs.Combined.{Joined, Nodes, identity}
 use Rattle.times_combined.specs.Paths.{wordOf}
 use Rattle.times_combined.specs.Laws.Shape.{node-place, sort}

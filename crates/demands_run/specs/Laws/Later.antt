@@ -13,7 +13,7 @@ use Rattle.demands_log.specs.Log.{Id, Log, Said, said, Accepts, Tells, Reports}
 use Rattle.demands_log.specs.Log as Log
 use Rattle.demands_theory.specs.TheWord.{Takes, none, goes, hears, Stuck, ended, waits}
 use Rattle.demands_theory.specs.Loading.{Onward, PathBeyond, PathFull}
-use Rattle.demands_run.specs.Stands.{idOf, ToldAs, Queued, Stands}
+use Rattle.demands_run.specs.Laws.Stands.{idOf, ToldAs, Queued, Stands}
 
 -- what a longer log tells it takes
 pub takes-more : (p : Plan) (log : Log) (y : Said) (is : List ℕ) → Takes p log is → Takes p (y ∷ log) is

@@ -24,8 +24,9 @@ use Rattle.times.specs.declared.Told.{Told}
 use Rattle.times.specs.declared.Instance.{Instance}
 use Rattle.times.specs.declared.Progress.{Progress}
 use Rattle.run_window.specs.Window.{vacant, isStarted}
-use Rattle.run_window.specs.Places.{Holds, stored-kept, stored-each, cleared-only, cleared-once}
+use Rattle.run_window.specs.Places.{Holds}
 use Rattle.run_window.specs.declared.Entry.{Entry}
+use Rattle.run_window.specs.Laws.Places.{stored-kept, stored-each, cleared-only, cleared-once}
 use Rattle.run_limits.specs.Window.{entryInLimits}
 use Rattle.run_outcomes.specs.Told.{toldOf}
 use Rattle.run.specs.Calls.{cleared, kindOf, afterLoading}
@@ -39,12 +40,12 @@ use Rattle.run.specs.Limits.{haltInLimits}
 use Rattle.run.specs.Loading.{Loading}
 use Rattle.demands_log.specs.Log.{Id, Log, Always, said, Accepts, Reports, Reported, StoppedIn}
 use Rattle.demands_log.specs.Log as Log
-use Rattle.demands_theory.specs.Machine.{World, Held}
-use Rattle.demands_theory.specs.Way.{learns, Agrees, haltOf, replyOf}
-use Rattle.demands_theory.specs.Way as Way
+use Rattle.demands_theory.specs.Laws.Machine.{World, Held}
+use Rattle.demands_theory.specs.Laws.Way.{learns, Agrees, haltOf, replyOf}
+use Rattle.demands_theory.specs.Laws.Way as Way
 use Rattle.demands_theory.specs.Loading.{Unreported, EndsAt, whole, beyond, full, Loads}
 use Rattle.demands_theory.specs.Laws.Accounts.{always-map}
-use Rattle.demands_theory.specs.OfPlan.{worldOf}
+use Rattle.demands_theory.specs.Laws.OfPlan.{worldOf}
 use Rattle.demands_theory.specs.Nodes.{whose, lengthOf, idOf}
 use Rattle.demands_theory.specs.TheWord.{stateAfter, nextAfter, wholeOf, Oldest, Stuck, ended, waits}
 use Rattle.demands_theory.specs.Laws.Invariant.{Invariant}
@@ -53,9 +54,9 @@ use Rattle.demands_theory.specs.Laws.Replies.{failed-stopped}
 use Rattle.demands_theory.specs.Laws.Longest.{within-loads, loads-end, ends-whole, ends-beyond, ends-full}
 use Rattle.demands_theory.specs.Laws.TheWord.{told-once, takes-follows}
 use Rattle.demands_theory.specs.Laws.World.{old-position, new-start}
-use Rattle.demands_theory.specs.OfRun.{machine}
-use Rattle.demands_run.specs.Engine.{EngineLaws}
-use Rattle.demands_run.specs.Stands.{Stands, Accepted, Good}
+use Rattle.demands_theory.specs.Laws.OfRun.{machine}
+use Rattle.demands_run.specs.Laws.Engine.{EngineLaws}
+use Rattle.demands_run.specs.Laws.Stands.{Stands, Accepted, Good}
 use Rattle.demands_run.specs.Laws.Bounds.{entry-within, vacant-passes}
 use Rattle.demands_run.specs.Laws.Ways.{runOf, Calm, Goes, Learning}
 use Rattle.demands_run.specs.Laws.Counts.{pending-length, pending-few}

@@ -8,8 +8,8 @@ use Prim.Native.Nat.{ℕ, suc, _+_, _*_, _≤_, _<_}
 use native.Mathlib.Omega.{arith}
 use lib.ListN.{length, getD}
 use Rattle.basis.specs.Lists.{Among}
-use Rattle.basis.specs.Parts.{length-part}
 use Rattle.basis.specs.Laws.Lists.{among-at, at-among}
+use Rattle.basis.specs.Laws.PartsHold.{length-part}
 use Rattle.time.specs.Time.{horizon}
 use Rattle.time.specs.declared.Specified.{Specified}
 use Rattle.plan.specs.Plan.{move, emittedBy, pastNode, sizeOf}
@@ -23,9 +23,9 @@ use Rattle.activity.specs.Rules.{node}
 use Rattle.times_combined.specs.Word.{Word, size}
 use Rattle.times_combined.specs.Combined.{named, NotClaim, Nodes, Joined}
 use Rattle.times_combined.specs.Paths.{wordOf, Follows, Lawful}
-use Rattle.times_combined.specs.Theorems.{plan-times-only, plan-run-equal}
+use Rattle.times_combined.specs.Laws.Theorems.{plan-times-only, plan-run-equal}
 use Rattle.times_combined.specs.Laws.Shape.{node-place, sort}
-use Rattle.times_combined.specs.Engine.{startAt, endAt}
+use Rattle.times_combined.specs.Laws.Engine.{startAt, endAt}
 use Rattle.times.specs.Times.{at}
 use Rattle.times.specs.Engine.{lastPosition, beyondOf, heldOf, closedOf, emitsOf, timedOf}
 use Rattle.times.specs.Laws.Fits.{processed-position, left-position}
@@ -34,21 +34,22 @@ use Rattle.times.specs.declared.Schedule.{Schedule}
 use Rattle.times.specs.Laws.Kept.{above-none, beyond-told}
 use Rattle.run_path.specs.Path.{isWork, loaded, activityNumber, takenBy, entriesBy}
 use Rattle.run_window.specs.Window.{vacant, isHeld, isStarted, placed, vacancies}
-use Rattle.run_window.specs.Places.{Holds, SameNode, Once}
-use Rattle.run_window.specs.Placed.{Took, placed-length, placed-kept, placed-holds, placed-only, placed-each, placed-once, freePlace}
+use Rattle.run_window.specs.Places.{Holds}
+use Rattle.run_window.specs.Laws.Placed.{Took, placed-length, placed-kept, placed-holds, placed-only, placed-each, placed-once, freePlace}
 use Rattle.run_window.specs.declared.Entry.{Entry}
+use Rattle.run_window.specs.Laws.Places.{SameNode, Once}
 use Rattle.run_limits.specs.Window.{entryInLimits}
 use Rattle.demands_log.specs.Log.{Id, id, Log}
-use Rattle.demands_theory.specs.Machine.{World, Held}
-use Rattle.demands_theory.specs.Way.{Agrees, Extends}
+use Rattle.demands_theory.specs.Laws.Machine.{World, Held}
+use Rattle.demands_theory.specs.Laws.Way.{Agrees, Extends}
 use Rattle.demands_theory.specs.Nodes.{whose, Working, lengthOf, EmitsAt, here, idOf}
 use Rattle.demands_theory.specs.TheWord.{stateAfter, Takes}
-use Rattle.demands_theory.specs.OfPlan.{worldOf}
+use Rattle.demands_theory.specs.Laws.OfPlan.{worldOf}
 use Rattle.demands_theory.specs.Laws.TheWord.{takes-follows}
 use Rattle.demands_theory.specs.Laws.World.{extends, old-position}
 use Rattle.demands_theory.specs.Laws.Growth.{Tail, later, extends-on}
-use Rattle.demands_run.specs.Engine.{Advances, Possible, EngineLaws}
-use Rattle.demands_run.specs.Stands.{Stands}
+use Rattle.demands_run.specs.Laws.Engine.{Advances, Possible, EngineLaws}
+use Rattle.demands_run.specs.Laws.Stands.{Stands}
 use Rattle.demands_run.specs.Laws.Bounds.{EntryWithin, entry-passes}
 use Rattle.demands_run.specs.Laws.Counts.{possible, pending-length}
 use Rattle.demands_run.specs.Laws.Taken.{size-is, stands-on, trace-start, trace-end}

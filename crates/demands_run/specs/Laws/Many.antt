@@ -11,11 +11,12 @@ use Rattle.basis.specs.Laws.Lists.{among-left, among-right, among-either, map-a
 use Rattle.basis.specs.Laws.Bools.{clash, by-test}
 use Rattle.plan.specs.declared.Plan.{Plan}
 use Rattle.run_window.specs.Window.{isFree, vacancies}
-use Rattle.run_window.specs.Tests.{unfree-held, held-unfree}
-use Rattle.run_window.specs.Places.{Holds, Once}
+use Rattle.run_window.specs.Laws.Tests.{unfree-held, held-unfree}
+use Rattle.run_window.specs.Places.{Holds}
 use Rattle.run_window.specs.declared.Entry.{Entry}
+use Rattle.run_window.specs.Laws.Places.{Once}
 use Rattle.demands_log.specs.Log.{Id, Log, Reported}
-use Rattle.demands_theory.specs.Machine.{Held}
+use Rattle.demands_theory.specs.Laws.Machine.{Held}
 use Rattle.demands_theory.specs.Nodes.{Work, lengthOf, idOf}
 use Rattle.demands_theory.specs.TheWord.{wholeOf}
 use Rattle.demands_theory.specs.Loading.{Unreported, TooMany}

@@ -9,7 +9,8 @@ use native.Mathlib.Omega.{arith}
 use borrow.Author.Tests.{ltb-true, lt-ltb, eqb-true}
 use lib.Dec.{ltb, eqb}
 use lib.ListN.{length, length-append, getD}
-use Rattle.basis.specs.Parts.{part, length-part}
+use Rattle.basis.specs.Parts.{part}
+use Rattle.basis.specs.Laws.PartsHold.{length-part}
 use Rattle.plan.specs.Plan.{pastMove, move, outcomesOf}
 use Rattle.plan.specs.Limits.{InputNames}
 use Rattle.plan.specs.declared.Input.{Input}
@@ -38,8 +39,8 @@ use Rattle.demands_theory.specs.Nodes.{whose}
 use Rattle.demands_theory.specs.TheWord.{stateAfter, nextAfter, wholeOf, Oldest, Takes, hears, Stuck, ended, waits}
 use Rattle.demands_theory.specs.Laws.Next.{Found, chosen-found}
 use Rattle.demands_theory.specs.Laws.Nodes.{whose-same}
-use Rattle.demands_run.specs.Engine.{rest, EngineLaws}
-use Rattle.demands_run.specs.Stands.{identOf, idOf, ToldAs, Queued, Stands}
+use Rattle.demands_run.specs.Laws.Engine.{rest, EngineLaws}
+use Rattle.demands_run.specs.Laws.Stands.{identOf, idOf, ToldAs, Queued, Stands}
 use Rattle.demands_run.specs.Laws.Paths.{isTold, tolds, Rests}
 
 -- ---- a state that awaits an event has a transition that processes it

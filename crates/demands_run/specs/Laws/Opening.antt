@@ -27,7 +27,7 @@ use Rattle.automaton.specs.Next.{nextOf}
 use Rattle.automaton.specs.Rules.{MeetsAutomaton}
 use Rattle.times_combined.specs.Combined.{combined}
 use Rattle.times_combined.specs.Word.{τ}
-use Rattle.times_combined.specs.Engine.{opens}
+use Rattle.times_combined.specs.Laws.Engine.{opens}
 use Rattle.times_combined.specs.Laws.Instances.{Listing}
 use Rattle.times_combined.specs.Laws.TimesEqual.{empty-listing}
 use Rattle.judge.specs.Judge.{accepted, judgeOf}
@@ -37,15 +37,16 @@ use Rattle.times.specs.declared.Instance.{Instance}
 use Rattle.times.specs.declared.Progress.{Progress}
 use Rattle.run_path.specs.Path.{pathFrom, longestPath, Path}
 use Rattle.run_window.specs.Window.{vacant, isHeld, vacancies}
-use Rattle.run_window.specs.Places.{Holds, Once}
+use Rattle.run_window.specs.Places.{Holds}
 use Rattle.run_window.specs.declared.Entry.{Entry}
+use Rattle.run_window.specs.Laws.Places.{Once}
 use Rattle.run_limits.specs.Window.{entryInLimits}
 use Rattle.run.specs.Limits.{slackInLimits}
 use Rattle.run.specs.Loading.{load}
 use Rattle.run_opening.specs.Given.{atFirst, availabilities, anyAbove}
 use Rattle.run_opening.specs.Short.{shortFrom}
 use Rattle.run_opening.specs.declared.Short.{Short}
-use Rattle.run_opening.specs.Laws.{given-at, none-above}
+use Rattle.run_opening.specs.Laws.Given.{given-at, none-above}
 use Rattle.run.specs.Opening.{fresh, firstLoaded, begin, openPlan, openJudged, openOf}
 use Rattle.run.specs.Opening as Opening
 use Rattle.run_checks.specs.declared.Stop.{Stop}
@@ -54,24 +55,24 @@ use Rattle.run.specs.declared.Unopened.{Unopened}
 use Rattle.run.specs.declared.Opening.{Opening as Outcome}
 use Rattle.run.specs.declared.Opened.{Opened as Answer}
 use Rattle.demands_log.specs.Log.{Id}
-use Rattle.demands_theory.specs.Works.{Opened}
-use Rattle.demands_theory.specs.OfPlan.{worldOf}
+use Rattle.demands_theory.specs.Laws.Works.{Opened}
+use Rattle.demands_theory.specs.Laws.OfPlan.{worldOf}
 use Rattle.demands_theory.specs.TheWord.{none, wholeOf}
 use Rattle.demands_theory.specs.Laws.Next.{lawful}
 use Rattle.demands_theory.specs.Laws.Growth.{here, extends-self}
 use Rattle.demands_theory.specs.Laws.Longest.{silent-before, within-none}
 use Rattle.demands_theory.specs.Laws.Replies.{not-going}
 use Rattle.demands_theory.specs.Laws.World.{old-position}
-use Rattle.demands_theory.specs.OfRun.{machine}
-use Rattle.demands_theory.specs.Machine.{Held}
+use Rattle.demands_theory.specs.Laws.OfRun.{machine}
+use Rattle.demands_theory.specs.Laws.Machine.{Held}
 use Rattle.demands_theory.specs.Nodes.{Work}
 use Rattle.demands_theory.specs.Loading.{Silently, stays, goes-on, Beyond, Within, Unreported, TooMany, FirstBeyond, FirstMany}
 use Rattle.demands_run.specs.Laws.Silent.{one-rest}
 use Rattle.demands_run.specs.Laws.PathLimits.{Quiet, tells-quiet}
 use Rattle.demands_run.specs.Laws.PathNodes.{low, Passes, passes-quiet}
 use Rattle.demands_run.specs.Laws.Many.{too-many, not-many}
-use Rattle.demands_run.specs.Engine.{stateOf, Settles, EngineLaws}
-use Rattle.demands_run.specs.Stands.{identOf, Stands, Accepted, Good}
+use Rattle.demands_run.specs.Laws.Engine.{stateOf, Settles, EngineLaws}
+use Rattle.demands_run.specs.Laws.Stands.{identOf, Stands, Accepted, Good}
 use Rattle.demands_run.specs.Laws.Bounds.{vacant-passes}
 use Rattle.demands_run.specs.Laws.Short.{short-none, by-shortest}
 use Rattle.demands_run.specs.Laws.Loaded.{Loaded}

@@ -19,12 +19,12 @@ use Rattle.times.specs.Times.{at}
 use Rattle.times.specs.Engine.{takenBy}
 use Rattle.times.specs.declared.Progress.{Progress}
 use Rattle.times_combined.specs.Word.{Step, Word, _▷_, size}
-use Rattle.times_combined.specs.Accepted.{GoodWord}
+use Rattle.times_combined.specs.Laws.Accepted.{GoodWord}
 use Rattle.times_combined.specs.Combined.{Ident, identity, Is, NotClaim, Nodes, Joined}
-use Rattle.times_combined.specs.Engine.{Trace, Run, goes, Stepped, startAt, endAt}
+use Rattle.times_combined.specs.Laws.Engine.{Trace, Run, goes, Stepped, startAt, endAt}
 use Rattle.times_combined.specs.Times.{Timing}
 use Rattle.times_combined.specs.Paths.{wordOf, Follows, Lawful}
-use Rattle.times_combined.specs.Theorems.{run-equal, one-solution}
+use Rattle.times_combined.specs.Laws.Theorems.{run-equal, one-solution}
 use Rattle.times_combined.specs.Laws.OneActivity.{latest-bound}
 use Rattle.times_combined.specs.Laws.Plans.{good-path}
 use Rattle.times_combined.specs.Laws.TimesEqual.{Equal}
@@ -36,8 +36,8 @@ use Rattle.times_combined.specs.Laws.Unique.{shape-of}
 use Rattle.automaton.specs.Rules.{MeetsAutomaton}
 use Rattle.demands_log.specs.Log.{Log}
 use Rattle.demands_theory.specs.Laws.TheWord.{takes-follows}
-use Rattle.demands_run.specs.Engine.{Possible, Advances, EngineLaws}
-use Rattle.demands_run.specs.Stands.{Stands}
+use Rattle.demands_run.specs.Laws.Engine.{Possible, Advances, EngineLaws}
+use Rattle.demands_run.specs.Laws.Stands.{Stands}
 use Rattle.demands_run.specs.Laws.Taken.{size-is, trace, runs-on, state-on, end-on}
 use Rattle.demands_run.specs.Laws.Counts.{possible, pending-length}
 use Rattle.demands_run.specs.Laws.Crosses.{Crosses, tells-crosses}

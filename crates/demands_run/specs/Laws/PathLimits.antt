@@ -18,8 +18,8 @@ use Rattle.demands_log.specs.Log.{Id, Log, Told}
 use Rattle.demands_theory.specs.TheWord.{nextAfter, Takes, goes}
 use Rattle.demands_theory.specs.Loading.{Silently, stays, goes-on, Beyond, PathBeyond}
 use Rattle.demands_theory.specs.Laws.TheWord.{last, step-same}
-use Rattle.demands_run.specs.Engine.{Settles, EngineLaws}
-use Rattle.demands_run.specs.Stands.{Stands}
+use Rattle.demands_run.specs.Laws.Engine.{Settles, EngineLaws}
+use Rattle.demands_run.specs.Laws.Stands.{Stands}
 use Rattle.demands_run.specs.Laws.Silent.{silent-first, silent-next}
 use Rattle.demands_run.specs.Laws.Taken.{next-state, stands-on}
 use Rattle.demands_run.specs.Laws.Counts.{possible, pending-length}

@@ -33,8 +33,8 @@ use Rattle.demands_theory.specs.TheWord.{stateAfter, nextAfter, wholeOf, Rests,
 use Rattle.demands_theory.specs.Loading.{Silently, stays}
 use Rattle.demands_theory.specs.Laws.TheWord.{takes-follows}
 use Rattle.demands_theory.specs.Laws.World.{old-position}
-use Rattle.demands_run.specs.Engine.{Settles, EngineLaws}
-use Rattle.demands_run.specs.Stands.{Stands}
+use Rattle.demands_run.specs.Laws.Engine.{Settles, EngineLaws}
+use Rattle.demands_run.specs.Laws.Stands.{Stands}
 use Rattle.demands_run.specs.Laws.Silent.{silent-first}
 use Rattle.demands_run.specs.Laws.Taken.{size-is, next-state}
 use Rattle.demands_run.specs.Laws.Entries.{brought, brings, different}

@@ -21,7 +21,7 @@ use Rattle.times.specs.declared.Instance.{Instance}
 use Rattle.times.specs.declared.Progress.{Progress}
 use Rattle.run_path.specs.Path.{Path, takenBy, entriesBy, pathFrom, ends, after}
 use Rattle.run_window.specs.Window.{placed, vacancies}
-use Rattle.run_window.specs.Placed.{placed-none, placed-append, placed-vacancies}
+use Rattle.run_window.specs.Laws.Placed.{placed-none, placed-append, placed-vacancies}
 use Rattle.run_window.specs.declared.Entry.{Entry}
 use Rattle.demands_log.specs.Log.{Log}
 use Rattle.demands_theory.specs.TheWord.{nextAfter, Takes, goes}
@@ -30,7 +30,7 @@ use Rattle.demands_run.specs.Laws.Silent.{silent-first}
 pub use Rattle.demands_theory.specs.TheWord.{Rests}
 use Rattle.demands_theory.specs.Laws.Next.{next-found}
 use Rattle.demands_theory.specs.Laws.Growth.{Tail, here, later}
-use Rattle.demands_run.specs.Engine.{remaining, Settles, EngineLaws}
+use Rattle.demands_run.specs.Laws.Engine.{remaining, Settles, EngineLaws}
 use Rattle.demands_run.specs.Laws.Counts.{possible}
 use Rattle.demands_run.specs.Laws.Taken.{next-state}
 use Rattle.demands_run.specs.Laws.Loaded.{Loaded, loads-one, all-new}

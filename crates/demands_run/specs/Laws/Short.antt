@@ -14,7 +14,7 @@ use Rattle.plan.specs.declared.Plan.{Plan}
 use Rattle.run_path.specs.Path.{isWork}
 use Rattle.run_opening.specs.Short.{anyShort, shortFrom, onShort}
 use Rattle.run_opening.specs.declared.Short.{Short}
-use Rattle.demands_theory.specs.OfPlan.{Outlast}
+use Rattle.demands_theory.specs.Laws.OfPlan.{Outlast}
 use Rattle.demands_run.specs.Laws.Loaded.{working-work}
 
 none-short : (slack : ℕ) (ns : List Node) → anyShort slack ns ≡ false → Outlast slack ns

@@ -16,9 +16,9 @@ use Rattle.plan.specs.declared.Input.{Input}
 use Rattle.plan.specs.declared.Plan.{Plan}
 use Rattle.times_combined.specs.Word.{Step, Word, size, once, times, _▷_}
 use Rattle.times_combined.specs.Combined.{Ident, named, Graph, processing, combined}
-use Rattle.times_combined.specs.Accepted.{GoodWord}
-use Rattle.times_combined.specs.Engine.{Trace, Run as Runs, Steps, State, startAt, endAt}
-use Rattle.times_combined.specs.Exec.{put}
+use Rattle.times_combined.specs.Laws.Accepted.{GoodWord}
+use Rattle.times_combined.specs.Laws.Engine.{Trace, Run as Runs, Steps, State, startAt, endAt}
+use Rattle.times_combined.specs.Laws.Exec.{put}
 use Rattle.times_combined.specs.Paths.{stepOf, wordOf, Follows, Lawful}
 use Rattle.times_combined.specs.Laws.Exists.{extended}
 use Rattle.times_combined.specs.Laws.Instances.{Listing, listing-grows}
@@ -36,8 +36,8 @@ use Rattle.demands_log.specs.Log as Log
 use Rattle.demands_theory.specs.Nodes.{lengthOf}
 use Rattle.demands_theory.specs.TheWord.{stateAfter, wholeOf, Takes}
 use Rattle.demands_theory.specs.Laws.TheWord.{takes-follows}
-use Rattle.demands_run.specs.Engine.{stateOf, rest, remaining, Pending, Advances}
-use Rattle.demands_run.specs.Stands.{identOf, idOf, ToldAs, Queued, Stands}
+use Rattle.demands_run.specs.Laws.Engine.{stateOf, rest, remaining, Pending, Advances}
+use Rattle.demands_run.specs.Laws.Stands.{identOf, idOf, ToldAs, Queued, Stands}
 
 -- ---- the next position and state
 

@@ -18,7 +18,7 @@ use Rattle.times_combined.specs.Combined.{Ident, identity}
 use Rattle.times.specs.Queues.{noInstance}
 use Rattle.times.specs.declared.Instance.{Instance}
 use Rattle.run_outcomes.specs.Told.{tell, isInstance, toldFrom}
-use Rattle.demands_run.specs.Stands.{identOf}
+use Rattle.demands_run.specs.Laws.Stands.{identOf}
 
 -- ---- parts of a list
 

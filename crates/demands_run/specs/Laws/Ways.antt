@@ -15,12 +15,13 @@ use Rattle.plan.specs.declared.Kind.{Kind}
 use Rattle.plan.specs.declared.Plan.{Plan}
 use Rattle.times.specs.declared.Progress.{Progress}
 use Rattle.run_window.specs.Window.{vacant, isFree, isHeld, isStarted, startedOf, isOverdue, isLate, isDue, isNode, startsBefore, endsBefore, isEmpty}
-use Rattle.run_window.specs.Tests.{overdue-tells, overdue-false, due-tells, due-false, late-tells, late-false, node-tells, started-true, unfree-held}
-use Rattle.run_window.specs.Order.{starts-order, ends-order}
-use Rattle.run_window.specs.Firsts.{First, NonePass, by-first}
-use Rattle.run_window.specs.Places.{Holds, holds-within, empty-none, stored-here, stored-kept, stored-only, stored-each, cleared-only}
+use Rattle.run_window.specs.Laws.Tests.{overdue-tells, overdue-false, due-tells, due-false, late-tells, late-false, node-tells, started-true, unfree-held}
+use Rattle.run_window.specs.Laws.Order.{starts-order, ends-order}
+use Rattle.run_window.specs.Laws.Firsts.{First, NonePass, by-first}
+use Rattle.run_window.specs.Places.{Holds}
 use Rattle.run_window.specs.declared.Entry.{Entry}
 use Rattle.run_window.specs.declared.Phase.{Phase}
+use Rattle.run_window.specs.Laws.Places.{holds-within, empty-none, stored-here, stored-kept, stored-only, stored-each, cleared-only}
 use Rattle.run_limits.specs.Window.{entryInLimits}
 use Rattle.run_checks.specs.Order.{timelyBy}
 use Rattle.run.specs.Limits.{runInLimits, haltInLimits}
@@ -35,14 +36,14 @@ use Rattle.run.specs.declared.Reply.{Reply}
 use Rattle.run_checks.specs.declared.Refusal.{Refusal}
 use Rattle.run.specs.declared.Answer.{Answer}
 use Rattle.demands_log.specs.Log.{Id, Log, said, reading, Failing, Tells, Accepts}
-use Rattle.demands_log.specs.ByCases.{by-halt}
-use Rattle.demands_theory.specs.Way.{Way, keeps, refuses, overdues, lates, begins, idles, completes, Turns, Clear, Clears, Marks, Answers}
-use Rattle.demands_theory.specs.OfPlan.{worldOf}
+use Rattle.demands_log.specs.Laws.ByCases.{by-halt}
+use Rattle.demands_theory.specs.Laws.Way.{Way, keeps, refuses, overdues, lates, begins, idles, completes, Turns, Clear, Clears, Marks, Answers}
+use Rattle.demands_theory.specs.Laws.OfPlan.{worldOf}
 use Rattle.demands_theory.specs.Laws.Invariant.{Invariant}
 use Rattle.demands_theory.specs.Laws.Accounts.{no-report}
 use Rattle.demands_theory.specs.Laws.Replies.{not-going}
-use Rattle.demands_theory.specs.OfRun.{machine}
-use Rattle.demands_run.specs.Stands.{Accepted, Good}
+use Rattle.demands_theory.specs.Laws.OfRun.{machine}
+use Rattle.demands_run.specs.Laws.Stands.{Accepted, Good}
 use Rattle.demands_run.specs.Laws.Later.{tells-not, stuck-later, beyond-later, full-later, stands-later}
 use Rattle.demands_run.specs.Laws.Bounds.{entry-passes, entry-within, vacant-passes, run-passes, late-passes}
 

@@ -11,8 +11,8 @@ use borrow.Author.Tests.{eqb-true, ne-eqb, eq-eqb}
 use lib.Dec.{eqb}
 use lib.ListN.{length, length-append}
 use Rattle.basis.specs.Lists.{Among}
-use Rattle.basis.specs.Parts.{among-part}
 use Rattle.basis.specs.Laws.Lists.{among-either, map-among}
+use Rattle.basis.specs.Laws.PartsHold.{among-part}
 use Rattle.plan.specs.Plan.{move, emittedBy, outcomesOf, resourceOf}
 use Rattle.plan.specs.Limits.{InputNames}
 use Rattle.plan.specs.declared.Input.{Input}
@@ -24,8 +24,8 @@ use Rattle.automaton.specs.declared.Chosen.{Chosen}
 use Rattle.automaton.specs.Laws.Cases.{ended-goes, waits-goes}
 use Rattle.times_combined.specs.Word.{size, once, times}
 use Rattle.times_combined.specs.Combined.{Ident, named, Instance, processing}
-use Rattle.times_combined.specs.Accepted.{GoodWord}
-use Rattle.times_combined.specs.Exec.{emitsOf}
+use Rattle.times_combined.specs.Laws.Accepted.{GoodWord}
+use Rattle.times_combined.specs.Laws.Exec.{emitsOf}
 use Rattle.times_combined.specs.Paths.{wordOf, Lawful}
 use Rattle.times_combined.specs.Laws.Instances.{Listing, listing-grows, instance-cut, next-instance, only-instance}
 use Rattle.times_combined.specs.Laws.Unique.{shape-of}
@@ -43,8 +43,8 @@ use Rattle.demands_theory.specs.TheWord.{stateAfter, nextAfter, wholeOf, Oldest
 use Rattle.demands_theory.specs.Laws.Next.{next-found, chosen-found}
 use Rattle.demands_theory.specs.Laws.TheWord.{takes-follows}
 use Rattle.demands_theory.specs.Laws.Nodes.{whose-same}
-use Rattle.demands_run.specs.Engine.{rest, Settles, EngineLaws}
-use Rattle.demands_run.specs.Stands.{identOf, idOf, ToldAs, Queued, Stands}
+use Rattle.demands_run.specs.Laws.Engine.{rest, Settles, EngineLaws}
+use Rattle.demands_run.specs.Laws.Stands.{identOf, idOf, ToldAs, Queued, Stands}
 use Rattle.demands_run.specs.Laws.Taken.{size-is, popped, emissions-are}
 use Rattle.demands_run.specs.Laws.Paths.{isTold, tolds, tolds-append, tolds-new, Rests}
 use Rattle.demands_run.specs.Laws.Sums.{sum, sum-same, sum-falls}

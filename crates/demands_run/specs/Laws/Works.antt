@@ -22,17 +22,17 @@ use Rattle.run.specs.Calls.{kindOf, cleared, callOf}
 use Rattle.run.specs.declared.Run.{Run}
 use Rattle.run.specs.declared.Call.{Call}
 use Rattle.demands_log.specs.Log.{Log, said}
-use Rattle.demands_theory.specs.Way.{Clear, Way}
-use Rattle.demands_theory.specs.Works.{Works}
-use Rattle.demands_theory.specs.OfPlan.{worldOf}
-use Rattle.demands_theory.specs.OfTheLog.{ByTheLog}
+use Rattle.demands_theory.specs.Laws.Way.{Clear, Way}
+use Rattle.demands_theory.specs.Laws.Works.{Works}
+use Rattle.demands_theory.specs.Laws.OfPlan.{worldOf}
+use Rattle.demands_theory.specs.Laws.OfTheLog.{ByTheLog}
 use Rattle.demands_theory.specs.TheWord.{stateAfter}
 use Rattle.demands_theory.specs.Laws.Invariant.{Invariant}
 use Rattle.demands_theory.specs.Laws.TheWord.{takes-follows}
 use Rattle.demands_theory.specs.Laws.World.{orders, lasts}
-use Rattle.demands_theory.specs.OfRun.{machine}
-use Rattle.demands_run.specs.Engine.{EngineLaws}
-use Rattle.demands_run.specs.Stands.{Accepted, Good}
+use Rattle.demands_theory.specs.Laws.OfRun.{machine}
+use Rattle.demands_run.specs.Laws.Engine.{EngineLaws}
+use Rattle.demands_run.specs.Laws.Stands.{Accepted, Good}
 use Rattle.demands_run.specs.Laws.Ways.{runOf, call-way}
 use Rattle.demands_run.specs.Laws.Many.{room}
 use Rattle.demands_run.specs.Laws.Learn.{learning, learning-says}

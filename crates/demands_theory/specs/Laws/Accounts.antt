@@ -13,8 +13,8 @@ use Rattle.run_window.specs.declared.Entry.{Entry}
 use Rattle.run.specs.declared.Call.{Call}
 use Rattle.run.specs.declared.Reply.{Reply}
 use Rattle.demands_log.specs.Log.{Accepts, Always, Id, IsAsk, Log, Reported, Reports, Said, Started, Starts, id, reading, said}
-use Rattle.demands_theory.specs.Machine.{Held, Window, World}
-use Rattle.demands_theory.specs.Way.{Outlasts, InOrder, Agrees, RightActivity, Clear, Clears, Extends, Marks, New, Stays}
+use Rattle.demands_theory.specs.Laws.Machine.{Held, Window, World}
+use Rattle.demands_theory.specs.Laws.Way.{Outlasts, InOrder, Agrees, RightActivity, Clear, Clears, Extends, Marks, New, Stays}
 use Rattle.demands_theory.specs.Nodes.{idOf}
 
 pub always-map : (P Q : Said → Log → Type 0) → ((x : Said) (older : Log) → P x older → Q x older) → (log : Log) → Always P log → Always Q log

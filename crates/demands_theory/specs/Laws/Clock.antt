@@ -13,8 +13,8 @@ use Rattle.run.specs.declared.Reply.{Reply}
 use Rattle.run_checks.specs.declared.Refusal.{Refusal}
 use Rattle.demands_log.specs.Log.{Id, Log, StoppedIn, Stops, reading, said}
 use Rattle.demands_log.specs.Host.{AskedIdle, Asks, At, HostAt, None, Reading, StartsNothing, isRefused, previous}
-use Rattle.demands_theory.specs.Machine.{Window}
-use Rattle.demands_theory.specs.Way.{Clear}
+use Rattle.demands_theory.specs.Laws.Machine.{Window}
+use Rattle.demands_theory.specs.Laws.Way.{Clear}
 
 pub no-ask : (c : Call) (r : Reply) (u : ℕ) → (StartsNothing r → ⊥) → Asks c r u → ⊥
 no-ask (Call.Ask t) r u h p = h (p .1)

@@ -3,8 +3,8 @@ use mathlib.Core.Path.{_≡_, refl, sym, ap, _∙_, subst}
 use mathlib.Core.List.{List, [], _∷_}
 use mathlib.Core.Logic.{_⊎_, inl, inr}
 use Prim.Native.Nat.{ℕ}
-use Rattle.demands_theory.specs.Machine.{World}
-use Rattle.demands_theory.specs.Way.{Extends}
+use Rattle.demands_theory.specs.Laws.Machine.{World}
+use Rattle.demands_theory.specs.Laws.Way.{Extends}
 pub use Rattle.demands_theory.specs.TheWord.{Tail, here, later}
 
 pub extends-self : (W : World) (w : W .Word) → Extends W w w

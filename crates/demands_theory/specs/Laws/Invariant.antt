@@ -8,7 +8,7 @@ use Rattle.run_checks.specs.declared.Stop.{Stop}
 use Rattle.run_checks.specs.declared.Halt.{Halt}
 use Rattle.demands_log.specs.Log.{Id, Log, Said, Always, Started, StoppedIn, StoppedBy}
 use Rattle.demands_log.specs.Host.{Host, MildStop, Mild}
-use Rattle.demands_theory.specs.Machine.{World, Machine, Window, Finished, Waited}
+use Rattle.demands_theory.specs.Laws.Machine.{World, Machine, Window, Finished, Waited}
 use Rattle.demands_theory.specs.Laws.Accounts.{Accounts}
 use Rattle.demands_theory.specs.Laws.Clock.{Clock}
 

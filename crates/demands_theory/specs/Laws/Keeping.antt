@@ -15,9 +15,9 @@ use Rattle.run_checks.specs.declared.Halt.{Halt}
 use Rattle.run_loading.specs.declared.Failure.{Failure}
 use Rattle.demands_log.specs.Log.{Id, Said, said, Log, reading, Started, Stops, StoppedBy, Accepts, Finishes}
 use Rattle.demands_log.specs.Host.{HostAt, Mild}
-use Rattle.demands_theory.specs.Machine.{World, Machine, Window, Waiting}
-use Rattle.demands_theory.specs.Way.{Stays, Loads, Turns, haltOf, replyOf, Answers, Way, keeps, refuses, overdues, lates, begins, idles, completes, learns}
-use Rattle.demands_theory.specs.Works.{Works}
+use Rattle.demands_theory.specs.Laws.Machine.{World, Machine, Window, Waiting}
+use Rattle.demands_theory.specs.Laws.Way.{Stays, Loads, Turns, haltOf, replyOf, Answers, Way, keeps, refuses, overdues, lates, begins, idles, completes, learns}
+use Rattle.demands_theory.specs.Laws.Works.{Works}
 use Rattle.demands_theory.specs.Laws.Accounts.{Accounts, accounts-quiet, accounts-begin, accounts-report, accounts-load}
 use Rattle.demands_theory.specs.Laws.Clock.{Clock, clock-refused, clock-next, never-late}
 use Rattle.demands_theory.specs.Laws.Invariant.{MildHalt, Latest, Invariant}

@@ -12,7 +12,7 @@ use Rattle.run_checks.specs.declared.Halt.{Halt}
 use Rattle.run_checks.specs.declared.Stop.{Stop}
 use Rattle.run_loading.specs.declared.Failure.{Failure}
 use Rattle.demands_log.specs.Log.{Id, Log, said, Told, FailedIn, StoppedBy}
-use Rattle.demands_theory.specs.Way.{haltOf, replyOf}
+use Rattle.demands_theory.specs.Laws.Way.{haltOf, replyOf}
 use Rattle.demands_theory.specs.TheWord.{nextAfter, Rests, Takes, Stuck}
 use Rattle.demands_theory.specs.Loading.{Exceeds, Beyond, Within, Silently, stays, goes-on, Onward, NextPath, PathBeyond, PathFull, EndsAt, whole, beyond, full, Loads, ends, later, Fits}
 use Rattle.demands_theory.specs.Laws.Replies.{not-going, failed-by}

@@ -20,11 +20,12 @@ use Rattle.plan.specs.declared.Automaton.{Automaton}
 use Rattle.plan.specs.declared.Plan.{Plan}
 use Rattle.activity.specs.Rules.{Meets}
 use Rattle.automaton.specs.Next.{onInput, nextFrom, nextOf, carries, chosenFrom, chosenOf}
-use Rattle.automaton.specs.Tests.{pick, both, both-left, both-right}
+use Rattle.automaton.specs.Tests.{pick, both}
 use Rattle.automaton.specs.Rules.{Path, none, more, takes, ofEvent, eventsIn, emits, processed, emitted, EmittedFirst}
 use Rattle.automaton.specs.Rules as Rules
 use Rattle.automaton.specs.declared.Next.{Next}
 use Rattle.automaton.specs.declared.Chosen.{Chosen}
+use Rattle.automaton.specs.Laws.Tests.{both-left, both-right}
 use Rattle.times_combined.specs.Word.{once, times, isEvent, emittedIn, emissions}
 use Rattle.times_combined.specs.Paths.{wordOf, Follows, OnlyEmitted, Lawful}
 

@@ -11,8 +11,8 @@ use Rattle.run_checks.specs.declared.Halt.{Halt}
 use Rattle.run_loading.specs.declared.Failure.{Failure}
 use Rattle.demands_log.specs.Log.{Id, Log, said, Starts, Stops, StoppedIn, StoppedBy, Fails, FailedIn, Accepts, Finishes}
 use Rattle.demands_log.specs.Host.{isRefused, Mild}
-use Rattle.demands_theory.specs.Machine.{Waiting}
-use Rattle.demands_theory.specs.Way.{Idle, haltOf, replyOf}
+use Rattle.demands_theory.specs.Laws.Machine.{Waiting}
+use Rattle.demands_theory.specs.Laws.Way.{Idle, haltOf, replyOf}
 use Rattle.demands_theory.specs.Laws.Invariant.{MildHalt}
 
 abbrev Goes : Halt → Type 0

@@ -18,10 +18,10 @@ use Rattle.times_combined.specs.Laws.Plans.{good-path}
 use Rattle.run.specs.declared.Call.{Call}
 use Rattle.run.specs.declared.Reply.{Reply}
 use Rattle.demands_log.specs.Log.{Id, Log, Always, Reports, Reported, Tells, Told}
-use Rattle.demands_theory.specs.Way.{Extends}
+use Rattle.demands_theory.specs.Laws.Way.{Extends}
 use Rattle.demands_theory.specs.Nodes.{whose}
 use Rattle.demands_theory.specs.TheWord.{stateAfter, nextAfter, Oldest, Takes, none, goes, hears, Stuck, ended, waits, TheWord}
-use Rattle.demands_theory.specs.OfPlan.{worldOf}
+use Rattle.demands_theory.specs.Laws.OfPlan.{worldOf}
 use Rattle.demands_theory.specs.Laws.Next.{Found, next-found, chosen-found}
 use Rattle.demands_theory.specs.Laws.World.{extends}
 use Rattle.demands_theory.specs.Laws.Growth.{extends-self, extends-on, Tail, here, later, tail-next, tail-empty}

@@ -13,21 +13,21 @@ use Rattle.plan.specs.declared.Input.{Input}
 use Rattle.plan.specs.declared.Output.{Output}
 use Rattle.plan.specs.declared.Plan.{Plan}
 use Rattle.times_combined.specs.Word.{Step, Word, τ, _▷_, Begins, longer, size}
-use Rattle.times_combined.specs.Accepted.{GoodWord}
+use Rattle.times_combined.specs.Laws.Accepted.{GoodWord}
 use Rattle.times_combined.specs.Combined.{Ident, NotRelease, Before, Nodes, Joined, completed, processing, combined}
 use Rattle.times_combined.specs.Paths.{stepOf, wordOf, Follows, Lawful}
-use Rattle.times_combined.specs.Theorems.{held-back, times-equal, before-ends, kept-start, kept-end}
+use Rattle.times_combined.specs.Laws.Theorems.{held-back, times-equal, before-ends, kept-start, kept-end}
 use Rattle.times_combined.specs.Laws.Shape.{completed-shape, node-place}
 use Rattle.times_combined.specs.Laws.Chains.{to-left}
 use Rattle.times_combined.specs.Laws.Unique.{shape-of}
 use Rattle.times_combined.specs.Laws.Later.{claim-place}
 use Rattle.times_combined.specs.Laws.Plans.{good-path, counted-path}
 use Rattle.demands_log.specs.Log.{Id}
-use Rattle.demands_theory.specs.Way.{Outlasts, InOrder, Extends}
+use Rattle.demands_theory.specs.Laws.Way.{Outlasts, InOrder, Extends}
 use Rattle.demands_theory.specs.Nodes.{whose, Working, Work, lengthOf, earlier}
 use Rattle.demands_theory.specs.TheWord.{Oldest}
 use Rattle.demands_theory.specs.Laws.Growth.{Tail, here, later}
-use Rattle.demands_theory.specs.OfPlan.{worldOf, Outlast, Long}
+use Rattle.demands_theory.specs.Laws.OfPlan.{worldOf, Outlast, Long}
 
 not-release : (k : Kind) → Working k → NotRelease k
 not-release (Kind.Action a p) h = tt

@@ -4,8 +4,8 @@ use native.Mathlib.Omega.{arith}
 use denote.Ref.{now}
 use Prim.Native.Nat.{_+_, _*_, _-_, _≤_}
 use lib.ListN.{length}
-use Rattle.wire.specs.Puts.{puts-length}
-use Rattle.drive_records.specs.Laws.{record-length}
+use Rattle.wire.specs.Laws.Puts.{puts-length}
+use Rattle.drive_records.specs.Laws.Records.{record-length}
 use Rattle.drive.proofs.Turns.{drivenFrom, Leads, call-ahead, turn-ends, turn-goes, turn-over}
 use borrow.Author.Needs.{needs}
 use Rattle.drive.proofs.calls_from.Statement.{statement}

@@ -3,8 +3,8 @@ use native.Mathlib.Omega.{arith}
 use denote.Ref.{now}
 use Prim.Native.Nat.{_-_}
 use Rattle.drive.proofs.Turns.{whole-fits, whole-calls, opens}
-use Rattle.drive_records.specs.Laws.{record-length}
-use Rattle.wire.specs.Puts.{puts-length}
+use Rattle.drive_records.specs.Laws.Records.{record-length}
+use Rattle.wire.specs.Laws.Puts.{puts-length}
 use borrow.Author.Needs.{needs}
 use Rattle.drive.proofs.opened_and_called.Statement.{statement}
 use Rattle.drive.proofs.opened_and_called.Tie as tie

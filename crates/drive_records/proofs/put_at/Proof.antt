@@ -4,7 +4,7 @@ use native.Mathlib.Omega.{arith}
 use denote.Ref.{now}
 use Prim.Native.Nat.{_+_, _-_}
 use Rattle.drive_records.specs.Records.{recordBytes}
-use Rattle.drive_records.specs.Laws.{record-length}
+use Rattle.drive_records.specs.Laws.Records.{record-length}
 use Rattle.drive_records.proofs.Placed.{placed}
 use borrow.Author.Needs.{needs}
 use Rattle.drive_records.proofs.put_at.Statement.{statement}

@@ -1,5 +1,5 @@
 -- The parts of a record are put one after the other.
-use Rattle.wire.specs.Puts.{puts-join}
+use Rattle.wire.specs.Laws.Puts.{puts-join}
 use Rattle.drive_records.specs.Records.{recordBytes}
 use borrow.Author.Needs.{needs}
 use Rattle.drive_records.proofs.put_first.Statement.{statement}

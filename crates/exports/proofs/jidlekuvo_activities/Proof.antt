@@ -1,6 +1,6 @@
 use native.Mathlib.Omega.{arith}
 use denote.Ref.{now}
-use Rattle.judge.specs.Laws.{read-limits}
+use Rattle.judge.specs.Laws.Judge.{read-limits}
 use Rattle.exports.specs.Codes.{activitiesCode}
 use borrow.Author.Needs.{needs}
 use Rattle.exports.proofs.jidlekuvo_activities.Statement.{statement}

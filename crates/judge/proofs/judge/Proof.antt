@@ -4,8 +4,8 @@ use native.Mathlib.Omega.{arith}
 use denote.Ref.{now}
 use Rattle.plan.specs.declared.Verdict.{Verdict}
 use Rattle.judge.specs.Judge.{judgeOf}
-use Rattle.judge.specs.Inner.{by-verdict}
-use Rattle.judge.specs.Laws.{read-limits}
+use Rattle.judge.specs.Inner.Judge.{by-verdict}
+use Rattle.judge.specs.Laws.Judge.{read-limits}
 use borrow.Author.Needs.{needs}
 use Rattle.judge.proofs.judge.Statement.{statement}
 use Rattle.judge.proofs.judge.Tie as tie

@@ -2,8 +2,8 @@
 use mathlib.Core.Path.{sym, ap, _∙_}
 use Rattle.plan.specs.declared.Verdict.{Verdict}
 use Rattle.automaton.specs.Number.{automatonVerdict}
-use Rattle.automaton.specs.Bounds.{in-range}
-use Rattle.automaton_verdict.specs.Table.{table-verdict}
+use Rattle.automaton.specs.Laws.Bounds.{in-range}
+use Rattle.automaton_verdict.specs.Laws.Table.{table-verdict}
 use Rattle.judge.specs.Judge.{onVerdict}
 use borrow.Author.Needs.{needs}
 use Rattle.judge.proofs.plan_verdict.Statement.{statement}

@@ -3,8 +3,8 @@ use mathlib.Core.Path.{sym, _∙_}
 use native.Mathlib.Omega.{arith}
 use denote.Ref.{now}
 use Rattle.judge.specs.Judge.{judgeOf}
-use Rattle.judge.specs.Inner.{verdict-alone}
-use Rattle.judge.specs.Laws.{read-limits}
+use Rattle.judge.specs.Inner.Judge.{verdict-alone}
+use Rattle.judge.specs.Laws.Judge.{read-limits}
 use borrow.Author.Needs.{needs}
 use Rattle.judge.proofs.verdict.Statement.{statement}
 use Rattle.judge.proofs.verdict.Tie as tie

@@ -1,8 +1,8 @@
 -- Two records, or a buffer too short.
 use native.Mathlib.Omega.{arith}
 use denote.Ref.{now}
-use Rattle.wire.specs.Puts.{puts-length}
-use Rattle.drive_records.specs.Laws.{record-length}
+use Rattle.wire.specs.Laws.Puts.{puts-length}
+use Rattle.drive_records.specs.Laws.Records.{record-length}
 use Rattle.made_up.proofs.Recorded.{too-short, both-written}
 use borrow.Author.Needs.{needs}
 use Rattle.made_up.proofs.answer.Statement.{statement}

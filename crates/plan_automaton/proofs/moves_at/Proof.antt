@@ -2,7 +2,7 @@
 use native.Mathlib.Omega.{arith}
 use mathlib.Core.Path.{_≡_, refl, sym, _∙_, ap}
 use Rattle.plan.specs.Moves.{movesAt}
-use Rattle.plan_fields.specs.Read.{byte-most, move-count-most}
+use Rattle.plan_fields.specs.Laws.Read.{byte-most, move-count-most}
 use borrow.Author.Needs.{needs}
 use Rattle.plan_automaton.proofs.moves_at.Statement.{statement}
 use Rattle.plan_automaton.proofs.moves_at.Tie as tie

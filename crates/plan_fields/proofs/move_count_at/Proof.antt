@@ -4,7 +4,7 @@ use borrow.Author.Tests.{lt-ltb, le-ltb, le-leb, lt-leb, leb-true, ltb-true, eq-
 use mathlib.Core.Path.{_≡_, refl, sym, _∙_, ap}
 use denote.Ref.{now}
 use Prim.Native.Nat.{ℕ, _+_, _^_}
-use Rattle.wire.specs.Fields.{short, too-low, too-high, in-range}
+use Rattle.wire.specs.Laws.Fields.{short, too-low, too-high, in-range}
 use Rattle.plan_fields.proofs.There.{short-there, short-short}
 use Rattle.plan.specs.declared.fields.MoveCount.{MoveCount}
 use Rattle.plan.specs.declared.Fault.{Fault}

@@ -2,10 +2,10 @@
 use mathlib.Core.Path.{sym, _∙_}
 use borrow.Author.Tests.{not-true, not-false}
 use borrow.Author.Needs.{needs}
-use Rattle.plan_limits.specs.Plans.{tells-in-limits}
-use Rattle.activity.specs.Tells.{told-true}
+use Rattle.plan_limits.specs.Laws.Plans.{tells-in-limits}
+use Rattle.activity.specs.Laws.Tells.{told-true}
 use Rattle.plan_limits.specs.Limits.{fileRules}
-use Rattle.plan_limits.specs.Files.{rules-are}
+use Rattle.plan_limits.specs.Laws.Files.{rules-are}
 use Rattle.plan_limits.proofs.file_rules.Statement.{statement}
 use Rattle.plan_limits.proofs.file_rules.Tie as tie
 

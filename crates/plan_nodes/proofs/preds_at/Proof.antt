@@ -3,7 +3,7 @@ use native.Mathlib.Omega.{arith}
 use mathlib.Core.Path.{_≡_, refl, sym, _∙_, ap}
 use borrow.Author.Tests.{lt-ltb, le-ltb, le-leb, lt-leb, eq-eqb, ne-eqb, eqb-true}
 use Rattle.plan.specs.Nodes.{predsAt}
-use Rattle.plan_fields.specs.Read.{count-most}
+use Rattle.plan_fields.specs.Laws.Read.{count-most}
 use borrow.Author.Needs.{needs}
 use Rattle.plan_nodes.proofs.preds_at.Statement.{statement}
 use Rattle.plan_nodes.proofs.preds_at.Tie as tie

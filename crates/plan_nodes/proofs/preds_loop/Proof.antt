@@ -8,7 +8,7 @@ use lib.ListN.{length, replicate, length-set}
 use native.Mathlib.Nat.{sub-zero}
 use Rattle.plan_nodes.proofs.Loops.{preds-done, preds-refused, preds-fall, preds-next}
 use Rattle.plan.specs.Nodes.{predsLoop}
-use Rattle.plan_fields.specs.Read.{byte-most}
+use Rattle.plan_fields.specs.Laws.Read.{byte-most}
 use borrow.Author.Needs.{needs}
 use Rattle.plan_nodes.proofs.preds_loop.Statement.{statement}
 use Rattle.plan_nodes.proofs.preds_loop.Tie as tie

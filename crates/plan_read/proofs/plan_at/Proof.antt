@@ -1,7 +1,7 @@
 -- The resource count, and what follows.
 use mathlib.Core.Path.{_≡_, refl, sym, _∙_, ap, subst}
 use Rattle.plan.specs.Reading.{planAt}
-use Rattle.wire.specs.Maps.{bit-zero}
+use Rattle.wire.specs.Laws.Maps.{bit-zero}
 use borrow.Author.Needs.{needs}
 use Rattle.plan_read.proofs.plan_at.Statement.{statement}
 use Rattle.plan_read.proofs.plan_at.Tie as tie

@@ -4,7 +4,7 @@ use mathlib.Core.Path.{_≡_, refl, sym, _∙_, ap, subst}
 use denote.Ref.{now}
 use Rattle.plan.specs.Reading.{withPeripherals}
 use Prim.Native.Nat.{_≤_}
-use Rattle.plan_sections.specs.Counts.{events-most}
+use Rattle.plan_sections.specs.Laws.Counts.{events-most}
 use Rattle.plan.specs.declared.fields.EventsRead.{EventsRead}
 use borrow.Author.Needs.{needs}
 use Rattle.plan_read.proofs.with_peripherals.Statement.{statement}

@@ -3,9 +3,9 @@ use native.Mathlib.Omega.{arith}
 use mathlib.Core.Path.{sym, _∙_}
 use denote.Ref.{now}
 use Rattle.plan_write.proofs.Answers.{breaks-rule, too-short, wrote}
-use Rattle.format.specs.Laws.{keeps-iff}
+use Rattle.format.specs.Laws.Format.{keeps-iff}
 use Rattle.plan_file.specs.PlanFile.{faultOrder, planFile}
-use Rattle.plan_file.specs.HoldsPlan.{plan-iff}
+use Rattle.plan_file.specs.Laws.HoldsPlan.{plan-iff}
 use borrow.Author.Needs.{needs}
 use Rattle.plan_write.proofs.write.Statement.{statement}
 use Rattle.plan_write.proofs.write.Tie as tie

@@ -7,11 +7,11 @@ use lib.ListN.{length, drop}
 use borrow.Author.Tests.{le-leb}
 use Rattle.format.specs.Format.{print, keeps}
 use Rattle.format.specs.Writing.{Bytes}
-use Rattle.format.specs.Laws.{keeps-iff}
+use Rattle.format.specs.Laws.Format.{keeps-iff}
 use Rattle.plan.specs.declared.Plan.{Plan}
 use Rattle.plan.specs.Reading.{readPlan}
 use Rattle.plan_file.specs.PlanFile.{faultOrder, planFile}
-use Rattle.plan_file.specs.Accepted.{accepted, accepted-iff}
+use Rattle.plan_file.specs.Laws.Accepted.{accepted, accepted-iff}
 use Rattle.plan_write.specs.Writing.{writtenOf, bufferOf}
 use Rattle.plan_write.specs.declared.Written.{Written}
 

@@ -7,15 +7,16 @@ use lib.ListN.{length, getD, length-append}
 use lib.Seq.{sets}
 use Rattle.basis.specs.Parts.{part}
 use Rattle.wire.specs.Number.{bytesOf}
-use Rattle.wire.specs.Puts.{Puts, sets-append}
+use Rattle.wire.specs.Puts.{Puts}
+use Rattle.wire.specs.Laws.Puts.{sets-append}
 use Rattle.format.specs.Format.{print}
-use Rattle.format.specs.Laws.{flat, print-each}
+use Rattle.format.specs.Laws.Format.{flat, print-each}
 use Rattle.plan.specs.declared.Node.{Node}
 use Rattle.plan.specs.declared.Transition.{Transition}
 use Rattle.plan.specs.declared.Plan.{Plan}
 use Rattle.plan.specs.Plan.{pastNode, pastMove, sizeOf}
 use Rattle.plan_file.specs.PlanFile.{activity}
-use Rattle.plan_write.specs.Bytes.{nodeBytes, moveBytes, activityBytes}
+use Rattle.plan_write.specs.Inner.Bytes.{nodeBytes, moveBytes, activityBytes}
 use Rattle.plan_write.specs.Laws.Printed.{nodes-print}
 
 pub puts-as : {l m : List ℕ} {at next : ℕ} {xs ys : List ℕ} → xs ≡ ys → Puts l at xs m next → Puts l at ys m next

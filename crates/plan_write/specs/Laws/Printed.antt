@@ -8,10 +8,10 @@ use native.Mathlib.Omega.{arith}
 use lib.ListN.{length, getD, length-append}
 use Rattle.basis.specs.Parts.{part}
 use Rattle.wire.specs.Number.{bytesOf, present, optionalBytes, numberBytes}
-use Rattle.wire.specs.Fields.{length-optional, length-numbers}
+use Rattle.wire.specs.Laws.Fields.{length-optional, length-numbers}
 use Rattle.wire.specs.Map.{bit}
 use Rattle.format.specs.Format.{Format, done, part-of, each, print, result}
-use Rattle.format.specs.Laws.{print-part, print-step, print-last, print-each, flat, print-part-of}
+use Rattle.format.specs.Laws.Format.{print-part, print-step, print-last, print-each, flat, print-part-of}
 use Rattle.plan.specs.declared.Kind.{Kind}
 use Rattle.plan.specs.declared.Node.{Node}
 use Rattle.plan.specs.declared.Input.{Input}
@@ -22,9 +22,9 @@ use Rattle.plan.specs.declared.Plan.{Plan}
 use Rattle.plan.specs.Plan.{pastNode, pastMove, move, movesOf}
 use Rattle.plan.specs.Limits.{nodeAt}
 use Rattle.plan_file.specs.PlanFile.{nodeMap, rising, duration, arrowCount, node, nodeOf, activity, inputBit, outputBit, moveMap, transition, moveOf, automaton, resourceCount, peripheralCount, itsResource, eventCount, itsOutcomes, activityCount, sectionMap, planFile}
-use Rattle.plan_file.specs.Stages.{nodeLast, counted, timed, kinded, moveLast, inputs, end, last, lastly, acting, outcoming, eventing, belonging, having, resourced, mapped}
-use Rattle.plan_file.specs.Reads.{may, node-bit, duration-read, count-read, told, kindPart, is-told, kind-read, move-bit, inPart, outPart, in-read, at-bit, r0, r1, r2, r3, bs, os, rb, ro}
-use Rattle.plan_write.specs.Bytes.{kindBytes, nodeBytes, inputBytes, outputBytes, moveBytes, automatonBytes, sectionBytes, activityBytes}
+use Rattle.plan_file.specs.Laws.Stages.{nodeLast, counted, timed, kinded, moveLast, inputs, end, last, lastly, acting, outcoming, eventing, belonging, having, resourced, mapped}
+use Rattle.plan_file.specs.Laws.Reads.{may, node-bit, duration-read, count-read, told, kindPart, is-told, kind-read, move-bit, inPart, outPart, in-read, at-bit, r0, r1, r2, r3, bs, os, rb, ro}
+use Rattle.plan_write.specs.Inner.Bytes.{kindBytes, nodeBytes, inputBytes, outputBytes, moveBytes, automatonBytes, sectionBytes, activityBytes}
 
 -- a number that is absent where it is 0; numbers of one byte each
 may-print : {S : Type 0} (n w below : ℕ) (get : S → ℕ) (s : S) (stands : Bool) → stands ≡ present (get s) → print (may n w below get s stands) s ≡ optionalBytes w (get s)

@@ -11,7 +11,7 @@ use lib.ListN.{length, getD, drop, drop-of-length-le}
 use lib.Seq.{drop-cons}
 use Rattle.run_window.specs.Window.{vacant}
 use Rattle.run_window.specs.declared.Entry.{Entry}
-use Rattle.activity.specs.Tells.{Tells, holds, fails}
+use Rattle.activity.specs.Laws.Tells.{Tells, holds, fails}
 use Rattle.run_limits.specs.Window.{entryInLimits, windowInLimits}
 
 module _ (activities : ℕ) (sizes : List ℕ) where

@@ -13,9 +13,9 @@ use Rattle.times.specs.Times.{at}
 use Rattle.times.specs.Queues.{noInstance, pendingOf, instanceOf}
 use Rattle.times.specs.Engine.{lastPosition}
 use Rattle.times.specs.Limits.{ToldNames, InstanceInLimits, ProgressInLimits}
-use Rattle.activity.specs.Tells.{Tells, holds, tells-iff, tells-and, tells-every}
+use Rattle.activity.specs.Laws.Tells.{Tells, holds, tells-iff, tells-and, tells-every}
 use Rattle.run_limits.specs.Progress.{timesInLimits, toldNames, instanceInLimits, placeInLimits, pendingInLimits, progressFits, progressInLimits}
-use Rattle.plan_limits.specs.Tells.{tells-ltb, tells-leb, tells-then, tells-used, tells-within, tells-places}
+use Rattle.plan_limits.specs.Laws.Tells.{tells-ltb, tells-leb, tells-then, tells-used, tells-within, tells-places}
 
 tells-times : (count : ℕ) (times : List Specified) → Tells (timesInLimits count times) ((i : ℕ) → i < count → at times i ≤ horizon)
 unfolding timesInLimits

@@ -7,8 +7,8 @@ use Rattle.run_window.specs.declared.Entry.{Entry}
 use Rattle.run_path.specs.Pathed.{Leads}
 use Rattle.run_path.specs.Laws.Stepping.{next-leads}
 use Rattle.run_loading.specs.Loading.{load}
-use Rattle.run_loading.specs.Inner.{settledBy, Loadable}
-use Rattle.run_loading.specs.Laws.{settled-loads}
+use Rattle.run_loading.specs.Inner.Loading.{settledBy, Loadable}
+use Rattle.run_loading.specs.Laws.Loading.{settled-loads}
 use borrow.Author.Needs.{needs}
 use Rattle.run_loading.proofs.first.Statement.{statement}
 use Rattle.run_loading.proofs.first.Tie as tie

@@ -4,12 +4,12 @@ use Prim.Native.Nat.{_-_}
 use native.Mathlib.Omega.{arith}
 use lib.ListN.{length}
 use Rattle.run_path.specs.Laws.Collecting.{unmapped}
-use Rattle.run_outcomes.specs.Laws.{plan-awaits}
+use Rattle.run_outcomes.specs.Laws.Outcomes.{plan-awaits}
 use Rattle.run_loading.specs.declared.Failure.{Failure}
 use Rattle.run_loading.specs.declared.Loading.{Loading}
 use Rattle.run_loading.specs.Loading.{load, further}
-use Rattle.run_loading.specs.Inner.{Loads, Loadable}
-use Rattle.run_loading.specs.Laws.{settled-loads, loaded-keeps, loaded-long, not-failed, way-loads, further-over, turn-ended, turn-waits, turn-fails, turn-goes}
+use Rattle.run_loading.specs.Inner.Loading.{Loads, Loadable}
+use Rattle.run_loading.specs.Laws.Loading.{settled-loads, loaded-keeps, loaded-long, not-failed, way-loads, further-over, turn-ended, turn-waits, turn-fails, turn-goes}
 use borrow.Author.Needs.{needs}
 use Rattle.run_loading.proofs.further.Statement.{statement}
 use Rattle.run_loading.proofs.further.Tie as tie

@@ -7,7 +7,7 @@ use lib.Dec.{ltb}
 use Rattle.run_window.specs.Window.{vacancies}
 use Rattle.run_loading.specs.declared.Failure.{Failure}
 use Rattle.run_loading.specs.Loading.{loading}
-use Rattle.run_loading.specs.Inner.{settledBy}
+use Rattle.run_loading.specs.Inner.Loading.{settledBy}
 use borrow.Author.Needs.{needs}
 use Rattle.run_loading.proofs.settled.Statement.{statement}
 use Rattle.run_loading.proofs.settled.Tie as tie

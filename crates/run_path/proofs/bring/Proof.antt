@@ -7,7 +7,7 @@ use borrow.Author.Needs.{needs}
 use lib.ListN.{length, length-set, replicate}
 use Rattle.plan.specs.Plan.{nodesOf}
 use Rattle.run_path.specs.Path.{entriesFrom}
-use Rattle.run_path.specs.Inner.{collectedOf}
+use Rattle.run_path.specs.Inner.Path.{collectedOf}
 use Rattle.run_path.specs.Laws.Collecting.{collection, rest, rest-all, turn-work, turn-none, turn-end, brought-all}
 use Rattle.run_path.proofs.bring.Statement.{statement}
 use Rattle.run_path.proofs.bring.Tie as tie

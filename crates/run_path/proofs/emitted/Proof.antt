@@ -4,7 +4,7 @@ use Prim.Native.Nat.{_≤_, _<_}
 use native.Mathlib.Omega.{arith}
 use borrow.Author.Needs.{needs}
 use Rattle.plan.specs.Limits.{OutputNames}
-use Rattle.run_path.specs.Inner.{emittedOf}
+use Rattle.run_path.specs.Inner.Path.{emittedOf}
 use Rattle.run_path.proofs.emitted.Statement.{statement}
 use Rattle.run_path.proofs.emitted.Tie as tie
 

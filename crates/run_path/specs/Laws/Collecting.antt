@@ -17,7 +17,7 @@ use Rattle.run_window.specs.declared.Entry.{Entry}
 use Rattle.run_path.specs.declared.Brought.{Brought}
 use Rattle.run_path.specs.Path.{isWork, loaded, entriesFrom}
 use Rattle.run_path.specs.Pathed.{firsts}
-use Rattle.run_path.specs.Inner.{put, Collected, collectedOf, broughtOf}
+use Rattle.run_path.specs.Inner.Path.{put, Collected, collectedOf, broughtOf}
 
 pub set-outside : {A : Type 0} (l : List A) (i : ℕ) (x : A) → length l ≤ i → set l i x ≡ l
 set-outside [] i x h = refl

@@ -4,7 +4,7 @@ use mathlib.Core.List.{List}
 use Prim.Native.Nat.{ℕ, _+_, _*_, _≤_, _<_}
 use native.Mathlib.Omega.{arith}
 use lib.ListN.{getD}
-use Rattle.basis.specs.Parts.{getD-part}
+use Rattle.basis.specs.Laws.PartsHold.{getD-part}
 use Rattle.plan.specs.Plan.{pastNode, sizeOf, nodesOf, activityOf, emittedBy, move}
 use Rattle.plan.specs.Limits.{KindNames, NodeInLimits, InputNames, OutputNames, InLimits, nodeAt}
 use Rattle.plan.specs.declared.Kind.{Kind}
@@ -12,11 +12,12 @@ use Rattle.plan.specs.declared.Node.{Node}
 use Rattle.plan.specs.declared.Input.{Input}
 use Rattle.plan.specs.declared.Output.{Output}
 use Rattle.plan.specs.declared.Plan.{Plan}
-use Rattle.activity.specs.Copied.{copied, nodes-copied}
+use Rattle.activity.specs.Inner.Copied.{copied}
+use Rattle.activity.specs.Laws.Copied.{nodes-copied}
 use Rattle.times.specs.Limits.{KindFits, NodeFits, ActivityFits, InputFits, StepFits}
 use Rattle.times.specs.declared.Progress.{Progress}
 use Rattle.run_path.specs.Pathed.{ProgressIn}
-use Rattle.run_path.specs.Inner.{emittedOf}
+use Rattle.run_path.specs.Inner.Path.{emittedOf}
 
 pub emitted-nodes : (p : Plan) (o : Output) → nodesOf (emittedOf p o) ≡ emittedBy p o
 unfolding emittedOf

@@ -21,8 +21,8 @@ use Rattle.times.specs.Laws.Kept.{true-false, above-none}
 use Rattle.times.specs.declared.Progress.{Progress}
 use Rattle.times.specs.declared.Schedule.{Schedule}
 use Rattle.run_window.specs.Window.{placed, vacancies}
-use Rattle.run_window.specs.Placed.{vacancies-length}
-use Rattle.run_window.specs.Times.{InTime, AllInTime}
+use Rattle.run_window.specs.Laws.Placed.{vacancies-length}
+use Rattle.run_window.specs.Inner.Times.{InTime, AllInTime}
 use Rattle.run_window.specs.declared.Entry.{Entry}
 use Rattle.run_path.specs.declared.Pathed.{Pathed}
 use Rattle.run_path.specs.Path.{Path, isWork, loaded, entriesFrom, activityNumber, takenBy, entriesBy, after, pathFrom, longestPath}

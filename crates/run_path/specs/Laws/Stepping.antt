@@ -6,7 +6,7 @@ use Prim.Native.Nat.{ℕ, zero, suc, _+_, _-_, _*_, _≤_, _<_}
 use native.Mathlib.Omega.{arith}
 use lib.ListN.{length, replicate}
 use lib.Dec.{eqb}
-use Rattle.basis.specs.Parts.{length-part}
+use Rattle.basis.specs.Laws.PartsHold.{length-part}
 use Rattle.plan.specs.Plan.{pastMove, pastNode, nodesOf, emittedBy, move, movesOf}
 use Rattle.plan.specs.Limits.{InLimits, OutputNames}
 use Rattle.plan.specs.declared.Node.{Node}
@@ -27,7 +27,7 @@ use Rattle.run_window.specs.declared.Entry.{Entry}
 use Rattle.run_path.specs.declared.Pathed.{Pathed}
 use Rattle.run_path.specs.Path.{Path, activityNumber, takenBy, entriesBy, ends, after, pathFrom}
 use Rattle.run_path.specs.Pathed.{ProgressIn, Leads, firsts, pathed}
-use Rattle.run_path.specs.Inner.{emittedOf, put, onto, stopped, step, takenOf}
+use Rattle.run_path.specs.Inner.Path.{emittedOf, put, onto, stopped, step, takenOf}
 use Rattle.run_path.specs.Laws.Collecting.{put-append, put-vacant, entries-few}
 use Rattle.run_path.specs.Laws.Emitting.{emitted-nodes, emitted-fits, step-fits}
 

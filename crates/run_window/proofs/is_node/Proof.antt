@@ -2,7 +2,7 @@
 use mathlib.Core.Path.{sym, _∙_}
 use borrow.Author.Tests.{eq-eqb, ne-eqb}
 use Rattle.run_window.specs.Window.{isNode}
-use Rattle.run_window.specs.Tests.{free-unheld, unfree-held}
+use Rattle.run_window.specs.Laws.Tests.{free-unheld, unfree-held}
 use borrow.Author.Needs.{needs}
 use Rattle.run_window.proofs.is_node.Statement.{statement}
 use Rattle.run_window.proofs.is_node.Tie as tie

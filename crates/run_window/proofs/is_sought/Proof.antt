@@ -1,6 +1,6 @@
 -- `is_sought` is the test of what is sought.
 use mathlib.Core.Path.{subst}
-use Rattle.run_window.specs.Search.{SoughtInTime}
+use Rattle.run_window.specs.Inner.Search.{SoughtInTime}
 use borrow.Author.Needs.{needs}
 use Rattle.run_window.proofs.is_sought.Statement.{statement}
 use Rattle.run_window.proofs.is_sought.Tie as tie

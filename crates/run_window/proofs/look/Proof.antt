@@ -6,7 +6,7 @@ use lib.ListN.{length, drop}
 use Rattle.run_window.specs.declared.Found.{Found}
 use Rattle.run_window.specs.declared.Sought.{Sought}
 use Rattle.run_window.specs.Window.{first}
-use Rattle.run_window.specs.Search.{isSought, sooner}
+use Rattle.run_window.specs.Inner.Search.{isSought, sooner}
 use Rattle.run_window.proofs.Scans.{unmapped, first-none, first-turn}
 use borrow.Author.Needs.{needs}
 use Rattle.run_window.proofs.look.Statement.{statement}

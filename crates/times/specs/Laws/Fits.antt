@@ -8,7 +8,7 @@ use native.Mathlib.Omega.{arith}
 use borrow.Author.Tests.{ltb-true}
 use lib.ListN.{length, getD, set}
 use lib.Dec.{ltb}
-use Rattle.basis.specs.Parts.{length-part}
+use Rattle.basis.specs.Laws.PartsHold.{length-part}
 use Rattle.time.specs.Time.{horizon}
 use Rattle.time.specs.declared.Specified.{Specified}
 use Rattle.plan.specs.Plan.{pastNode, nodesOf}
@@ -23,7 +23,7 @@ use Rattle.times.specs.Times.{specified, at, unscheduled, scheduleOf, or
 use Rattle.times.specs.Queues.{pendingOf, processedOf, floorOf, queuedOf}
 use Rattle.times.specs.Engine.{lastPosition, raisedOf, heldOf, leftBy, leftOf, beyondOf, movedOf, closedOf, emitsOf, timedOf, advanceOf}
 use Rattle.times.specs.Limits.{InputFits, StepFits}
-use Rattle.times.specs.Inner.{Timeable, Leaving}
+use Rattle.times.specs.Inner.Times.{Timeable, Leaving}
 use Rattle.times.specs.Laws.Rounds.{at-set-le, rounds-sound, unscheduled-sound}
 
 pub input-fits : {E : ℕ} (i : Input) → E ≤ 16 → InputFits E i → InputFits 16 i

@@ -12,8 +12,8 @@ use lib.ListN.{length, getD, set}
 use lib.Seq.{getD-set-other}
 use lib.Dec.{ltb}
 use Rattle.basis.specs.Lists.{Among}
-use Rattle.basis.specs.Parts.{among-part, length-part}
 pub use Rattle.basis.specs.Laws.Bools.{clash as true-false}
+use Rattle.basis.specs.Laws.PartsHold.{among-part, length-part}
 use Rattle.time.specs.Time.{horizon}
 use Rattle.time.specs.declared.Specified.{Specified}
 use Rattle.plan.specs.Plan.{pastNode, nodesOf}

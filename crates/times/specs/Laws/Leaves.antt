@@ -5,7 +5,8 @@ use Prim.Native.Nat.{ℕ, _+_, _-_, _*_, _≤_, _<_, max}
 use native.Mathlib.Omega.{arith}
 use borrow.Author.Tests.{lt-ltb, le-ltb}
 use lib.ListN.{getD, set}
-use Rattle.basis.specs.Parts.{part, getD-part}
+use Rattle.basis.specs.Parts.{part}
+use Rattle.basis.specs.Laws.PartsHold.{getD-part}
 use Rattle.time.specs.declared.Specified.{Specified}
 use Rattle.plan.specs.Plan.{pastNode, nodesOf}
 use Rattle.plan.specs.declared.Kind.{Kind}

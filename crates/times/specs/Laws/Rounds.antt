@@ -11,8 +11,9 @@ use lib.ListN.{length, getD, set, length-set, replicate}
 use lib.Dec.{eqb}
 use lib.Seq.{getD-set-other}
 use Rattle.basis.specs.Lists.{Among}
-use Rattle.basis.specs.Parts.{part, part-among, length-part}
+use Rattle.basis.specs.Parts.{part}
 pub use Rattle.basis.specs.Laws.Flags.{falses-set}
+use Rattle.basis.specs.Laws.PartsHold.{part-among, length-part}
 use Rattle.time.specs.Time.{horizon}
 use Rattle.time.specs.declared.Specified.{Specified}
 use Rattle.plan.specs.Plan.{pastNode, predecessors, nodesOf}
@@ -23,7 +24,7 @@ use Rattle.plan.specs.declared.Activity.{Activity}
 use Rattle.times.specs.declared.Schedule.{Schedule}
 use Rattle.times.specs.Times.{specified, at, flag, readyOf, largestOf, startBy, startOf, placedOf, visitOf, roundOf, roundsOf, unscheduled, scheduleOf}
 use Rattle.times.specs.Limits.{KindFits, NodeFits}
-use Rattle.times.specs.Inner.{ArrowsFit, Timeable, Sound, falses}
+use Rattle.times.specs.Inner.Times.{ArrowsFit, Timeable, Sound, falses}
 use Rattle.times.specs.Laws.Loops.{part-step, part-end}
 
 -- ---- numbers that name something

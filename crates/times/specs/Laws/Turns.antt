@@ -16,7 +16,7 @@ use Rattle.plan.specs.declared.Activity.{Activity}
 use Rattle.times.specs.declared.Schedule.{Schedule}
 use Rattle.times.specs.Times.{specified, at, flag, readyOf, largestOf, startBy, startOf, placedOf, visitOf, roundOf, roundsOf, unscheduled, scheduleOf}
 use Rattle.times.specs.Limits.{KindFits}
-use Rattle.times.specs.Inner.{Timeable, Sound, numbers, claimOf, eventOf, startOn, Rounding}
+use Rattle.times.specs.Inner.Times.{Timeable, Sound, numbers, claimOf, eventOf, startOn, Rounding}
 use Rattle.times.specs.Laws.Rounds.{turn, round-end, visit-done, visit-waits, visit-placed, rounds-stop, rounds-on, schedule-begins, unscheduled-sound}
 
 -- ---- what a start looks up

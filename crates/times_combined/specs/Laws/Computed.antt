@@ -18,10 +18,10 @@ use Rattle.plan.specs.declared.Node.{Node}
 use Rattle.plan.specs.Plan.{predecessors}
 use Rattle.activity.specs.Rules.{node, Is, Arrow, Before}
 use Rattle.times_combined.specs.Word.{isEvent}
-use Rattle.times_combined.specs.Accepted.{Good}
+use Rattle.times_combined.specs.Laws.Accepted.{Good}
 use Rattle.times_combined.specs.Combined.{NotClaim}
-use Rattle.times_combined.specs.Engine.{State, raised, Available, Emits, Timed, latest, held}
-use Rattle.times_combined.specs.Exec.{rankOf, beginBy, begin, endBy, endOf, startOf, insert, emitsBelow, emitsOf, isRelease, releasedBelow}
+use Rattle.times_combined.specs.Laws.Engine.{State, raised, Available, Emits, Timed, latest, held}
+use Rattle.times_combined.specs.Laws.Exec.{rankOf, beginBy, begin, endBy, endOf, startOf, insert, emitsBelow, emitsOf, isRelease, releasedBelow}
 use Rattle.times_combined.specs.Laws.Shape.{release-same, event-same}
 use Rattle.times_combined.specs.Laws.Ranks.{rises}
 

@@ -13,9 +13,9 @@ use Rattle.plan.specs.declared.Input.the-variants.{Outcome, Nothing}
 use Rattle.plan.specs.declared.Input.{Input}
 use Rattle.activity.specs.Rules.{node}
 use Rattle.times_combined.specs.Word.{isEvent, emittedIn, emissions, Word, τ, _▷_, size, times}
-use Rattle.times_combined.specs.Accepted.{GoodWord, Enough, Counted}
+use Rattle.times_combined.specs.Laws.Accepted.{GoodWord, Enough, Counted}
 use Rattle.times_combined.specs.Combined.{Ident, named, Instance, processing, combined}
-use Rattle.times_combined.specs.Exec.{insert, emitsBelow, emitsOf, rankOf}
+use Rattle.times_combined.specs.Laws.Exec.{insert, emitsBelow, emitsOf, rankOf}
 use Rattle.times_combined.specs.Laws.Instances.{Listing, instance-cut, next-instance, listing-grows}
 use Rattle.times_combined.specs.Laws.TimesEqual.{empty-listing}
 use Rattle.times_combined.specs.Laws.Unique.{shape-of}

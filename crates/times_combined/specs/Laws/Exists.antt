@@ -8,10 +8,10 @@ use borrow.Author.Tests.{eq-eqb, ne-eqb, le-leb, lt-leb}
 use Rattle.plan.specs.declared.Input.{Input}
 use Rattle.plan.specs.declared.Input.the-variants.{Nothing, Outcome}
 use Rattle.times_combined.specs.Word.{Step, Word, τ, _▷_, size, times}
-use Rattle.times_combined.specs.Accepted.{Good, GoodWord}
+use Rattle.times_combined.specs.Laws.Accepted.{Good, GoodWord}
 use Rattle.times_combined.specs.Combined.{identity, Ident, Instance, combined}
-use Rattle.times_combined.specs.Engine.{State, Trace, Steps, Floor, Run, opens, goes, endAt}
-use Rattle.times_combined.specs.Exec.{emitsOf, oldestOf, floorOf, raisedOf, startsOf, endsOf, nextOf, stateOf, put, traceOf, startIn, endIn}
+use Rattle.times_combined.specs.Laws.Engine.{State, Trace, Steps, Floor, Run, opens, goes, endAt}
+use Rattle.times_combined.specs.Laws.Exec.{emitsOf, oldestOf, floorOf, raisedOf, startsOf, endsOf, nextOf, stateOf, put, traceOf, startIn, endIn}
 use Rattle.times_combined.specs.Laws.Computed.{timed, released, emits}
 use Rattle.times_combined.specs.Laws.Instances.{instance-cut}
 use Rattle.times_combined.specs.Laws.TimesEqual.{Emitted, After, after}

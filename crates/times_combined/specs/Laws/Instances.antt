@@ -10,9 +10,9 @@ use Rattle.basis.specs.Laws.Lists.{among-left, among-right, among-either, cut, 
 use Rattle.plan.specs.declared.Kind.{Kind}
 use Rattle.plan.specs.declared.Kind.the-variants.{Event}
 use Rattle.plan.specs.declared.Node.{Node}
-use Rattle.times_combined.specs.Accepted.{Good}
+use Rattle.times_combined.specs.Laws.Accepted.{Good}
 use Rattle.times_combined.specs.Combined.{Ident, named, Graph, Is, Before, Nodes, completed, Processing, Instance, Joined, Links, sequenced}
-use Rattle.times_combined.specs.Engine.{Emits}
+use Rattle.times_combined.specs.Laws.Engine.{Emits}
 use Rattle.times_combined.specs.Laws.Shape.{place, Shape, completed-shape, node-place, source-place}
 use Rattle.times_combined.specs.Laws.Chains.{to-left, left-kept, from-right, right-kept, in-activity, in-completed}
 use Rattle.activity.specs.Rules as Rules

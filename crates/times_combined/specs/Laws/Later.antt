@@ -12,10 +12,10 @@ use Rattle.plan.specs.declared.Node.{Node}
 use Rattle.plan.specs.Plan.{predecessors}
 use Rattle.activity.specs.Rules.{node}
 use Rattle.times_combined.specs.Word.{Step, Word, τ, _▷_, Begins, here, longer, size}
-use Rattle.times_combined.specs.Accepted.{Good, GoodWord}
+use Rattle.times_combined.specs.Laws.Accepted.{Good, GoodWord}
 use Rattle.times_combined.specs.Combined.{Graph, Ident, named, claimed, freed, NotClaim, Nodes, Joined, Instance, combined, identity}
-use Rattle.times_combined.specs.Engine.{State, Timed, Available}
-use Rattle.times_combined.specs.Exec.{rankOf, oldestOf, floorOf, raisedOf, startsOf, endsOf, nextOf, stateOf, startIn}
+use Rattle.times_combined.specs.Laws.Engine.{State, Timed, Available}
+use Rattle.times_combined.specs.Laws.Exec.{rankOf, oldestOf, floorOf, raisedOf, startsOf, endsOf, nextOf, stateOf, startIn}
 use Rattle.times_combined.specs.Laws.Shape.{place, is-claim, node-place}
 use Rattle.times_combined.specs.Laws.OneActivity.{latest-bound, some-arrow}
 use Rattle.times_combined.specs.Laws.Ranks.{rises}

@@ -14,9 +14,9 @@ use Rattle.plan.specs.Limits.{Brief}
 use Rattle.plan.specs.Plan.{predecessors}
 use Rattle.activity.specs.Rules.{node, Arrow}
 use Rattle.times_combined.specs.Word.{Step}
-use Rattle.times_combined.specs.Accepted.{Good}
+use Rattle.times_combined.specs.Laws.Accepted.{Good}
 use Rattle.times_combined.specs.Combined.{Ident, named, claimed, NotClaim, Graph, Nodes, Arrows, completed}
-use Rattle.times_combined.specs.Engine.{Trace, Stepped, latest, held, startAt, endAt}
+use Rattle.times_combined.specs.Laws.Engine.{Trace, Stepped, latest, held, startAt, endAt}
 use Rattle.times_combined.specs.Laws.Shape.{not-claim, claim-release, claim-same}
 use Rattle.times_combined.specs.Laws.Joining.{Reached, Fresh}
 use Rattle.activity.specs.Rules as Rules

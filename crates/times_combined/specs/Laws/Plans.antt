@@ -4,7 +4,7 @@ use mathlib.Core.List.{List, [], _∷_}
 use Prim.Native.Nat.{ℕ, _*_, _<_}
 use lib.ListN.{length}
 use Rattle.basis.specs.Lists.{Among}
-use Rattle.basis.specs.Parts.{length-part, getD-part}
+use Rattle.basis.specs.Laws.PartsHold.{length-part, getD-part}
 use Rattle.plan.specs.declared.Node.{Node}
 use Rattle.plan.specs.declared.Input.{Input}
 use Rattle.plan.specs.declared.Output.{Output}
@@ -12,7 +12,7 @@ use Rattle.plan.specs.declared.Plan.{Plan}
 use Rattle.plan.specs.Plan.{pastNode, predecessors, sizeOf, activityOf, resourceOf, emittedBy, move}
 use Rattle.plan.specs.Limits.{KindNames, OutputNames, Brief, nodeAt}
 use Rattle.activity.specs.Rules.{node}
-use Rattle.times_combined.specs.Accepted.{Good, GoodWord, Enough, Counted}
+use Rattle.times_combined.specs.Laws.Accepted.{Good, GoodWord, Enough, Counted}
 use Rattle.times_combined.specs.Paths.{wordOf, Follows, Lawful}
 use Rattle.times_combined.specs.Laws.TimesEqual.{good-empty}
 

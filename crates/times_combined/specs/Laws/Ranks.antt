@@ -11,9 +11,9 @@ use Rattle.basis.specs.Laws.Lists.{fewer, upto, among-upto, length-upto}
 use Rattle.plan.specs.declared.Node.{Node}
 use Rattle.plan.specs.Plan.{predecessors}
 use Rattle.activity.specs.Rules.{node, Arrow, Before}
-use Rattle.times_combined.specs.Accepted.{Good}
-use Rattle.times_combined.specs.Engine.{latest}
-use Rattle.times_combined.specs.Exec.{depth, rankOf}
+use Rattle.times_combined.specs.Laws.Accepted.{Good}
+use Rattle.times_combined.specs.Laws.Engine.{latest}
+use Rattle.times_combined.specs.Laws.Exec.{depth, rankOf}
 use Rattle.times_combined.specs.Laws.OneActivity.{latest-bound}
 
 differ-pred : (C D : ℕ → ℕ) (ms : List ℕ) → (latest C ms ≡ latest D ms → ⊥) → (m : ℕ) × Among m ms × (C m ≡ D m → ⊥)

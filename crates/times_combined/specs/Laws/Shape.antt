@@ -9,7 +9,7 @@ use Rattle.plan.specs.declared.Kind.{Kind}
 use Rattle.plan.specs.declared.Kind.the-variants.{Action, Claim, Release, Event}
 use Rattle.plan.specs.declared.Node.{Node}
 use Rattle.activity.specs.Rules.{node, Unnamed}
-use Rattle.times_combined.specs.Accepted.{Good}
+use Rattle.times_combined.specs.Laws.Accepted.{Good}
 use Rattle.times_combined.specs.Combined.{Ident, named, claimed, freed, NotClaim, NotRelease, Graph, Is, Nodes, Arrows, completed, Processing, Joined, Links, sequenced}
 
 abbrev pub place : Ident → ℕ

@@ -20,10 +20,10 @@ use Rattle.plan.specs.declared.Input.the-variants.{Nothing, Outcome}
 use Rattle.plan.specs.Limits.{Brief}
 use Rattle.activity.specs.Rules.{node, Unnamed, Meets}
 use Rattle.times_combined.specs.Word.{Step, Word, τ, _▷_, size, once, times}
-use Rattle.times_combined.specs.Accepted.{Good, GoodWord}
+use Rattle.times_combined.specs.Laws.Accepted.{Good, GoodWord}
 use Rattle.times_combined.specs.Combined.{Ident, named, claimed, freed, NotClaim, Graph, Is, Before, Nodes, Arrows, completed, instance, Instance, Joined, processing, combined}
 use Rattle.times_combined.specs.Times.{Largest, Timing}
-use Rattle.times_combined.specs.Engine.{Available, Trace, Stepped, Floor, taken, behind, latest, Run, opens, goes, startAt, endAt}
+use Rattle.times_combined.specs.Laws.Engine.{Available, Trace, Stepped, Floor, taken, behind, latest, Run, opens, goes, startAt, endAt}
 use Rattle.times_combined.specs.Laws.Shape.{Shape, completed-shape, sequenced-shape, right-release, node-place, claim-same}
 use Rattle.times_combined.specs.Laws.Joining.{Attained, Known, Floored, whole}
 use Rattle.times_combined.specs.Laws.OneActivity.{OneOf, latest-bound, latest-reached, engine-fresh}

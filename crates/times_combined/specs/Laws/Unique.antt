@@ -10,10 +10,10 @@ use Rattle.plan.specs.declared.Kind.{Kind}
 use Rattle.plan.specs.declared.Kind.the-variants.{Claim, Release}
 use Rattle.activity.specs.Rules.{node, Arrow}
 use Rattle.times_combined.specs.Word.{Begins, here, longer, Step, Word, τ, _▷_, size}
-use Rattle.times_combined.specs.Accepted.{GoodWord}
+use Rattle.times_combined.specs.Laws.Accepted.{GoodWord}
 use Rattle.times_combined.specs.Combined.{Ident, named, claimed, NotClaim, NotRelease, Graph, Before, Nodes, completed, Joined, Links, processing, combined}
 use Rattle.times_combined.specs.Times.{Largest, Timing}
-use Rattle.times_combined.specs.Exec.{rankOf}
+use Rattle.times_combined.specs.Laws.Exec.{rankOf}
 use Rattle.times_combined.specs.Laws.Shape.{place, is-release, Shape, completed-shape, sequenced-shape, node-place, left-arrow}
 use Rattle.times_combined.specs.Laws.Chains.{from-arrow, ends}
 use Rattle.times_combined.specs.Laws.Ranks.{rises}

@@ -15,7 +15,7 @@ use Rattle.time.specs.declared.Specified.{Specified}
 use Rattle.plan.specs.Plan.{pastNode, predecessors}
 use Rattle.plan.specs.declared.Node.{Node}
 use Rattle.activity.specs.Rules.{node, Arrow, Before}
-use Rattle.times_combined.specs.Exec.{rankOf}
+use Rattle.times_combined.specs.Laws.Exec.{rankOf}
 use Rattle.times_combined.specs.Laws.Ranks.{ranked}
 use Rattle.times.specs.declared.Schedule.{Schedule}
 use Rattle.times.specs.Times.{readyOf, startOf, placedOf, visitOf, roundOf, roundsOf, unscheduled, scheduleOf}

@@ -16,8 +16,8 @@ use Rattle.plan.specs.declared.Kind.{Kind}
 use Rattle.plan.specs.declared.Node.{Node}
 use Rattle.activity.specs.Rules.{node, Is, Before}
 use Rattle.times_combined.specs.Word.{isEvent, emittedIn}
-use Rattle.times_combined.specs.Engine.{Emits}
-use Rattle.times_equal.specs.Seen.{ofEvent}
+use Rattle.times_combined.specs.Laws.Engine.{Emits}
+use Rattle.times_equal.specs.Laws.Seen.{ofEvent}
 
 -- ---- the test for an event
 

@@ -16,14 +16,14 @@ use Rattle.plan.specs.declared.Kind.{Kind}
 use Rattle.plan.specs.declared.Node.{Node}
 use Rattle.activity.specs.Rules.{node}
 use Rattle.times_combined.specs.Word.{isEvent}
-use Rattle.times_combined.specs.Engine.{latest}
+use Rattle.times_combined.specs.Laws.Engine.{latest}
 use Rattle.times_combined.specs.Laws.Shape.{release-same}
 use Rattle.times.specs.declared.Progress.{Progress}
 use Rattle.times.specs.Times.{specified, at}
 use Rattle.times.specs.Queues.{pendingOf, queueOf, emission, queuedOf}
 use Rattle.times.specs.Engine.{completedOf, raisedOf, leftBy, leftOf}
 use Rattle.times.specs.Laws.Fits.{left-position-by}
-use Rattle.times_equal.specs.Seen.{ofEvent, instances, Whole}
+use Rattle.times_equal.specs.Laws.Seen.{ofEvent, instances, Whole}
 use Rattle.times_equal.specs.Laws.Queue.{joined-queue, joined-length, other-length, other-queue, queued-whole, queued-available, queued-latest}
 
 -- ---- every resource raised

@@ -10,11 +10,12 @@ use native.Mathlib.Decide.{ℕ-discrete}
 use lib.ListN.{length, set, length-set, replicate}
 use lib.Seq.{getD-set-same, getD-set-other}
 use Rattle.basis.specs.Lists.{Among, Distinct}
-use Rattle.basis.specs.Parts.{part, length-part}
+use Rattle.basis.specs.Parts.{part}
 use Rattle.basis.specs.Laws.Lists.{among-left, among-right, among-either, fewer, distinct-both, seam, cut, upto, among-upto, length-upto, cut-one}
 use Rattle.basis.specs.Laws.Parts.{part-snoc}
 use Rattle.basis.specs.Laws.Bools.{clash}
 use Rattle.basis.specs.Tests.{flag}
+use Rattle.basis.specs.Laws.PartsHold.{length-part}
 use Rattle.time.specs.declared.Specified.{Specified}
 use Rattle.plan.specs.Plan.{predecessors}
 use Rattle.plan.specs.declared.Node.{Node}

@@ -7,7 +7,7 @@ use native.Mathlib.Omega.{arith}
 use borrow.Author.Tests.{eq-eqb, ne-eqb}
 use lib.ListN.{length}
 use lib.Dec.{eqb}
-use Rattle.basis.specs.Parts.{length-part}
+use Rattle.basis.specs.Laws.PartsHold.{length-part}
 use Rattle.plan.specs.declared.Kind.{Kind}
 use Rattle.plan.specs.declared.Node.{Node}
 use Rattle.plan.specs.declared.Output.{Output}
@@ -18,15 +18,15 @@ use Rattle.activity.specs.Rules.{Is}
 use Rattle.times_combined.specs.Word.{times, emissions}
 use Rattle.times_combined.specs.Combined.{Ident, identity, combined}
 use Rattle.times_combined.specs.Times.{Timing}
-use Rattle.times_combined.specs.Engine.{Run, endAt}
+use Rattle.times_combined.specs.Laws.Engine.{Run, endAt}
 use Rattle.times_combined.specs.Paths.{wordOf, Follows, Lawful}
-use Rattle.times_combined.specs.Theorems.{one-solution}
+use Rattle.times_combined.specs.Laws.Theorems.{one-solution}
 use Rattle.times_combined.specs.Laws.TimesEqual.{Equal}
 use Rattle.times_combined.specs.Laws.Plans.{good-path, counted-path, node-is}
 use Rattle.times.specs.declared.Progress.{Progress}
 use Rattle.times.specs.Times.{at}
 use Rattle.times.specs.Engine.{takenBy}
-use Rattle.times_equal.specs.Words.{Engine, opened, advanced, Opening, Fitting, Few, traceBy, engine-run, engine-equal}
+use Rattle.times_equal.specs.Laws.Words.{Engine, opened, advanced, Opening, Fitting, Few, traceBy, engine-run, engine-equal}
 use Rattle.times_combined.specs.Combined as Combined
 use Rattle.times_equal.specs.Plans.{places, progressAfter, scheduleAt}
 

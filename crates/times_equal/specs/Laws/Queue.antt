@@ -13,13 +13,13 @@ use borrow.Author.Tests.{lt-ltb, ltb-true, eq-eqb, ne-eqb}
 use Rattle.basis.specs.Parts.{part}
 use Rattle.basis.specs.Laws.Parts.{part-same, part-set-apart, part-snoc}
 use Rattle.plan.specs.declared.Input.{Input}
-use Rattle.times_combined.specs.Engine.{Floor, behind, taken}
+use Rattle.times_combined.specs.Laws.Engine.{Floor, behind, taken}
 use Rattle.times.specs.declared.Instance.{Instance}
 use Rattle.times.specs.declared.Progress.{Progress}
 use Rattle.times.specs.Queues.{noInstance, pendingOf, queueOf, shiftedOf, oldestGone, processedOf, floorOf, queuedOf}
 use Rattle.times.specs.Laws.Places.{shifted-outside, shifted-inside}
 use Rattle.times.specs.Laws.Fits.{by-test}
-use Rattle.times_equal.specs.Seen.{completion, seen, Whole, Pending}
+use Rattle.times_equal.specs.Laws.Seen.{completion, seen, Whole, Pending}
 
 -- an event of which one is pending has a queue
 pub has-queue : (g : Progress) (e : ℕ) → Whole g → 0 < pendingOf g e → e < 16

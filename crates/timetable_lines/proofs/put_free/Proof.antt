@@ -1,6 +1,6 @@
 -- The word, then the times and the newline.
-use Rattle.timetable_lines.specs.Laws.{free-is}
-use Rattle.wire.specs.Puts.{puts-join}
+use Rattle.timetable_lines.specs.Laws.Lines.{free-is}
+use Rattle.wire.specs.Laws.Puts.{puts-join}
 use borrow.Author.Needs.{needs}
 use Rattle.timetable_lines.proofs.put_free.Statement.{statement}
 use Rattle.timetable_lines.proofs.put_free.Tie as tie

@@ -1,6 +1,6 @@
 -- The loop over the times: what is left is put after what was put.
-use Rattle.timetable_lines.specs.Laws.{spaced, spaced-turn, spaced-end, Remains, remains-all, remains-less}
-use Rattle.timetable_text.specs.Digits.{decimal-length}
+use Rattle.timetable_lines.specs.Laws.Lines.{spaced, spaced-turn, spaced-end, Remains, remains-all, remains-less}
+use Rattle.timetable_text.specs.Laws.Digits.{decimal-length}
 use Rattle.times.specs.Times.{specified}
 use Rattle.basis.specs.Parts.{part}
 use lib.ListN.{length, getD}

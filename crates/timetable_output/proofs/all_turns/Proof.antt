@@ -6,10 +6,10 @@ use Prim.Native.Nat.{ℕ, _+_, _*_, _<_}
 use native.Mathlib.Omega.{arith}
 use lib.ListN.{length, getD}
 use Rattle.timetable_steps.specs.declared.Heard.{Heard}
-use Rattle.timetable_steps.specs.Steps.{pastWay, pastActivity, placeOf}
-use Rattle.timetable_turns.specs.Turn.{waitsOf}
+use Rattle.timetable_steps.specs.Inner.Steps.{pastWay, pastActivity, placeOf}
+use Rattle.timetable_turns.specs.Inner.Turn.{waitsOf}
 use Rattle.timetable_turns.specs.Laws.Stepping.{turn-parts, step-output, step-fitting, asks, step-asks}
-use Rattle.timetable_output.specs.Between.{Held, Stands, Prints}
+use Rattle.timetable_output.specs.Inner.Between.{Held, Stands, Prints}
 use Rattle.timetable_output.proofs.Turning.{between, put-few, put-count, drafts-as, goes, goes-less, stands-asked}
 use Rattle.timetable_output.proofs.Printing.{prints-same, prints-none, prints-turn, prints-join, ends-lost, ends-whole}
 use borrow.Author.Needs.{needs}

@@ -4,7 +4,7 @@ use native.Mathlib.Omega.{arith}
 use mathlib.Core.Bool.{false}
 use denote.Ref.{now}
 use Rattle.judge.specs.Judge.{judgeOf}
-use Rattle.timetable_turns.specs.Turn.{firstText}
+use Rattle.timetable_turns.specs.Inner.Turn.{firstText}
 use Rattle.timetable_turns.specs.Laws.Short.{first-short}
 use Rattle.timetable_output.proofs.Printing.{gathers-first, printed-refused, printed-all}
 use borrow.Author.Needs.{needs}

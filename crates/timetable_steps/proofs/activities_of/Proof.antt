@@ -2,7 +2,7 @@
 use mathlib.Core.Path.{refl}
 use Prim.Native.Nat.{_-_, _≤_}
 use native.Mathlib.Omega.{arith}
-use Rattle.timetable_steps.specs.Laws.{Copies, copies-more, emits}
+use Rattle.timetable_steps.specs.Laws.Steps.{Copies, copies-more, emits}
 use borrow.Author.Needs.{needs}
 use Rattle.timetable_steps.proofs.activities_of.Statement.{statement}
 use Rattle.timetable_steps.proofs.activities_of.Tie as tie

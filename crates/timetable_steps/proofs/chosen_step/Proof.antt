@@ -5,7 +5,7 @@ use Prim.Native.Nat.{ℕ}
 use native.Mathlib.Omega.{arith}
 use Rattle.plan.specs.Plan.{move}
 use Rattle.timetable_steps.specs.declared.Step.{Step}
-use Rattle.timetable_steps.specs.Steps.{Below, chosenStep}
+use Rattle.timetable_steps.specs.Inner.Steps.{Below, chosenStep}
 use borrow.Author.Needs.{needs}
 use Rattle.timetable_steps.proofs.chosen_step.Statement.{statement}
 use Rattle.timetable_steps.proofs.chosen_step.Tie as tie

@@ -2,8 +2,8 @@
 use mathlib.Core.Path.{ap, _∙_, subst}
 use Prim.Native.Nat.{ℕ, _≤_, _<_}
 use lib.ListN.{getD}
-use Rattle.timetable_steps.specs.Steps.{chosenStep}
-use Rattle.timetable_steps.specs.Laws.{below, heard-had, heard-lacked}
+use Rattle.timetable_steps.specs.Inner.Steps.{chosenStep}
+use Rattle.timetable_steps.specs.Laws.Steps.{below, heard-had, heard-lacked}
 use borrow.Author.Needs.{needs}
 use Rattle.timetable_steps.proofs.heard_step.Statement.{statement}
 use Rattle.timetable_steps.proofs.heard_step.Tie as tie

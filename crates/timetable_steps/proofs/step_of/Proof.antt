@@ -5,7 +5,7 @@ use Prim.Native.Nat.{ℕ}
 use native.Mathlib.Omega.{arith}
 use Rattle.plan.specs.Plan.{move}
 use Rattle.timetable_steps.specs.declared.Step.{Step}
-use Rattle.timetable_steps.specs.Laws.{goes-below, step-as}
+use Rattle.timetable_steps.specs.Laws.Steps.{goes-below, step-as}
 use borrow.Author.Needs.{needs}
 use Rattle.timetable_steps.proofs.step_of.Statement.{statement}
 use Rattle.timetable_steps.proofs.step_of.Tie as tie

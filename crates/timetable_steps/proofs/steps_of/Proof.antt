@@ -2,8 +2,8 @@
 use mathlib.Core.Path.{_≡_, refl, ap, _∙_}
 use Prim.Native.Nat.{_+_, _-_, _*_, _/_, _≤_}
 use native.Mathlib.Omega.{arith}
-use Rattle.timetable_steps.specs.Steps.{stepOf}
-use Rattle.timetable_steps.specs.Laws.{Filled, named, filled-more, looks}
+use Rattle.timetable_steps.specs.Inner.Steps.{stepOf}
+use Rattle.timetable_steps.specs.Laws.Steps.{Filled, named, filled-more, looks}
 use borrow.Author.Needs.{needs}
 use Rattle.timetable_steps.proofs.steps_of.Statement.{statement}
 use Rattle.timetable_steps.proofs.steps_of.Tie as tie

@@ -2,7 +2,7 @@
 use native.Mathlib.Omega.{arith}
 use denote.Ref.{now}
 use mathlib.Core.Path.{_∙_}
-use Rattle.timetable_text.specs.Digits.{digits-length}
+use Rattle.timetable_text.specs.Laws.Digits.{digits-length}
 use Rattle.timetable_text.proofs.Turns.{put-none, put-small, put-more}
 use Prim.Native.Nat.{ℕ, _-_, _/_, _<_}
 use borrow.Fn.Kinds.{In}

@@ -1,6 +1,6 @@
 -- The space, then the number.
 use borrow.Author.Needs.{needs}
-use Rattle.wire.specs.Puts.{puts-join}
+use Rattle.wire.specs.Laws.Puts.{puts-join}
 use Rattle.timetable_text.proofs.put_after_space.Statement.{statement}
 use Rattle.timetable_text.proofs.put_after_space.Tie as tie
 use Rattle.timetable_text.proofs.put_after_space.Reads as reads

@@ -1,6 +1,6 @@
 -- `first_line` meets its contract: by the verdict. Assumes nothing.
 use mathlib.Core.Path.{sym, ap}
-use Rattle.timetable_turns.specs.Turn.{firstText}
+use Rattle.timetable_turns.specs.Inner.Turn.{firstText}
 use Rattle.timetable_turns.specs.Laws.Lent.{lends-as}
 use Rattle.timetable_turns.proofs.Begins.{lends-refused}
 use borrow.Author.Needs.{needs}

@@ -1,6 +1,6 @@
 -- `header_line` meets its contract. Assumes nothing.
 use native.Mathlib.Omega.{arith}
-use Rattle.timetable_lines.specs.Laws.{header-length}
+use Rattle.timetable_lines.specs.Laws.Lines.{header-length}
 use Rattle.timetable_turns.specs.Laws.Lent.{lends-front, front-there}
 use borrow.Author.Needs.{needs}
 use Rattle.timetable_turns.proofs.header_line.Statement.{statement}

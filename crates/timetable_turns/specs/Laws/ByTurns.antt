@@ -28,7 +28,7 @@ use Rattle.run_outcomes.specs.Way.{onChosen}
 use Rattle.timetable_lines.specs.Lines.{header, rows, ended, waiting, refused}
 use Rattle.timetable_steps.specs.declared.Heard.{Heard}
 use Rattle.timetable_turns.specs.Timetable.{Move, onMove, moveBy, hear, tableFrom, positions, textOfPlan, judgedText, timetableOf}
-use Rattle.timetable_turns.specs.Turn.{OneTurn, closes, takes, chooses, hears, turnBy, turnOf, isWaiting, waitsOf, headOf, readAfter, leftAfter, turnsFrom, mostTurns, isRefused, firstText, firstProgress}
+use Rattle.timetable_turns.specs.Inner.Turn.{OneTurn, closes, takes, chooses, hears, turnBy, turnOf, isWaiting, waitsOf, headOf, readAfter, leftAfter, turnsFrom, mostTurns, isRefused, firstText, firstProgress}
 
 -- ---- the position
 

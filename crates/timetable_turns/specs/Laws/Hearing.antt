@@ -14,7 +14,7 @@ use Rattle.times.specs.declared.Progress.{Progress}
 use Rattle.run_path.specs.Path.{takenBy, entriesBy}
 use Rattle.timetable_lines.specs.Lines.{rows, refused}
 use Rattle.timetable_steps.specs.declared.Heard.{Heard}
-use Rattle.timetable_turns.specs.Turn.{OneTurn, closes, takes, chooses, hears, turnBy, turnOf, isWaiting, waitsOf, headOf, readAfter, restOf, leftAfter, turnsFrom}
+use Rattle.timetable_turns.specs.Inner.Turn.{OneTurn, closes, takes, chooses, hears, turnBy, turnOf, isWaiting, waitsOf, headOf, readAfter, restOf, leftAfter, turnsFrom}
 use Rattle.timetable_turns.specs.Laws.ByTurns.{never, unheard}
 
 -- ---- whether a byte is taken

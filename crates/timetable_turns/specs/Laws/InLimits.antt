@@ -11,7 +11,7 @@ use Rattle.plan.specs.declared.Plan.{Plan}
 use Rattle.plan.specs.declared.PlanRead.{PlanRead}
 use Rattle.plan.specs.declared.Verdict.{Verdict}
 use Rattle.judge.specs.Judge.{accepted, judgeOf}
-use Rattle.judge.specs.Laws.{passed, read-limits}
+use Rattle.judge.specs.Laws.Judge.{passed, read-limits}
 use Rattle.automaton.specs.Next.{nextOf, chosenOf}
 use Rattle.automaton.specs.declared.Next.{Next}
 use Rattle.automaton.specs.declared.Chosen.{Chosen}
@@ -20,11 +20,11 @@ use Rattle.run_path.specs.Path.{takenBy, entriesBy}
 use Rattle.run_path.specs.Pathed.{Leads}
 use Rattle.run_path.specs.Laws.Stepping.{next-leads, taken-kept}
 use Rattle.run_opening.specs.Given.{anyAbove}
-use Rattle.run_opening.specs.Laws.{first-in}
+use Rattle.run_opening.specs.Laws.Given.{first-in}
 use Rattle.timetable_lines.specs.Lines.{rows, refused}
-use Rattle.timetable_steps.specs.Laws.{chosen-below}
+use Rattle.timetable_steps.specs.Laws.Steps.{chosen-below}
 use Rattle.timetable_steps.specs.declared.Heard.{Heard}
-use Rattle.timetable_turns.specs.Turn.{OneTurn, closes, takes, chooses, hears, turnBy, turnOf, firstProgress, Open}
+use Rattle.timetable_turns.specs.Inner.Turn.{OneTurn, closes, takes, chooses, hears, turnBy, turnOf, firstProgress, Open}
 use Rattle.timetable_turns.specs.Laws.ByTurns.{never}
 
 -- ---- before the first turn

@@ -7,7 +7,8 @@ use native.Mathlib.Omega.{arith}
 use borrow.Author.Tests.{le-leb, lt-leb}
 use lib.ListN.{length, take, drop}
 use lib.Seq.{sets, sets-eq, length-take-le, take-append-seam}
-use Rattle.wire.specs.Puts.{Puts, puts-length}
+use Rattle.wire.specs.Puts.{Puts}
+use Rattle.wire.specs.Laws.Puts.{puts-length}
 use Rattle.timetable_turns.specs.declared.Put.{Put}
 use Rattle.timetable_turns.specs.Lent.{putOf, bufferOf, pastOf, Lends}
 

@@ -6,7 +6,7 @@ use Prim.Native.Nat.{ℕ, suc, _+_, _*_, _≤_, _<_}
 use native.Mathlib.Omega.{arith}
 use lib.Dec.{ltb}
 use lib.ListN.{length, length-append}
-use Rattle.basis.specs.Parts.{length-part}
+use Rattle.basis.specs.Laws.PartsHold.{length-part}
 use Rattle.plan.specs.Plan.{outcomesOf, emittedBy, move, pastNode}
 use Rattle.plan.specs.Limits.{InLimits, OutputNames}
 use Rattle.plan.specs.Fault.{numberOf}
@@ -21,14 +21,14 @@ use Rattle.times.specs.declared.Progress.{Progress}
 use Rattle.times.specs.declared.Schedule.{Schedule}
 use Rattle.run_path.specs.Path.{isWork, loaded, activityNumber, entriesFrom, takenBy, entriesBy}
 use Rattle.run_path.specs.Pathed.{Leads}
-use Rattle.run_path.specs.Inner.{emittedOf}
+use Rattle.run_path.specs.Inner.Path.{emittedOf}
 use Rattle.run_path.specs.Laws.Emitting.{emitted-nodes, emitted-fits}
 use Rattle.run_path.specs.Laws.Stepping.{next-leads}
 use Rattle.timetable_lines.specs.Lines.{row, rows, refused}
-use Rattle.timetable_lines.specs.Laws.{header-length, row-within, ended-length, waiting-length, refused-length}
+use Rattle.timetable_lines.specs.Laws.Lines.{header-length, row-within, ended-length, waiting-length, refused-length}
 use Rattle.timetable_steps.specs.declared.Heard.{Heard}
-use Rattle.timetable_steps.specs.Laws.{chosen-below}
-use Rattle.timetable_turns.specs.Turn.{closes, takes, chooses, hears, turnBy, turnOf, firstText, Open}
+use Rattle.timetable_steps.specs.Laws.Steps.{chosen-below}
+use Rattle.timetable_turns.specs.Inner.Turn.{closes, takes, chooses, hears, turnBy, turnOf, firstText, Open}
 
 -- ---- rows
 

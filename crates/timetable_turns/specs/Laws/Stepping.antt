@@ -15,17 +15,17 @@ use Rattle.automaton.specs.declared.Next.{Next}
 use Rattle.automaton.specs.declared.Chosen.{Chosen}
 use Rattle.times.specs.Limits.{StepFits}
 use Rattle.times.specs.declared.Progress.{Progress}
-use Rattle.run_path.specs.Inner.{emittedOf}
+use Rattle.run_path.specs.Inner.Path.{emittedOf}
 use Rattle.run_path.specs.Laws.Emitting.{emitted-nodes, step-fits}
 use Rattle.run_path.specs.Laws.Stepping.{next-leads}
 use Rattle.run_path.specs.Pathed.{Leads}
 use Rattle.timetable_lines.specs.Lines.{refused}
 use Rattle.timetable_steps.specs.declared.Heard.{Heard}
 use Rattle.timetable_steps.specs.declared.Step.{Step}
-use Rattle.timetable_steps.specs.Steps.{chosenStep, heardStep, nextStep, stepOf, outputOf}
-use Rattle.timetable_steps.specs.Laws.{chosen-below}
-use Rattle.timetable_turns.specs.Turn.{OneTurn, closes, takes, chooses, hears, turnBy, turnOf, isWaiting, waitsOf, Open}
-use Rattle.timetable_turns.specs.Stepped.{taking, stepped}
+use Rattle.timetable_steps.specs.Inner.Steps.{chosenStep, heardStep, nextStep, stepOf, outputOf}
+use Rattle.timetable_steps.specs.Laws.Steps.{chosen-below}
+use Rattle.timetable_turns.specs.Inner.Turn.{OneTurn, closes, takes, chooses, hears, turnBy, turnOf, isWaiting, waitsOf, Open}
+use Rattle.timetable_turns.specs.Inner.Stepped.{taking, stepped}
 use Rattle.timetable_turns.specs.Laws.ByTurns.{never}
 
 -- ---- the turn

@@ -14,9 +14,9 @@ use Rattle.times.specs.declared.Progress.{Progress}
 use Rattle.timetable_lines.specs.Lines.{refused}
 use Rattle.timetable_steps.specs.declared.Heard.{Heard}
 use Rattle.timetable_turns.specs.declared.Place.{Place}
-use Rattle.timetable_turns.specs.Turn.{OneTurn, turnOf, headOf, readAfter, restOf, leftAfter, turnsFrom}
+use Rattle.timetable_turns.specs.Inner.Turn.{OneTurn, turnOf, headOf, readAfter, restOf, leftAfter, turnsFrom}
 use Rattle.timetable_turns.specs.Timetable.{textOfPlan, timetableOf}
-use Rattle.timetable_turns.specs.Whole.{leftText}
+use Rattle.timetable_turns.specs.Inner.Whole.{leftText}
 
 -- ---- the next byte
 

@@ -1,7 +1,7 @@
 -- A number of eight bytes is made of two numbers of four.
 use native.Mathlib.Omega.{arith}
 use mathlib.Core.Path.{_≡_, refl, sym, _∙_, ap}
-use Rattle.wire.specs.Fields.{little-eight}
+use Rattle.wire.specs.Laws.Fields.{little-eight}
 use denote.Ref.{now}
 use borrow.Author.Needs.{needs}
 use Rattle.wire.proofs.eight.Statement.{statement}

@@ -1,7 +1,7 @@
 -- A number of four bytes is made of two numbers of two.
 use native.Mathlib.Omega.{arith}
 use mathlib.Core.Path.{_≡_, refl, sym, _∙_, ap}
-use Rattle.wire.specs.Fields.{little-four}
+use Rattle.wire.specs.Laws.Fields.{little-four}
 use denote.Ref.{now}
 use borrow.Author.Needs.{needs}
 use Rattle.wire.proofs.four.Statement.{statement}

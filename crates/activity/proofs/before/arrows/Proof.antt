@@ -8,8 +8,9 @@ use lib.ListN.{length, getD, length-set}
 use lib.Seq.{getD-set-same, getD-set-other}
 use Rattle.basis.specs.Lists.{Among}
 use Rattle.plan.specs.Plan.{pastNode, predecessors}
-use Rattle.activity.specs.Bits.{Bit, no-bit, lt-or-ge, zeros}
-use Rattle.activity.specs.Closure.{Rel}
+use Rattle.activity.specs.Inner.Bits.{Bit}
+use Rattle.activity.specs.Laws.Bits.{no-bit, lt-or-ge, zeros}
+use Rattle.activity.specs.Inner.Closure.{Rel}
 use Rattle.activity.proofs.Places.{count-of, arrow-of}
 use borrow.Author.Needs.{needs}
 use Rattle.activity.proofs.before.arrows.Statement.{statement}

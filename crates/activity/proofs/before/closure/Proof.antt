@@ -6,7 +6,7 @@ use native.Mathlib.Omega.{arith}
 use lib.ListN.{length}
 use Rattle.plan.specs.Plan.{nodesOf}
 use Rattle.plan.specs.declared.Node.{Node}
-use Rattle.activity.specs.Closure.{Closing, opening, passing, shut}
+use Rattle.activity.specs.Laws.Closure.{Closing, opening, passing, shut}
 use Rattle.activity.proofs.Places.{count-of}
 use borrow.Author.Needs.{needs}
 use Rattle.activity.proofs.before.closure.Statement.{statement}

@@ -5,7 +5,8 @@ use mathlib.Core.Logic.{_↔_, inl, inr, ⊎-elim}
 use native.Mathlib.Nat.{eq-or-lt-of-le}
 use native.Mathlib.Omega.{arith}
 use lib.ListN.{getD}
-use Rattle.activity.specs.Bits.{Bit, no-bit}
+use Rattle.activity.specs.Inner.Bits.{Bit}
+use Rattle.activity.specs.Laws.Bits.{no-bit}
 use Rattle.activity.proofs.Places.{listed}
 use borrow.Author.Needs.{needs}
 use Rattle.activity.proofs.before.row_of.Statement.{statement}

@@ -3,8 +3,8 @@ use Prim.Native.Nat.{_<_, _≤_, _-_}
 use mathlib.Core.Path.{_≡_}
 use native.Mathlib.Omega.{arith}
 use denote.Ref.{now}
-use Rattle.activity.specs.Sight.{Marks}
-use Rattle.activity.specs.Closure.{Rel}
+use Rattle.activity.specs.Inner.Sight.{Marks}
+use Rattle.activity.specs.Inner.Closure.{Rel}
 use Rattle.activity.proofs.Marking.{nothing-marked, one-more-marked}
 use borrow.Author.Needs.{needs}
 use Rattle.activity.proofs.nodes.after.Statement.{statement}

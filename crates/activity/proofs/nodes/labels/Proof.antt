@@ -7,7 +7,7 @@ use lib.ListN.{length, getD, length-set}
 use lib.Seq.{getD-set-same, getD-set-other}
 use Rattle.plan.specs.Plan.{pastNode}
 use Rattle.activity.proofs.Places.{labels-of}
-use Rattle.activity.specs.Sight.{labelOf}
+use Rattle.activity.specs.Inner.Sight.{labelOf}
 use borrow.Author.Needs.{needs}
 use Rattle.activity.proofs.nodes.labels.Statement.{statement}
 use Rattle.activity.proofs.nodes.labels.Tie as tie

@@ -2,7 +2,7 @@
 use mathlib.Core.Path.{sym, ap, _∙_}
 use denote.Ref.{now}
 use Prim.Native.Nat.{ℕ, _*_, _+_}
-use Rattle.activity.specs.Sight.{labelOf, heldOf}
+use Rattle.activity.specs.Inner.Sight.{labelOf, heldOf}
 use Rattle.activity.proofs.Seeing.{label-marks, after-marks}
 use borrow.Author.Needs.{needs}
 use Rattle.activity.proofs.nodes.look.Statement.{statement}

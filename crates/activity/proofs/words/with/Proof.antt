@@ -2,7 +2,7 @@
 use borrow.Author.Needs.{needs}
 use mathlib.Core.Logic.{inl, inr, ⊎-elim}
 use Prim.Native.Nat.{_*_, _^_, _%_}
-use Rattle.activity.specs.Bits.{or-iff, shl-iff}
+use Rattle.activity.specs.Laws.Bits.{or-iff, shl-iff}
 use Rattle.activity.proofs.words.with.Statement.{statement}
 use Rattle.activity.proofs.words.with.Tie as tie
 

@@ -1,8 +1,9 @@
 -- `advance` sets the counts of one state event by event.
-use Rattle.automaton.specs.Passes.{advance-starts, advance-from, advance-steps, Advanced}
+use Rattle.automaton.specs.Laws.Passes.{advance-starts, advance-from, advance-steps}
+use Rattle.automaton.specs.Inner.Passes.{Advanced}
 use denote.Ref.{now}
-use Rattle.automaton_counts.specs.Emits.{gives-few}
-use Rattle.automaton_counts.specs.Emits.{gives}
+use Rattle.automaton_counts.specs.Laws.Emits.{gives-few}
+use Rattle.automaton_counts.specs.Inner.Emits.{gives}
 use Prim.Native.Nat.{_+_, _*_, _-_, _≤_}
 use mathlib.Core.Path.{_≡_}
 use native.Mathlib.Omega.{arith}

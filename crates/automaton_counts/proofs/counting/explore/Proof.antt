@@ -1,7 +1,8 @@
 -- Each pass of `explore` that reaches a state leaves fewer; what the last one leaves is known.
-use Rattle.automaton_counts.specs.Emits.{gives}
+use Rattle.automaton_counts.specs.Inner.Emits.{gives}
 use Rattle.automaton.specs.Number.{falses}
-use Rattle.automaton.specs.Passes.{going-starts, going-round, going-ends, Going}
+use Rattle.automaton.specs.Laws.Passes.{going-starts, going-round, going-ends}
+use Rattle.automaton.specs.Inner.Passes.{Going}
 use borrow.Author.Tests.{not-true, not-false}
 use mathlib.Core.Bool.{false}
 use mathlib.Core.Path.{_≡_, sym, _∙_}

@@ -1,8 +1,8 @@
 -- `given` answers by the case of the output.
-use Rattle.automaton_counts.specs.Emits.{gives-at}
-use Rattle.automaton.specs.Counts.{OutputOk}
+use Rattle.automaton_counts.specs.Laws.Emits.{gives-at}
+use Rattle.automaton_counts.specs.Inner.Emits.{gives}
 use Rattle.automaton.specs.Tests.{at}
-use Rattle.automaton_counts.specs.Emits.{gives}
+use Rattle.automaton.specs.Inner.Counts.{OutputOk}
 use Rattle.plan.specs.declared.Output.{Output}
 use Prim.Native.Nat.{ℕ, _+_, _*_}
 use mathlib.Core.Path.{sym, ap, subst, _∙_}

@@ -1,8 +1,9 @@
 -- `pass` keeps what `Going` says of the reached states and their counts, one transition after the other.
-use Rattle.automaton_counts.specs.Emits.{gives}
-use Rattle.automaton.specs.Counts.{ready-takes}
-use Rattle.automaton.specs.Passes.{going-stays, going-stores, Going}
+use Rattle.automaton_counts.specs.Inner.Emits.{gives}
 use Rattle.automaton.specs.Tests.{true-false, told-true, told-false}
+use Rattle.automaton.specs.Laws.Counts.{ready-takes}
+use Rattle.automaton.specs.Laws.Passes.{going-stays, going-stores}
+use Rattle.automaton.specs.Inner.Passes.{Going}
 use Rattle.automaton_counts.proofs.Tools.{moved, move-ok, not-ready, flags-apart}
 use Rattle.plan.specs.Plan.{move}
 use borrow.Author.Tests.{not-true, not-false}

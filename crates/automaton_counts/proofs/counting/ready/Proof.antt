@@ -1,7 +1,7 @@
 -- `ready` answers by the case of the input.
 use Rattle.basis.specs.Inner.Tells.{holds}
-use Rattle.automaton.specs.Counts.{Ready, InputOk}
 use Rattle.automaton.specs.Tests.{tells-ltb, at, Tells}
+use Rattle.automaton.specs.Inner.Counts.{Ready, InputOk}
 use Prim.Native.Nat.{_<_}
 use lib.Dec.{ltb}
 use Rattle.plan.specs.declared.Input.{Input}

@@ -5,7 +5,7 @@ use native.Mathlib.Omega.{arith}
 use borrow.Author.Tests.{not-true, not-false}
 use Rattle.automaton.specs.Tests.{flag}
 use Rattle.automaton.specs.Number.{lowest}
-use Rattle.automaton.specs.Lowest.{scan-starts, scan-passes, scan-stops, scan-ends}
+use Rattle.automaton.specs.Laws.Lowest.{scan-starts, scan-passes, scan-stops, scan-ends}
 use borrow.Author.Needs.{needs}
 use Rattle.automaton_counts.proofs.final_states.first_unmarked.Statement.{statement}
 use Rattle.automaton_counts.proofs.final_states.first_unmarked.Tie as tie

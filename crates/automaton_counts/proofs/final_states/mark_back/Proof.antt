@@ -1,6 +1,7 @@
 -- `mark_back` keeps what `Backing` says of the marked states, one transition after the other.
-use Rattle.automaton.specs.Passes.{back-stay, back-store, Backing}
 use Rattle.automaton.specs.Tests.{true-false}
+use Rattle.automaton.specs.Laws.Passes.{back-stay, back-store}
+use Rattle.automaton.specs.Inner.Passes.{Backing}
 use Rattle.automaton_counts.proofs.Tools.{moved, move-ok}
 use borrow.Author.Tests.{not-true, not-false}
 use mathlib.Core.Bool.{false}

@@ -1,7 +1,8 @@
 -- Each pass of `to_final` that marks a state leaves fewer; the flags are determined by what they tell.
-use Rattle.automaton.specs.Passes.{same-back, back-starts, back-round, back-ends, Backing}
-use Rattle.automaton.specs.Works.{back-done}
+use Rattle.automaton.specs.Laws.Works.{back-done}
 use Rattle.automaton.specs.Number.{falses}
+use Rattle.automaton.specs.Laws.Passes.{same-back, back-starts, back-round, back-ends}
+use Rattle.automaton.specs.Inner.Passes.{Backing}
 use borrow.Author.Tests.{not-true, not-false}
 use mathlib.Core.Bool.{false}
 use mathlib.Core.Path.{_≡_, sym, _∙_}

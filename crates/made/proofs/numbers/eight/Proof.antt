@@ -1,7 +1,7 @@
 -- A number of eight bytes is made of two numbers of four.
 use native.Mathlib.Omega.{arith}
 use denote.Ref.{now}
-use Rattle.wire.specs.Fields.{little-eight}
+use Rattle.wire.specs.Laws.Fields.{little-eight}
 use borrow.Author.Needs.{needs}
 use Rattle.made.proofs.numbers.eight.Statement.{statement}
 use Rattle.made.proofs.numbers.eight.Tie as tie

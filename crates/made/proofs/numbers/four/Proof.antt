@@ -1,7 +1,7 @@
 -- A number of four bytes is made of two numbers of two.
 use native.Mathlib.Omega.{arith}
 use denote.Ref.{now}
-use Rattle.wire.specs.Fields.{little-four}
+use Rattle.wire.specs.Laws.Fields.{little-four}
 use borrow.Author.Needs.{needs}
 use Rattle.made.proofs.numbers.four.Statement.{statement}
 use Rattle.made.proofs.numbers.four.Tie as tie

@@ -5,7 +5,7 @@ use borrow.Author.Tests.{eq-eqb, ne-eqb}
 use Prim.Native.Nat.{ℕ, _+_, _-_, _%_, _/_, _≤_, _<_}
 use Rattle.plan.specs.Moves.{inputAt}
 use native.Mathlib.Nat.{div-one}
-use Rattle.wire.specs.Maps.{bit-zero}
+use Rattle.wire.specs.Laws.Maps.{bit-zero}
 use borrow.Author.Needs.{needs}
 use Rattle.plan_automaton.proofs.transitions.input_at.Statement.{statement}
 use Rattle.plan_automaton.proofs.transitions.input_at.Tie as tie

@@ -1,7 +1,7 @@
 -- The two fields of an input, by their answers.
 use native.Mathlib.Omega.{arith}
 use mathlib.Core.Path.{_≡_, refl, sym, _∙_, ap}
-use Rattle.plan_fields.specs.Read.{byte-most, move-count-most}
+use Rattle.plan_fields.specs.Laws.Read.{byte-most, move-count-most}
 use borrow.Author.Needs.{needs}
 use Rattle.plan_automaton.proofs.transitions.outcome_at.Statement.{statement}
 use Rattle.plan_automaton.proofs.transitions.outcome_at.Tie as tie

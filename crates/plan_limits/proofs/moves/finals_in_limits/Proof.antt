@@ -5,7 +5,7 @@ use native.Mathlib.Omega.{arith}
 use borrow.Author.Tests.{lt-ltb}
 use borrow.Author.Needs.{needs}
 use lib.Pow.{pow-pos}
-use Rattle.plan_limits.specs.Shift.{quotient-zero}
+use Rattle.plan_limits.specs.Laws.Shift.{quotient-zero}
 use Rattle.plan_limits.proofs.moves.finals_in_limits.Statement.{statement}
 use Rattle.plan_limits.proofs.moves.finals_in_limits.Tie as tie
 

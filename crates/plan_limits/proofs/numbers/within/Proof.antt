@@ -7,7 +7,7 @@ use borrow.Author.Tests.{le-leb, lt-leb, lt-ltb, le-ltb}
 use lib.ListN.{getD}
 use Rattle.activity.specs.Tests.{every}
 use Rattle.plan_limits.specs.Limits.{isWithin, within}
-use Rattle.plan_limits.specs.Every.{every-on, every-off, every-end}
+use Rattle.plan_limits.specs.Laws.Every.{every-on, every-off, every-end}
 use borrow.Author.Needs.{needs}
 use Rattle.plan_limits.proofs.numbers.within.Statement.{statement}
 use Rattle.plan_limits.proofs.numbers.within.Tie as tie

@@ -1,5 +1,5 @@
 -- The node count of an activity, by its answers.
-use Rattle.plan_sections.specs.Parts.{countPart}
+use Rattle.plan_sections.specs.Inner.Parts.{countPart}
 use borrow.Author.Needs.{needs}
 use Rattle.plan_sections.proofs.parts.count_part.Statement.{statement}
 use Rattle.plan_sections.proofs.parts.count_part.Tie as tie

@@ -1,5 +1,5 @@
 -- A node, by its answers.
-use Rattle.plan_sections.specs.Parts.{nodePart}
+use Rattle.plan_sections.specs.Inner.Parts.{nodePart}
 use borrow.Author.Needs.{needs}
 use Rattle.plan_sections.proofs.parts.node_part.Statement.{statement}
 use Rattle.plan_sections.proofs.parts.node_part.Tie as tie

@@ -2,7 +2,7 @@
 use native.Mathlib.Omega.{arith}
 use mathlib.Core.Path.{_≡_}
 use Prim.Native.Nat.{ℕ, suc, _-_}
-use Rattle.plan_sections.specs.Parts.{partAt}
+use Rattle.plan_sections.specs.Inner.Parts.{partAt}
 use borrow.Author.Needs.{needs}
 use Rattle.plan_sections.proofs.parts.part_at.Statement.{statement}
 use Rattle.plan_sections.proofs.parts.part_at.Tie as tie

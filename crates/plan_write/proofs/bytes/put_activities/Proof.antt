@@ -2,13 +2,13 @@
 use native.Mathlib.Omega.{arith}
 use mathlib.Core.Path.{_≡_, refl, _∙_}
 use Prim.Native.Nat.{ℕ, _+_, _*_, _-_, _≤_, _<_}
-use Rattle.wire.specs.Puts.{puts-byte}
+use Rattle.wire.specs.Laws.Puts.{puts-byte}
 use Rattle.plan_write.specs.Laws.Left.{Left, left-begin, left-next, left-done, toPut, node-turn, activity-turn, activity-end, few-here, few-next}
 use lib.ListN.{length, getD}
 use native.Mathlib.Nat.{sub-zero}
 use Rattle.plan.specs.Plan.{pastNode}
 use Rattle.plan.specs.Limits.{InLimits}
-use Rattle.plan_write.specs.Bytes.{activityBytes}
+use Rattle.plan_write.specs.Inner.Bytes.{activityBytes}
 use Rattle.plan_write.specs.Laws.Printed.{node-length}
 use borrow.Author.Needs.{needs}
 use Rattle.plan_write.proofs.bytes.put_activities.Statement.{statement}

@@ -1,7 +1,7 @@
 -- The automaton: its states, its final-state bits, its transitions.
 use native.Mathlib.Omega.{arith}
-use Rattle.wire.specs.Puts.{puts-join, puts-byte}
-use Rattle.wire.specs.Fields.{length-bytes}
+use Rattle.wire.specs.Laws.Fields.{length-bytes}
+use Rattle.wire.specs.Laws.Puts.{puts-join, puts-byte}
 use mathlib.Core.List.{[]}
 use Rattle.plan_write.specs.Laws.Printed.{automaton-print}
 use borrow.Author.Needs.{needs}

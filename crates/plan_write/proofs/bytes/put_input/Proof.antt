@@ -1,7 +1,7 @@
 -- The fields of an input.
 use native.Mathlib.Omega.{arith}
-use Rattle.wire.specs.Puts.{puts-none, puts-join, puts-byte}
-use Rattle.plan_write.specs.Bytes.{inputBytes}
+use Rattle.wire.specs.Laws.Puts.{puts-none, puts-join, puts-byte}
+use Rattle.plan_write.specs.Inner.Bytes.{inputBytes}
 use borrow.Author.Needs.{needs}
 use Rattle.plan_write.proofs.bytes.put_input.Statement.{statement}
 use Rattle.plan_write.proofs.bytes.put_input.Tie as tie

@@ -1,7 +1,7 @@
 -- The fields of a kind, one after the other.
 use native.Mathlib.Omega.{arith}
-use Rattle.wire.specs.Puts.{puts-join, puts-byte}
-use Rattle.plan_write.specs.Bytes.{kindBytes}
+use Rattle.wire.specs.Laws.Puts.{puts-join, puts-byte}
+use Rattle.plan_write.specs.Inner.Bytes.{kindBytes}
 use borrow.Author.Needs.{needs}
 use Rattle.plan_write.proofs.bytes.put_kind.Statement.{statement}
 use Rattle.plan_write.proofs.bytes.put_kind.Tie as tie

@@ -1,10 +1,10 @@
 -- A transition: its map, its states, its input, its output.
 use native.Mathlib.Omega.{arith}
 use mathlib.Core.Path.{ap}
-use Rattle.wire.specs.Puts.{puts-join, puts-byte}
 use mathlib.Core.List.{[]}
 use Rattle.plan_write.specs.Laws.Printed.{move-print, input-length}
 use Rattle.wire.specs.Number.{bytesOf}
+use Rattle.wire.specs.Laws.Puts.{puts-join, puts-byte}
 use Rattle.plan_write.specs.Laws.Left.{puts-as}
 use borrow.Author.Needs.{needs}
 use Rattle.plan_write.proofs.bytes.put_move.Statement.{statement}

@@ -7,8 +7,8 @@ use lib.ListN.{length, getD}
 use native.Mathlib.Nat.{sub-zero}
 use Rattle.basis.specs.Parts.{part}
 use Rattle.plan.specs.Plan.{pastMove, movesOf}
-use Rattle.format.specs.Laws.{flat}
-use Rattle.plan_write.specs.Bytes.{moveBytes}
+use Rattle.format.specs.Laws.Format.{flat}
+use Rattle.plan_write.specs.Inner.Bytes.{moveBytes}
 use Rattle.plan_write.specs.Laws.Printed.{move-length}
 use borrow.Author.Needs.{needs}
 use Rattle.plan_write.proofs.bytes.put_moves.Statement.{statement}

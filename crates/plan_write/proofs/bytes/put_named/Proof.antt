@@ -1,7 +1,7 @@
 -- The peripherals and the events.
 use native.Mathlib.Omega.{arith}
-use Rattle.wire.specs.Puts.{puts-join}
-use Rattle.wire.specs.Fields.{length-optional, length-numbers}
+use Rattle.wire.specs.Laws.Fields.{length-optional, length-numbers}
+use Rattle.wire.specs.Laws.Puts.{puts-join}
 use lib.ListN.{length-append}
 use borrow.Author.Needs.{needs}
 use Rattle.plan_write.proofs.bytes.put_named.Statement.{statement}

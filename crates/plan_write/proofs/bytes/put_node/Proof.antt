@@ -1,9 +1,9 @@
 -- A node: its map, its kind, its duration, its predecessors.
 use native.Mathlib.Omega.{arith}
 use mathlib.Core.Path.{ap}
-use Rattle.wire.specs.Puts.{puts-join, puts-byte}
 use Rattle.wire.specs.Number.{bytesOf}
-use Rattle.wire.specs.Fields.{length-optional}
+use Rattle.wire.specs.Laws.Fields.{length-optional}
+use Rattle.wire.specs.Laws.Puts.{puts-join, puts-byte}
 use Rattle.plan_write.specs.Laws.Printed.{node-print, kind-length}
 use Rattle.plan_write.specs.Laws.Left.{puts-as}
 use borrow.Author.Needs.{needs}

@@ -1,7 +1,7 @@
 -- The field of an output.
 use native.Mathlib.Omega.{arith}
-use Rattle.wire.specs.Puts.{puts-none, puts-byte}
-use Rattle.plan_write.specs.Bytes.{outputBytes}
+use Rattle.wire.specs.Laws.Puts.{puts-none, puts-byte}
+use Rattle.plan_write.specs.Inner.Bytes.{outputBytes}
 use borrow.Author.Needs.{needs}
 use Rattle.plan_write.proofs.bytes.put_output.Statement.{statement}
 use Rattle.plan_write.proofs.bytes.put_output.Tie as tie

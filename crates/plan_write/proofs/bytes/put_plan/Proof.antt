@@ -1,6 +1,6 @@
 -- The sections, the activities and the automaton, one after the other.
 use native.Mathlib.Omega.{arith}
-use Rattle.wire.specs.Puts.{puts-join}
+use Rattle.wire.specs.Laws.Puts.{puts-join}
 use Rattle.plan_write.specs.Laws.Printed.{plan-print}
 use borrow.Author.Needs.{needs}
 use Rattle.plan_write.proofs.bytes.put_plan.Statement.{statement}

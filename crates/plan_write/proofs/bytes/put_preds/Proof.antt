@@ -1,7 +1,7 @@
 -- The count of the predecessors, and the predecessors.
 use native.Mathlib.Omega.{arith}
-use Rattle.wire.specs.Puts.{puts-join}
-use Rattle.wire.specs.Fields.{length-optional}
+use Rattle.wire.specs.Laws.Fields.{length-optional}
+use Rattle.wire.specs.Laws.Puts.{puts-join}
 use borrow.Author.Needs.{needs}
 use Rattle.plan_write.proofs.bytes.put_preds.Statement.{statement}
 use Rattle.plan_write.proofs.bytes.put_preds.Tie as tie

@@ -1,9 +1,9 @@
 -- The map of sections, and the sections before the activities.
 use native.Mathlib.Omega.{arith}
 use mathlib.Core.Path.{ap}
-use Rattle.wire.specs.Puts.{puts-join, puts-byte}
 use Rattle.wire.specs.Number.{bytesOf}
-use Rattle.wire.specs.Fields.{length-optional}
+use Rattle.wire.specs.Laws.Fields.{length-optional}
+use Rattle.wire.specs.Laws.Puts.{puts-join, puts-byte}
 use Rattle.plan_file.specs.PlanFile.{sectionMap}
 use Rattle.plan_write.specs.Laws.Left.{puts-as}
 use borrow.Author.Needs.{needs}

@@ -2,7 +2,7 @@
 use mathlib.Core.Path.{_≡_, sym, _∙_, ap}
 use borrow.Author.Tests.{not-true, not-false, le-leb, lt-leb}
 use Rattle.run.specs.Limits.{runInLimits}
-use Rattle.run.specs.Checks.{storedInLimits}
+use Rattle.run.specs.Inner.Checks.{storedInLimits}
 use borrow.Author.Needs.{needs}
 use Rattle.run.proofs.bounds.run_in_limits.Statement.{statement}
 use Rattle.run.proofs.bounds.run_in_limits.Tie as tie

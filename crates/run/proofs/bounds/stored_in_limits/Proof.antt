@@ -1,7 +1,7 @@
 -- `stored_in_limits` is what it is defined to be.
 use mathlib.Core.Path.{_≡_, sym, _∙_, ap}
 use borrow.Author.Tests.{not-true, not-false}
-use Rattle.run.specs.Checks.{storedInLimits}
+use Rattle.run.specs.Inner.Checks.{storedInLimits}
 use borrow.Author.Needs.{needs}
 use Rattle.run.proofs.bounds.stored_in_limits.Statement.{statement}
 use Rattle.run.proofs.bounds.stored_in_limits.Tie as tie

@@ -2,9 +2,9 @@
 use mathlib.Core.Path.{sym, _∙_, ap, subst}
 use Rattle.plan.specs.declared.Kind.{Kind}
 use Rattle.run_checks.specs.declared.Report.{Report}
-use Rattle.run_checks.specs.Laws.{onReport}
+use Rattle.run_checks.specs.Laws.Checks.{onReport}
 use Rattle.run.specs.Calls.{refuse, kindOf, completedBy}
-use Rattle.run.specs.Checks.{Named}
+use Rattle.run.specs.Inner.Checks.{Named}
 use borrow.Author.Needs.{needs}
 use Rattle.run.proofs.calls.completed.Statement.{statement}
 use Rattle.run.proofs.calls.completed.Tie as tie

@@ -1,6 +1,6 @@
 -- `idle` answers done or wait, and its reading is the last one.
 use mathlib.Core.Path.{sym, _∙_}
-use Rattle.run.specs.Checks.{idle}
+use Rattle.run.specs.Inner.Checks.{idle}
 use borrow.Author.Needs.{needs}
 use Rattle.run.proofs.calls.idle.Statement.{statement}
 use Rattle.run.proofs.calls.idle.Tie as tie

@@ -3,9 +3,9 @@ use mathlib.Core.Path.{sym, _∙_, ap, subst}
 use Rattle.plan.specs.declared.Kind.{Kind}
 use Rattle.plan.specs.Limits.{KindNames}
 use Rattle.run_checks.specs.declared.Report.{Report}
-use Rattle.run_checks.specs.Laws.{onReport}
+use Rattle.run_checks.specs.Laws.Checks.{onReport}
 use Rattle.run.specs.Calls.{refuse, kindOf, learnsBy}
-use Rattle.run.specs.Checks.{Named}
+use Rattle.run.specs.Inner.Checks.{Named}
 use Rattle.run.proofs.Checking.{loads-in-limits}
 use borrow.Author.Needs.{needs}
 use Rattle.run.proofs.calls.learns.Statement.{statement}

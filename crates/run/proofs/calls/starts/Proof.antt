@@ -1,5 +1,5 @@
 -- `starts` answers start with the node, and marks it started.
-use Rattle.run.specs.Checks.{starts}
+use Rattle.run.specs.Inner.Checks.{starts}
 use borrow.Author.Needs.{needs}
 use Rattle.run.proofs.calls.starts.Statement.{statement}
 use Rattle.run.proofs.calls.starts.Tie as tie

@@ -1,6 +1,6 @@
 -- `check_call` hands the checks the parts of the run.
 use mathlib.Core.Path.{sym, _∙_}
-use Rattle.run.specs.Checks.{checkOf}
+use Rattle.run.specs.Inner.Checks.{checkOf}
 use Rattle.run.proofs.Checking.{timed}
 use borrow.Author.Needs.{needs}
 use Rattle.run.proofs.checks.check_call.Statement.{statement}

@@ -15,7 +15,7 @@ use Rattle.run_window.specs.declared.Entry.{Entry}
 use Rattle.run.specs.declared.Run.{Run}
 use Rattle.run_checks.specs.declared.Refusal.{Refusal}
 use Rattle.run.specs.Calls.{refuse, learnt, learnsBy}
-use Rattle.run.specs.Inner.{toldRun}
+use Rattle.run.specs.Inner.Calls.{toldRun}
 use borrow.Author.Needs.{needs}
 use Rattle.run.proofs.learning.learns_by.Statement.{statement}
 use Rattle.run.proofs.learning.learns_by.Tie as tie

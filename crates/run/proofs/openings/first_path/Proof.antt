@@ -8,11 +8,11 @@ use Rattle.plan.specs.declared.Plan.{Plan}
 use Rattle.times.specs.declared.Progress.{Progress}
 use Rattle.run.specs.declared.Run.{Run}
 use Rattle.run.specs.declared.Unopened.{Unopened}
-use Rattle.run_loading.specs.Inner.{Loads}
+use Rattle.run_loading.specs.Inner.Loading.{Loads}
 use Rattle.run_opening.specs.Given.{atFirst, availabilities}
 use Rattle.run_opening.specs.Short.{shortFrom}
 use Rattle.run.specs.Opening.{fresh, unopened, begin}
-use Rattle.run.specs.Inner.{firstPath}
+use Rattle.run.specs.Inner.Calls.{firstPath}
 use Rattle.run.proofs.Opens.{first-loads, begins, none-short, one-short}
 use borrow.Author.Needs.{needs}
 use Rattle.run.proofs.openings.first_path.Statement.{statement}

@@ -6,7 +6,7 @@ use native.Mathlib.Omega.{arith}
 use borrow.Author.Tests.{not-true, not-false}
 use borrow.Author.Needs.{needs}
 use lib.ListN.{getD}
-use Rattle.plan_limits.specs.Every.{every-on, every-off, every-end}
+use Rattle.plan_limits.specs.Laws.Every.{every-on, every-off, every-end}
 use Rattle.run_limits.specs.Progress.{placeInLimits, pendingInLimits}
 use Rattle.times.specs.Queues.{noInstance}
 use Rattle.activity.specs.Tests.{every}

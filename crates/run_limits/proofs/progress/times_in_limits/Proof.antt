@@ -6,7 +6,7 @@ use native.Mathlib.Omega.{arith}
 use borrow.Author.Tests.{le-leb, lt-leb}
 use borrow.Author.Needs.{needs}
 use lib.Dec.{leb}
-use Rattle.plan_limits.specs.Every.{every-on, every-off, every-end}
+use Rattle.plan_limits.specs.Laws.Every.{every-on, every-off, every-end}
 use Rattle.run_limits.specs.Progress.{timesInLimits}
 use Rattle.times.specs.Times.{at}
 use Rattle.time.specs.Time.{horizon}

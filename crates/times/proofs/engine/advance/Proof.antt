@@ -4,7 +4,7 @@ use native.Mathlib.Omega.{arith}
 use borrow.Author.Needs.{needs}
 use Rattle.plan.specs.Plan.{nodesOf}
 use Rattle.times.specs.Laws.Fits.{input-fits, left-position, timeable, position-le, leaving, held-as, withAvailable, held-parts, closed-parts, assembled}
-use Rattle.times.specs.Inner.{Timeable, Leaving}
+use Rattle.times.specs.Inner.Times.{Timeable, Leaving}
 use Rattle.times.specs.Engine.{heldOf}
 use Rattle.times.specs.Queues.{processedOf, floorOf}
 use Rattle.times.specs.declared.Progress.{Progress}

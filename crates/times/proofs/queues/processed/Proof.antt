@@ -7,7 +7,7 @@ use native.Mathlib.Omega.{arith}
 use lib.ListN.{getD, set}
 use Rattle.times.specs.declared.Instance.{Instance}
 use Rattle.times.specs.declared.Progress.{Progress}
-use Rattle.times.specs.Inner.{withPending}
+use Rattle.times.specs.Inner.Times.{withPending}
 use Rattle.times.specs.Laws.Loops.{shifted-on, shifted-end}
 use Rattle.times.specs.Laws.Taken.{processed-nothing, processed-oldest, processed-none}
 use Rattle.times.specs.Limits.{InputFits}

@@ -10,7 +10,7 @@ use lib.ListN.{getD}
 use Rattle.basis.specs.Parts.{part}
 use Rattle.time.specs.declared.Specified.{Specified}
 use Rattle.times.specs.Times.{largestOf}
-use Rattle.times.specs.Inner.{numbers}
+use Rattle.times.specs.Inner.Times.{numbers}
 use Rattle.times.specs.Laws.Loops.{largest-on, largest-end}
 use Rattle.times.specs.Laws.Turns.{number-at}
 use Rattle.times.proofs.times.largest.Statement.{statement}

@@ -2,7 +2,7 @@
 use mathlib.Core.Path.{sym, ap, _∙_}
 use Rattle.plan.specs.declared.Kind.{Kind}
 use Rattle.times.specs.Times.{specified}
-use Rattle.times.specs.Inner.{startOn}
+use Rattle.times.specs.Inner.Times.{startOn}
 use borrow.Author.Needs.{needs}
 use Rattle.times.proofs.times.starting.Statement.{statement}
 use Rattle.times.proofs.times.starting.Tie as tie

@@ -1,6 +1,6 @@
 -- `close` meets its contract. Assumes nothing.
 use native.Mathlib.Omega.{arith}
-use Rattle.wire.specs.Puts.{puts-none}
+use Rattle.wire.specs.Laws.Puts.{puts-none}
 use Rattle.timetable_turns.proofs.Taking.{turns-shut, closes-by}
 use borrow.Author.Needs.{needs}
 use Rattle.timetable_turns.proofs.turns.close.Statement.{statement}

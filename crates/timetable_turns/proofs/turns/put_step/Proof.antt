@@ -1,7 +1,7 @@
 -- `put_step` meets its contract: the rows of the transition, 44, or the text that closes the table. Assumes nothing.
 use mathlib.Core.Path.{refl, sym, subst}
 use native.Mathlib.Omega.{arith}
-use Rattle.timetable_turns.specs.Answers.{Drafts}
+use Rattle.timetable_turns.specs.Inner.Answers.{Drafts}
 use Rattle.timetable_turns.proofs.Taking.{turns-closing, turns-taking, turns-stops, turns-goes}
 use borrow.Author.Needs.{needs}
 use Rattle.timetable_turns.proofs.turns.put_step.Statement.{statement}

@@ -1,7 +1,7 @@
 -- `turn` meets its contract: the text of a turn is short, and an open table stays open. Assumes nothing.
 use mathlib.Core.Path.{sym, subst, _∙_}
 use native.Mathlib.Omega.{arith}
-use Rattle.timetable_turns.specs.Turn.{Open}
+use Rattle.timetable_turns.specs.Inner.Turn.{Open}
 use Rattle.timetable_turns.specs.Laws.InLimits.{turn-open}
 use Rattle.timetable_turns.specs.Laws.Short.{turn-short}
 use Rattle.timetable_turns.specs.Laws.Lent.{lends-front, front-there}

@@ -1,8 +1,8 @@
 -- `turn_by` meets its contract, from the parts of the turn. Assumes nothing.
 use mathlib.Core.Path.{sym, ap, _∙_, subst}
 use Rattle.plan.specs.Limits.{OutputNames}
-use Rattle.run_path.specs.Inner.{emittedOf}
-use Rattle.timetable_steps.specs.Laws.{named}
+use Rattle.run_path.specs.Inner.Path.{emittedOf}
+use Rattle.timetable_steps.specs.Laws.Steps.{named}
 use Rattle.timetable_turns.specs.Laws.Stepping.{turn-parts, step-output, step-fitting}
 use Rattle.timetable_turns.proofs.Taking.{turns-as}
 use borrow.Author.Needs.{needs}

@@ -4,8 +4,8 @@ use Prim.Native.Nat.{_≤_}
 use native.Mathlib.Omega.{arith}
 use denote.Ref.{now}
 use lib.ListN.{length}
-use Rattle.timetable_lines.specs.Laws.{Remains, remains-all}
-use Rattle.timetable_turns.specs.Whole.{leftText, Standing}
+use Rattle.timetable_lines.specs.Laws.Lines.{Remains, remains-all}
+use Rattle.timetable_turns.specs.Inner.Whole.{leftText, Standing}
 use Rattle.timetable_turns.proofs.Placing.{remains-none}
 use borrow.Author.Needs.{needs}
 use Rattle.timetable_turns.proofs.whole.put_turns.Statement.{statement}

@@ -3,8 +3,9 @@ use native.Mathlib.Omega.{arith}
 use mathlib.Core.Path.{_≡_, refl, sym, _∙_, ap}
 use borrow.Author.Tests.{eq-eqb, ne-eqb}
 use denote.Ref.{now}
-use Rattle.wire.specs.Puts.{Puts, puts-none}
+use Rattle.wire.specs.Puts.{Puts}
 use Rattle.wire.specs.Number.{optionalBytes}
+use Rattle.wire.specs.Laws.Puts.{puts-none}
 use Prim.Native.Nat.{ℕ, _%_, _<_}
 use borrow.Author.Needs.{needs}
 use Rattle.wire.proofs.puts.put_optional_four.Statement.{statement}

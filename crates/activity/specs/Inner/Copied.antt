@@ -1,0 +1,28 @@
+-- What the contracts behind `Laws/Copied` cite.
+use mathlib.Core.Path.{_≡_, sym, ap, _∙_, subst}
+use mathlib.Core.List.{List, _++_}
+use Prim.Native.Nat.{ℕ, _+_, _-_, _*_, _<_}
+use native.Mathlib.Omega.{arith}
+use lib.ListN.{length, getD, replicate, List·getD-append}
+use lib.Seq.{ext-getD}
+use Rattle.basis.specs.Parts.{part}
+use Rattle.basis.specs.Laws.PartsHold.{length-part, getD-part}
+use Rattle.plan.specs.Plan.{pastNode, sizeOf, nodesOf, activityOf}
+use Rattle.plan.specs.Limits.{InLimits, nodeAt}
+use Rattle.plan.specs.declared.Kind.{Kind}
+use Rattle.plan.specs.declared.Node.{Node}
+use Rattle.plan.specs.declared.Activity.{Activity}
+use Rattle.plan.specs.declared.Plan.{Plan}
+use Rattle.activity.specs.Inner.Fits.{NodeFits, Fits}
+
+-- a node of zeros
+abbrev pub emptyNode : Node
+emptyNode = record { kind = Kind.Action 0 0; duration = 0; count = 0; preds = replicate 8 0 }
+
+-- the first n nodes of activity a, and zeros
+abbrev pub filled : Plan → ℕ → ℕ → List Node
+filled p a n = part pastNode (p .nodes) (64 * a) n ++ replicate (64 - n) emptyNode
+
+-- activity a, copied out of the plan
+unfoldable pub copied : Plan → ℕ → Activity
+copied p a = record { count = sizeOf p a; nodes = filled p a (sizeOf p a) }

@@ -1,0 +1,21 @@
+-- What the contracts behind `Laws/Order` cite.
+use mathlib.Core.Path.{_≡_, refl, sym, ap, _∙_, subst}
+use mathlib.Core.List.{List, [], _∷_}
+use mathlib.Core.Logic.{inl, inr}
+use Prim.Native.Nat.{ℕ, suc, _+_, _<_, _≤_}
+use native.Mathlib.Omega.{arith}
+use native.Mathlib.Nat.{eq-or-lt-of-le}
+use borrow.Author.Count.{below-more}
+use lib.ListN.{getD}
+use Rattle.plan.specs.Fault.{numberOf}
+use Rattle.plan.specs.declared.Fault.{Fault}
+
+-- R holds of every fault with a number below k
+abbrev pub Below : (Fault → Type 0) → ℕ → Type 0
+Below R k = (f : Fault) → numberOf f < k → R f
+
+-- k is the lowest number, from 11 on, of a fault whose R fails; above 18 there is no such fault of an activity
+pub record Lowest (R : Fault → Type 0) (k : ℕ) : Type 0 where
+  pub from : 11 ≤ k
+  pub below : Below R k
+  pub at : (f : Fault) → numberOf f ≡ k → R f → ⊥

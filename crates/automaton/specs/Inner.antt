@@ -1,0 +1,5 @@
+-- What inner contracts cite. No statement rests on it.
+pub mod Counts
+pub mod OnPaths
+pub mod Passes
+pub mod Scan

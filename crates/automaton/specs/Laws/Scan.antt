@@ -1,0 +1,67 @@
+-- A scan of the transitions in file order, one transition on.
+use mathlib.Core.Path.{_≡_, ap, _∙_}
+use mathlib.Core.Bool.{Bool, true, false}
+use mathlib.Core.List.{List, [], _∷_}
+use Prim.Native.Nat.{ℕ, suc, _+_, _-_, _<_}
+use native.Mathlib.Omega.{arith}
+use borrow.Author.Tests.{eq-eqb, ne-eqb}
+use lib.ListN.{getD}
+use Rattle.basis.specs.Parts.{part}
+use Rattle.plan.specs.declared.Transition.{Transition}
+use Rattle.plan.specs.Plan.{pastMove}
+use Rattle.automaton.specs.declared.Next.{Next}
+use Rattle.automaton.specs.declared.Chosen.{Chosen}
+use Rattle.automaton.specs.Tests.{pick, both}
+use Rattle.automaton.specs.Next.{onInput, nextFrom, carries, chosenFrom}
+use Rattle.automaton.specs.Inner.Scan.{rest}
+
+pub rest-all : (l : List Transition) (n : ℕ) → part pastMove l 0 n ≡ rest l 0 n
+rest-all l n = let z : n ≡ n - 0 = omega arith in ap (part pastMove l 0) z
+
+pub rest-more : (l : List Transition) (i n : ℕ) → i < n → rest l i n ≡ getD l i pastMove ∷ rest l (i + 1) n
+rest-more l i n h = let z : n - i ≡ suc (n - (i + 1)) = omega arith in ap (part pastMove l i) z
+
+pub rest-none : (l : List Transition) (i n : ℕ) → (i < n → ⊥) → rest l i n ≡ []
+rest-none l i n h = let z : n - i ≡ 0 = omega (arith, h) in ap (part pastMove l i) z
+
+module _ (l : List Transition) (s i n : ℕ) where
+  pub next-here : i < n → getD l i pastMove .from ≡ s → nextFrom (rest l i n) s i ≡ onInput (getD l i pastMove .input) i
+  unfolding nextFrom
+  next-here h e =
+      ap (λ (ts : List Transition). nextFrom ts s i) (rest-more l i n h) ∙
+      ap (λ (b : Bool). pick b (onInput (getD l i pastMove .input) i) (nextFrom (rest l (i + 1) n) s (i + 1))) (eq-eqb (getD l i pastMove .from) s e)
+
+  pub next-past : i < n → (getD l i pastMove .from ≡ s → ⊥) → nextFrom (rest l i n) s i ≡ nextFrom (rest l (i + 1) n) s (i + 1)
+  unfolding nextFrom
+  next-past h e =
+      ap (λ (ts : List Transition). nextFrom ts s i) (rest-more l i n h) ∙
+      ap (λ (b : Bool). pick b (onInput (getD l i pastMove .input) i) (nextFrom (rest l (i + 1) n) s (i + 1))) (ne-eqb (getD l i pastMove .from) s e)
+
+  pub next-none : (i < n → ⊥) → nextFrom (rest l i n) s i ≡ Next.Ended
+  unfolding nextFrom
+  next-none h = ap (λ (ts : List Transition). nextFrom ts s i) (rest-none l i n h)
+
+  module _ (e o : ℕ) where
+    pub chosen-here : i < n → getD l i pastMove .from ≡ s → carries (getD l i pastMove .input) e o ≡ true → chosenFrom (rest l i n) s e o i ≡ Chosen.Move i
+    unfolding chosenFrom both
+    chosen-here h f c =
+        ap (λ (ts : List Transition). chosenFrom ts s e o i) (rest-more l i n h) ∙
+        ap (λ (b : Bool). pick (both b (carries (getD l i pastMove .input) e o)) (Chosen.Move i) (chosenFrom (rest l (i + 1) n) s e o (i + 1))) (eq-eqb (getD l i pastMove .from) s f) ∙
+        ap (λ (b : Bool). pick b (Chosen.Move i) (chosenFrom (rest l (i + 1) n) s e o (i + 1))) c
+
+    pub chosen-other : i < n → (getD l i pastMove .from ≡ s → ⊥) → chosenFrom (rest l i n) s e o i ≡ chosenFrom (rest l (i + 1) n) s e o (i + 1)
+    unfolding chosenFrom both
+    chosen-other h f =
+        ap (λ (ts : List Transition). chosenFrom ts s e o i) (rest-more l i n h) ∙
+        ap (λ (b : Bool). pick (both b (carries (getD l i pastMove .input) e o)) (Chosen.Move i) (chosenFrom (rest l (i + 1) n) s e o (i + 1))) (ne-eqb (getD l i pastMove .from) s f)
+
+    pub chosen-past : i < n → getD l i pastMove .from ≡ s → carries (getD l i pastMove .input) e o ≡ false → chosenFrom (rest l i n) s e o i ≡ chosenFrom (rest l (i + 1) n) s e o (i + 1)
+    unfolding chosenFrom both
+    chosen-past h f c =
+        ap (λ (ts : List Transition). chosenFrom ts s e o i) (rest-more l i n h) ∙
+        ap (λ (b : Bool). pick (both b (carries (getD l i pastMove .input) e o)) (Chosen.Move i) (chosenFrom (rest l (i + 1) n) s e o (i + 1))) (eq-eqb (getD l i pastMove .from) s f) ∙
+        ap (λ (b : Bool). pick b (Chosen.Move i) (chosenFrom (rest l (i + 1) n) s e o (i + 1))) c
+
+    pub chosen-none : (i < n → ⊥) → chosenFrom (rest l i n) s e o i ≡ Chosen.Nothing
+    unfolding chosenFrom
+    chosen-none h = ap (λ (ts : List Transition). chosenFrom ts s e o i) (rest-none l i n h)

@@ -1,0 +1,91 @@
+-- What the run needs of one transition: the engine goes the way whose times are those of the combined activity, queues what the
+-- transition emits, and stays within the limits. The record of these laws is what the proofs rest on; Laws.EngineHolds proves it.
+use mathlib.Core.Path.{_≡_}
+use mathlib.Core.Bool.{false, cond}
+use mathlib.Core.List.{List, [], _∷_, _++_, map}
+use Prim.Native.Nat.{ℕ, zero, suc, _+_, _≤_, _<_}
+use lib.Dec.{eqb}
+use lib.ListN.{length}
+use Rattle.plan.specs.Plan.{move, emittedBy, outcomesOf}
+use Rattle.plan.specs.declared.Input.{Input}
+use Rattle.plan.specs.declared.Plan.{Plan}
+use Rattle.plan.specs.declared.Automaton.{Automaton}
+use Rattle.automaton.specs.Next.{nextOf, chosenOf}
+use Rattle.automaton.specs.Rules.{MeetsAutomaton}
+use Rattle.automaton.specs.declared.Next.{Next}
+use Rattle.automaton.specs.declared.Chosen.{Chosen}
+use Rattle.times_combined.specs.Word.{emittedIn}
+use Rattle.times_combined.specs.Laws.Engine.{State, Steps}
+use Rattle.times_combined.specs.Paths.{stepOf, Lawful}
+use Rattle.times.specs.Times.{at}
+use Rattle.times.specs.Queues.{pendingOf, queueOf, floorOf, emission}
+use Rattle.times.specs.Limits.{ProgressInLimits}
+use Rattle.times.specs.declared.Instance.{Instance}
+use Rattle.times.specs.declared.Progress.{Progress}
+use Rattle.run_path.specs.Path.{takenBy}
+
+-- the arrays of a progress have the lengths of their types
+pub record Sized (g : Progress) : Type 0 where
+  pub available : length (g .available) ≡ 16
+  pub latest : length (g .latest) ≡ 16
+  pub lengths : length (g .lengths) ≡ 16
+  pub pending : length (g .pending) ≡ 128
+
+-- it is within the limits of the plan
+abbrev pub Within : Plan → Progress → Type 0
+Within p g = ProgressInLimits (p .resources) (p .events) (p .automaton .states) (p .outcomes) g
+
+-- the engine's state that a progress stores
+abbrev pub stateOf : Progress → State
+stateOf g = record {
+  free = λ r. at (g .available) r;
+  last = λ e. at (g .latest) e;
+  queue = λ e. map (λ x. x .end .0) (queueOf g e);
+}
+
+abbrev pub rest : List Instance → List Instance
+rest [] = []
+rest (x ∷ xs) = xs
+
+-- the queue of f, less the instance that is processed
+abbrev pub remaining : Input → Progress → ℕ → List Instance
+remaining Input.Nothing g f = queueOf g f
+remaining (Input.Outcome e o) g f = cond (eqb e f) (rest (queueOf g f)) (queueOf g f)
+
+-- what is processed is pending
+abbrev pub Pending : Input → Progress → Type 0
+Pending Input.Nothing g = Unit {0}
+Pending (Input.Outcome e o) g = 0 < pendingOf g e
+
+-- transition t can be taken at g
+pub record Possible (p : Plan) (t : ℕ) (g : Progress) : Type 0 where
+  pub low : t < p .automaton .count
+  pub sized : Sized g
+  pub within : Within p g
+  pub pending : Pending (move (p .automaton) t .input) g
+  -- "at most 8 of one event are pending": before it, and after it
+  pub few : (e : ℕ) → pendingOf g e ≤ 8
+  pub room : (e : ℕ) → length (remaining (move (p .automaton) t .input) g e) + emittedIn e (emittedBy p (move (p .automaton) t .output)) ≤ 8
+
+-- what taking it gives; within the limits unless it passes those of number 44
+pub record Advances (p : Plan) (t : ℕ) (g : Progress) : Type 0 where
+  -- the nodes of each event, in the order of "before"
+  pub emitted : ℕ → List ℕ
+  pub steps : Steps (p .resources) (stepOf p (move (p .automaton) t)) (stateOf g) (floorOf (move (p .automaton) t .input) g)
+      (λ n. at (takenBy p t g .schedule .start) n) (λ n. at (takenBy p t g .schedule .end) n) emitted (stateOf (takenBy p t g .progress))
+  pub queues : (e : ℕ) → queueOf (takenBy p t g .progress) e
+      ≡ remaining (move (p .automaton) t .input) g e ++ map (λ n. emission (g .position) n (at (takenBy p t g .schedule .end) n)) (emitted e)
+  pub sized : Sized (takenBy p t g .progress)
+  pub within : takenBy p t g .beyond ≡ false → Within p (takenBy p t g .progress)
+
+-- at most k transitions that process nothing lead from state s to one that waits or is final
+abbrev pub Settles : Automaton → ℕ → ℕ → Type 0
+Settles a zero s = (t : ℕ) → nextOf a s ≡ Next.Goes t → ⊥
+Settles a (suc k) s = (t : ℕ) → nextOf a s ≡ Next.Goes t → Settles a k (move a t .to)
+
+-- what holds of the engine and of the automaton of an accepted plan
+pub record EngineLaws : Type 0 where
+  pub advances : (p : Plan) → Lawful p → (t : ℕ) (g : Progress) → Possible p t g → Advances p t g
+  pub settles : (p : Plan) → Lawful p → MeetsAutomaton p → (s k : ℕ) → s < p .automaton .states → 63 ≤ k → Settles (p .automaton) k s
+  pub chosen : (p : Plan) → Lawful p → MeetsAutomaton p → (s e o : ℕ) → s < p .automaton .states → nextOf (p .automaton) s ≡ Next.Waits e → o < outcomesOf p e
+      → (t : ℕ) × (chosenOf (p .automaton) s e o ≡ Chosen.Move t)
