@@ -15,7 +15,7 @@ use Rattle.plan.specs.declared.Node.{Node}
 use Rattle.plan.specs.declared.Activity.{Activity}
 use Rattle.plan.specs.declared.Plan.{Plan}
 use Rattle.activity.specs.Inner.Fits.{NodeFits, Fits}
-use Rattle.activity.specs.Inner.Copied.{emptyNode, filled, copied}
+use Rattle.activity.specs.Inner.Copied.{emptyNode, filled}
 
 pub filled-more : (p : Plan) (a n : ℕ) → n < 64 → set (filled p a n) n (getD (p .nodes) (64 * a + n) pastNode) ≡ filled p a (n + 1)
 filled-more p a n h =

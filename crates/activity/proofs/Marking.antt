@@ -5,9 +5,9 @@ use mathlib.Core.Logic.{_⊎_, inl, inr, _↔_, ⊎-elim}
 use Prim.Native.Nat.{ℕ, _+_, _<_, _≤_}
 use native.Mathlib.Nat.{eq-or-lt-of-le}
 use native.Mathlib.Omega.{arith}
-use Rattle.basis.specs.Laws.Tells.{is-true}
+use Rattle.basis.specs.Laws.Tells.{is-true, told-true}
+use Rattle.basis.specs.Inner.Tells.{Tells}
 use Rattle.activity.specs.Inner.Sight.{Marks}
-use Rattle.activity.specs.Laws.Tells.{Tells, told-true}
 use Rattle.activity.specs.Inner.Bits.{Bit}
 use Rattle.activity.specs.Laws.Bits.{no-bit}
 

@@ -10,7 +10,8 @@ use lib.Arith.{bin-ind}
 use lib.Bits.{bitOr, bitAnd, or-step, or-zero-l}
 use lib.Dec.{eqb}
 use lib.Pow.{shr-shr}
-use Rattle.activity.specs.Laws.Tells.{Tells, tells-iff, tells-not, tells-eqb}
+use Rattle.basis.specs.Inner.Tells.{Tells}
+use Rattle.basis.specs.Laws.Tells.{tells-iff, tells-not, tells-eqb}
 use Rattle.activity.specs.Inner.Bits.{Bit}
 use Rattle.activity.specs.Laws.Bits.{or-iff, and-iff, no-bit}
 

@@ -1,20 +1,11 @@
 -- "Then activities in order, place = activity": what the verdict over a plan's activities says, and that it is right.
 -- Assumes nothing.
-use mathlib.Core.Path.{_≡_, refl, sym, subst}
-use mathlib.Core.Logic.{_↔_}
-use Prim.Native.Nat.{ℕ, zero, suc, _+_, _<_}
-use native.Mathlib.Omega.{arith}
-use native.Mathlib.Decide.{decLt}
-use borrow.Author.Count.{below-more}
+use Prim.Native.Nat.{ℕ, _<_}
 use Rattle.plan.specs.Plan.{resourceOf, activityOf}
 use Rattle.plan.specs.declared.Fault.{Fault}
 use Rattle.plan.specs.declared.Plan.{Plan}
-use Rattle.plan.specs.declared.Verdict.{Verdict}
-use Rattle.activity.specs.declared.Finding.{Finding}
 use Rattle.activity.specs.Rules.{Meets}
-use Rattle.activity.specs.Number.{faultOf, orNext, verdictFrom, activitiesVerdict}
-use Rattle.activity.specs.Judged.{First, Judged}
-use Rattle.activity.specs.Laws.Theorem.{judged, meets-rule, only}
+use Rattle.activity.specs.Judged.{First}
 
 -- activity i of the plan meets all rules
 abbrev pub MeetsAt : Plan → ℕ → Type 0

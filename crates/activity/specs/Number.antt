@@ -5,6 +5,7 @@ use mathlib.Core.Bool.{Bool, true, false, not, _&&_, _||_}
 use Prim.Native.Nat.{ℕ, zero, suc, _+_}
 use lib.ListN.{length, getD}
 use lib.Dec.{eqb}
+use Rattle.basis.specs.Tests.{every, some}
 use Rattle.plan.specs.Plan.{predecessors, resourceOf, activityOf}
 use Rattle.plan.specs.declared.Kind.{Kind}
 use Rattle.plan.specs.declared.Node.{Node}
@@ -13,7 +14,7 @@ use Rattle.plan.specs.declared.Fault.{Fault}
 use Rattle.plan.specs.declared.Verdict.{Verdict}
 use Rattle.activity.specs.declared.Finding.{Finding}
 use Rattle.activity.specs.Rules.{node}
-use Rattle.activity.specs.Tests.{every, some, implies, none, bit, isAction, isClaim, isRelease, isEvent, ofAction, ofClaim, ofRelease, ofEvent, beforeWords}
+use Rattle.activity.specs.Tests.{implies, none, bit, isAction, isClaim, isRelease, isEvent, ofAction, ofClaim, ofRelease, ofEvent, beforeWords}
 
 -- the kind of node n
 abbrev pub kindOf : List Node → ℕ → Kind

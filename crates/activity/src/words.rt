@@ -3,7 +3,7 @@ ghost use mathlib.Core.Path.{_≡_};
 ghost use mathlib.Core.Bool.{true};
 ghost use mathlib.Core.Logic.{_⊎_, _↔_};
 ghost use Prim.Native.Nat.{ℕ, _<_};
-ghost use Rattle.activity.specs.Laws.Tells.{Tells};
+ghost use Rattle.basis.specs.Inner.Tells.{Tells};
 ghost use Rattle.activity.specs.Inner.Bits.{Bit};
 ghost use Rattle.activity.specs.Inner.Closure.{Stepped};
 

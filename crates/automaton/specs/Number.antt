@@ -4,7 +4,7 @@ use mathlib.Core.List.{List, [], _∷_}
 use Prim.Native.Nat.{ℕ, zero, suc, _+_, _-_, _*_}
 use lib.Dec.{eqb, leb, ltb}
 use lib.ListN.{set, replicate}
-unfoldable pub use Rattle.basis.specs.Tests.{falses}
+use Rattle.basis.specs.Tests.{falses}
 use Rattle.basis.specs.Tests.{flag}
 use Rattle.plan.specs.declared.Input.{Input}
 use Rattle.plan.specs.declared.Output.{Output}

@@ -1,15 +1,8 @@
 -- Tests by Bool and what they tell; numbers and flags in a list.
-use mathlib.Core.Path.{_≡_, refl, sym, subst}
 use mathlib.Core.Bool.{Bool, true, false}
 use mathlib.Core.List.{List}
-use Prim.Native.Nat.{ℕ, zero, suc, _<_}
-use native.Mathlib.Omega.{arith}
-use native.Mathlib.Decide.{ℕ-discrete}
+use Prim.Native.Nat.{ℕ, zero, suc}
 use lib.ListN.{getD}
-pub use Rattle.basis.specs.Tests.{flag}
-pub use Rattle.basis.specs.Inner.Tells.{Tells, holds, fails}
-pub use Rattle.basis.specs.Laws.Bools.{clash as true-false}
-pub use Rattle.basis.specs.Laws.Tells.{told, denied, tells, told-true, told-false, tells-eqb, tells-leb, tells-ltb}
 
 abbrev pub at : List ℕ → ℕ → ℕ
 at xs n = getD xs n 0

@@ -1,18 +1,19 @@
 -- What the proofs of numbers 24 to 26 share: answers, scans of all counts, flags at equal places.
-use mathlib.Core.Path.{_≡_, refl, sym, ap, _∙_, subst}
+use mathlib.Core.Path.{_≡_, sym, ap, _∙_, subst}
 use mathlib.Core.Bool.{Bool, true, false}
 use mathlib.Core.List.{List}
-use Prim.Native.Nat.{ℕ, zero, suc, _+_, _*_, _/_, _%_, _≤_, _<_}
+use Prim.Native.Nat.{ℕ, _+_, _*_, _/_, _%_, _≤_, _<_}
 use native.Mathlib.Omega.{arith}
 use native.Mathlib.Decide.{ℕ-discrete}
 use borrow.Author.Tests.{lt-ltb, le-ltb}
-use lib.ListN.{replicate}
+use Rattle.basis.specs.Tests.{flag}
+use Rattle.basis.specs.Laws.Bools.{clash}
 use Rattle.plan.specs.declared.Input.{Input}
 use Rattle.plan.specs.declared.Automaton.{Automaton}
 use Rattle.plan.specs.declared.Fault.{Fault}
 use Rattle.plan.specs.declared.Verdict.{Verdict}
 use Rattle.plan.specs.Plan.{move, isFinal}
-use Rattle.automaton.specs.Tests.{at, flag, pick, true-false}
+use Rattle.automaton.specs.Tests.{at, pick}
 use Rattle.automaton.specs.Rules.{ToFinal}
 use Rattle.automaton.specs.Number.{lowest, toFinal, pathVerdict, wayVerdict}
 use Rattle.automaton.specs.Laws.Lowest.{none-found}
@@ -23,10 +24,10 @@ use Rattle.automaton_counts.specs.Inner.Emits.{finalBit, Either, gives, 
 use Rattle.automaton_counts.specs.Laws.Emits.{gives-small, gives-bounded}
 
 pub sure : {P Q : Type 0} → P → Either true P Q
-sure p = record { yea = λ e. p; nay = λ e. absurd (true-false e) }
+sure p = record { yea = λ e. p; nay = λ e. absurd (clash e) }
 
 pub fails : {P Q : Type 0} → Q → Either false P Q
-fails q = record { yea = λ e. absurd (true-false (sym e)); nay = λ e. q }
+fails q = record { yea = λ e. absurd (clash (sym e)); nay = λ e. q }
 
 -- the flag at a place whose number is known
 pub moved : (D : List Bool) {x y : ℕ} {v : Bool} → x ≡ y → flag D x ≡ v → flag D y ≡ v
@@ -34,7 +35,7 @@ moved D {x} {y} {v} e h = subst (λ (z : ℕ). flag D z ≡ v) e h
 
 -- a flag that stands and one that does not are two
 pub flags-apart : (D : List Bool) {x y : ℕ} → flag D x ≡ true → flag D y ≡ false → x ≡ y → ⊥
-flags-apart D h f e = true-false (sym h ∙ ap (flag D) e ∙ f)
+flags-apart D h f e = clash (sym h ∙ ap (flag D) e ∙ f)
 
 pub move-ok : (a : Automaton) → InRange a → (i : ℕ) → i < a .count → MoveOk 64 (move a i)
 move-ok a ok i l =

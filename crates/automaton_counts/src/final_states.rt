@@ -5,7 +5,7 @@ use plan::Automaton;
 ghost use mathlib.Core.Bool.{false};
 ghost use mathlib.Core.Path.{_≡_};
 ghost use Prim.Native.Nat.{_<_, _≤_};
-ghost use Rattle.automaton.specs.Tests.{flag};
+ghost use Rattle.basis.specs.Tests.{flag};
 ghost use Rattle.automaton.specs.Number.{lowest, toFinal};
 ghost use Rattle.automaton.specs.Inner.Counts.{InRange};
 ghost use Rattle.automaton.specs.Inner.Passes.{Backing};

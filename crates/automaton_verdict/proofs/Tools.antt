@@ -7,13 +7,14 @@ use native.Mathlib.Omega.{arith}
 use borrow.Author.Tests.{eq-eqb, ne-eqb, lt-ltb, le-ltb}
 use lib.Dec.{eqb, ltb}
 use lib.ListN.{getD}
+use Rattle.basis.specs.Laws.Bools.{clash}
 use Rattle.plan.specs.declared.Input.{Input}
 use Rattle.plan.specs.declared.Transition.{Transition}
 use Rattle.plan.specs.declared.Automaton.{Automaton}
 use Rattle.plan.specs.declared.Fault.{Fault}
 use Rattle.plan.specs.declared.Verdict.{Verdict}
 use Rattle.plan.specs.Plan.{pastMove}
-use Rattle.automaton.specs.Tests.{pick, both, all, true-false}
+use Rattle.automaton.specs.Tests.{pick, both, all}
 use Rattle.automaton.specs.declared.Next.{Next}
 use Rattle.automaton.specs.Next.{nextOf}
 use Rattle.automaton.specs.Laws.States.{NextIs, waits, next-is}
@@ -69,7 +70,7 @@ pub all-stops : (f : ℕ → Bool) (q n : ℕ) → q < n → f q ≡ false → a
 all-stops f q n l e = go (all n f) refl
   where
     go : (b : Bool) → all n f ≡ b → all n f ≡ false
-    go true h = absurd (true-false (sym (all-true n f h q l) ∙ e))
+    go true h = absurd (clash (sym (all-true n f h q l) ∙ e))
     go false h = h
 
 -- ---- the awaited event is one of the events 0 to 15

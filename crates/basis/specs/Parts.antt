@@ -1,11 +1,7 @@
 -- The used part of an array: `part d l i k` are the k elements from place i on, d past the end.
-use mathlib.Core.Path.{_≡_, refl, ap, _∙_, subst}
 use mathlib.Core.List.{List, [], _∷_}
-use Prim.Native.Nat.{ℕ, zero, suc, _+_, _<_}
-use native.Mathlib.Omega.{arith}
-use lib.ListN.{length, getD}
-use mathlib.Core.Logic.{inl, inr}
-use Rattle.basis.specs.Lists.{Among}
+use Prim.Native.Nat.{ℕ, zero, suc, _+_}
+use lib.ListN.{getD}
 
 abbrev pub part : {A : Type 0} → A → List A → ℕ → ℕ → List A
 part d l i zero = []

@@ -5,7 +5,7 @@ use run::Reply;
 use run::Stop;
 use run::Unopened;
 ghost use mathlib.Core.Path.{_≡_};
-ghost use Prim.Native.Nat.{_+_, _≤_, _<_};
+ghost use Prim.Native.Nat.{_+_, _≤_};
 ghost use lib.ListN.{length};
 ghost use Rattle.run.specs.Numbers.{refusalNumber, openNumber, openPlace};
 ghost use Rattle.wire.specs.Puts.{Puts};

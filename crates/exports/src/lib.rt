@@ -7,7 +7,7 @@ use plan::Verdict;
 use plan_write::NotWritten;
 use plan_write::Written;
 ghost use mathlib.Core.Path.{_≡_};
-ghost use Prim.Native.Nat.{_≤_, _<_, min};
+ghost use Prim.Native.Nat.{_<_, min};
 ghost use Rattle.plan.specs.Fault.{numberOf};
 ghost use Rattle.plan.specs.Reading.{readPlan};
 ghost use Rattle.plan.specs.Limits.{InLimits};

@@ -1,6 +1,6 @@
 -- Inner: crate planfile shows that reading is what its description says.
 -- "automaton; always present": reading the states and the transitions.
-use mathlib.Core.Bool.{Bool, cond}
+use mathlib.Core.Bool.{cond}
 use mathlib.Core.List.{List}
 use Prim.Native.Nat.{ℕ, zero, suc, _+_, _^_}
 use lib.ListN.{getD, set, replicate}
@@ -18,7 +18,7 @@ use Rattle.plan.specs.declared.fields.InputRead.{InputRead}
 use Rattle.plan.specs.declared.fields.OutputRead.{OutputRead}
 use Rattle.plan.specs.declared.fields.MoveRead.{MoveRead}
 use Rattle.plan.specs.declared.fields.AutomatonRead.{AutomatonRead}
-use Rattle.plan.specs.Fields.{onField, onStep, byteAt, countAt, nameAt}
+use Rattle.plan.specs.Fields.{onField, byteAt, countAt, nameAt}
 use Rattle.plan.specs.Plan.{pastMove}
 
 abbrev pub onFinals : {A : Type 0} → FinalsField → (ℕ → ℕ → A) → (Fault → ℕ → A) → A

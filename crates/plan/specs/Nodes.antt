@@ -16,7 +16,7 @@ use Rattle.plan.specs.declared.fields.KindRead.{KindRead}
 use Rattle.plan.specs.declared.fields.DurationField.{DurationField}
 use Rattle.plan.specs.declared.fields.PredsRead.{PredsRead}
 use Rattle.plan.specs.declared.fields.NodeRead.{NodeRead}
-use Rattle.plan.specs.Fields.{onField, onStep, byteAt, anyAt, nameAt, optionalCount}
+use Rattle.plan.specs.Fields.{onField, onStep, anyAt, nameAt, optionalCount}
 use Rattle.plan.specs.Limits.{longest}
 
 abbrev pub onKind : {A : Type 0} → KindRead → (Kind → ℕ → A) → (Fault → ℕ → A) → A

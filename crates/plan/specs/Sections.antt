@@ -1,6 +1,5 @@
 -- Inner: crate planfile shows that reading is what its description says.
 -- The sections of the plan file before the automaton, in bit order.
-use mathlib.Core.Bool.{Bool}
 use mathlib.Core.List.{List}
 use Prim.Native.Nat.{ℕ, zero, suc, _+_, _*_}
 use lib.ListN.{set, replicate}
@@ -9,7 +8,6 @@ use Rattle.plan.specs.declared.Fault.{Fault}
 use Rattle.plan.specs.declared.Node.{Node}
 use Rattle.plan.specs.declared.fields.Field.{Field}
 use Rattle.plan.specs.declared.fields.Step.{Step}
-use Rattle.plan.specs.declared.fields.NodeRead.{NodeRead}
 use Rattle.plan.specs.declared.fields.PeripheralsRead.{PeripheralsRead}
 use Rattle.plan.specs.declared.fields.EventsRead.{EventsRead}
 use Rattle.plan.specs.declared.fields.ActivitiesRead.{ActivitiesRead}

@@ -1,5 +1,5 @@
 -- One turn of the loop over the transitions, at i of `count`.
-use mathlib.Core.Path.{_≡_, refl, sym, _∙_}
+use mathlib.Core.Path.{_≡_}
 use mathlib.Core.List.{List}
 use Prim.Native.Nat.{ℕ, suc, _+_, _-_, _≤_, _<_}
 use native.Mathlib.Omega.{arith}
@@ -9,7 +9,6 @@ use Rattle.plan.specs.declared.Fault.{Fault}
 use Rattle.plan.specs.declared.Transition.{Transition}
 use Rattle.plan.specs.declared.fields.MoveRead.{MoveRead}
 use Rattle.plan.specs.declared.fields.Step.{Step}
-use Rattle.plan.specs.declared.fields.AutomatonRead.{AutomatonRead}
 
 module _ (events : ℕ) (outcomes : List ℕ) (activities : ℕ) (b : List ℕ) (states initial finals count i off : ℕ) (moves : List Transition) where
   pub moves-done : count ≤ i

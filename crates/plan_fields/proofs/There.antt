@@ -1,7 +1,6 @@
 -- What the answers of the crate wire say of the bytes, one law at four widths; and the power of two that bounds the
 -- final-state bits.
-use mathlib.Core.Path.{_≡_, refl, sym, _∙_, ap}
-use mathlib.Core.Bool.{Bool}
+use mathlib.Core.Path.{_≡_, sym, _∙_}
 use mathlib.Core.List.{List}
 use Prim.Native.Nat.{ℕ, _+_, _*_, _/_, _%_, _^_, _≤_, _<_}
 use native.Mathlib.Nat.{div-eq-of-lt, pow-le-pow-right, div-add-mod, mod-lt, lt-of-lt-of-le}
@@ -11,7 +10,7 @@ use lib.ListN.{length}
 use lib.Dec.{ltb, eqb}
 use lib.Pow.{pow-pos}
 use borrow.Author.Tests.{lt-ltb, le-ltb, eq-eqb, ne-eqb}
-use Rattle.wire.specs.Number.{little, fieldAt}
+use Rattle.wire.specs.Number.{fieldAt}
 use Rattle.wire.specs.Laws.Fields.{Present, are-there, are-short}
 use Rattle.wire.specs.declared.Byte.{Byte}
 use Rattle.wire.specs.declared.Short.{Short}

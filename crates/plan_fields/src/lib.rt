@@ -9,7 +9,7 @@ use wire::Long;
 use wire::Short;
 use wire::Wide;
 ghost use mathlib.Core.Path.{_≡_};
-ghost use Prim.Native.Nat.{_+_, _^_, _<_, _≤_};
+ghost use Prim.Native.Nat.{_+_, _^_, _<_};
 ghost use lib.Dec.{ltb};
 ghost use Rattle.wire.specs.Number.{number};
 ghost use Rattle.plan.specs.Limits.{longest};

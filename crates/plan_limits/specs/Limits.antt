@@ -4,6 +4,7 @@ use mathlib.Core.List.{List}
 use Prim.Native.Nat.{ℕ, _*_, _+_, _-_, _/_, _%_, _^_}
 use lib.ListN.{getD}
 use lib.Dec.{ltb, leb, eqb}
+use Rattle.basis.specs.Tests.{every}
 use Rattle.plan.specs.Plan.{pastNode, pastMove}
 use Rattle.plan.specs.Limits.{longest}
 use Rattle.plan.specs.declared.Kind.{Kind}
@@ -13,7 +14,6 @@ use Rattle.plan.specs.declared.Output.{Output}
 use Rattle.plan.specs.declared.Transition.{Transition}
 use Rattle.plan.specs.declared.Automaton.{Automaton}
 use Rattle.plan.specs.declared.Plan.{Plan}
-use Rattle.activity.specs.Tests.{every}
 
 -- x lies from `low` to below `below`
 abbrev pub isWithin : ℕ → ℕ → ℕ → Bool

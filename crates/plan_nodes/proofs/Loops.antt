@@ -1,5 +1,5 @@
 -- One turn of the loop over a node's predecessors, at i of `count`.
-use mathlib.Core.Path.{_≡_, refl, sym, _∙_}
+use mathlib.Core.Path.{_≡_}
 use mathlib.Core.List.{List}
 use Prim.Native.Nat.{ℕ, suc, _+_, _-_, _≤_, _<_}
 use native.Mathlib.Omega.{arith}
@@ -10,7 +10,6 @@ use Rattle.plan.specs.Nodes.{predsLoop, noPreds}
 use Rattle.plan.specs.declared.Fault.{Fault}
 use Rattle.plan.specs.declared.fields.Field.{Field}
 use Rattle.plan.specs.declared.fields.Step.{Step}
-use Rattle.plan.specs.declared.fields.PredsRead.{PredsRead}
 
 module _ (b : List ℕ) (size count i off low : ℕ) (preds : List ℕ) where
   pub preds-done : count ≤ i → record { step = Step.Read off; count = count; preds = preds } ≡ predsLoop size b count (count - i) off i low preds

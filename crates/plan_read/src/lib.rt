@@ -11,7 +11,6 @@ use plan::fields::PeripheralsRead;
 use plan::fields::Step;
 ghost use mathlib.Core.Path.{_≡_};
 ghost use Prim.Native.Nat.{_≤_};
-ghost use Rattle.plan.specs.Sections.{resourcesAt};
 ghost use Rattle.plan.specs.Reading.{zeroPlan, noPlan, sectionsAt, endedAt, planOf, withAutomaton, withEvents, withPeripherals, planAt, readPlan};
 
 // A plan of zeros.

@@ -2,19 +2,20 @@
 -- passes them is in limits, so that every sum with Ψ fits and every number of a found entry names something.
 use mathlib.Core.Path.{_≡_, refl, sym, _∙_, ap, subst}
 use mathlib.Core.Bool.{Bool, true, false, true≢false}
-use mathlib.Core.List.{List, [], _∷_, map}
+use mathlib.Core.List.{List, [], _∷_}
 use mathlib.Core.Logic.{⊎-elim}
 use Prim.Native.Nat.{ℕ, zero, suc, _≤_, _<_}
 use native.Mathlib.Omega.{arith}
-use lib.ListN.{length, getD, length-map}
+use lib.ListN.{length, getD}
+use Rattle.basis.specs.Inner.Tells.{Tells, holds, fails}
+use Rattle.basis.specs.Laws.Tells.{told-true, tells-and, tells-or, tells-ltb, tells-leb}
+use Rattle.basis.specs.Laws.Bools.{by-test}
 use Rattle.time.specs.Time.{horizon}
 use Rattle.time.specs.declared.Clock.{Clock}
 use Rattle.plan.specs.Limits.{InLimits}
 use Rattle.times.specs.Engine.{lastPosition}
 use Rattle.times.specs.Limits.{ProgressInLimits}
-use Rattle.activity.specs.Laws.Tells.{Tells, holds, fails, told-true, tells-and, tells-or}
 use Rattle.run_limits.specs.Window.{entryInLimits}
-use Rattle.plan_limits.specs.Laws.Tells.{tells-ltb, tells-leb}
 use Rattle.plan_limits.specs.Laws.Plans.{tells-in-limits}
 use Rattle.run_limits.specs.Laws.Stored.{tells-stored}
 use Rattle.run_limits.specs.Laws.Places.{tells-window}
@@ -23,7 +24,7 @@ use Rattle.run_window.specs.declared.Found.{Found}
 use Rattle.run_window.specs.declared.Sought.{Sought}
 use Rattle.run_window.specs.Window.{vacant, isFree, isHeld, isStarted, isNode, isDue, startsBefore, first}
 use Rattle.run_window.specs.Inner.Search.{firstOf}
-use Rattle.run_window.specs.Laws.Tests.{by-test, started-true, held-unfree}
+use Rattle.run_window.specs.Laws.Tests.{started-true, held-unfree}
 use Rattle.run_window.specs.Laws.Order.{starts-order}
 use Rattle.run_window.specs.Laws.Firsts.{First, first-found, by-first}
 use Rattle.run_checks.specs.declared.Refusal.{Refusal}
@@ -38,10 +39,6 @@ use Rattle.run.specs.Limits.{haltInLimits, runInLimits}
 use Rattle.run.specs.Calls.{refuse, objected, momentOf, called, reported, asked}
 use Rattle.run.specs.Inner.Checks.{checkOf, Named, idle, starts}
 use Rattle.run.specs.Inner.Loads.{Loads}
-
--- the length of an array of structs
-pub unmapped : (X Y : Type 0) (f : X → Y) (l : List X) (n : ℕ) → length (map f l) ≡ n → length l ≡ n
-unmapped X Y f l n e = sym (length-map l f) ∙ e
 
 -- ---- the answer by the checks
 

@@ -1,7 +1,6 @@
 -- Loading of a run is loading of its plan, its progress and its window.
 use mathlib.Core.Path.{_≡_, refl, sym, _∙_, ap}
-use mathlib.Core.Bool.{Bool, true, false, cond}
-use mathlib.Core.List.{List}
+use mathlib.Core.Bool.{Bool, true, false}
 use Prim.Native.Nat.{ℕ, zero, suc}
 use lib.Dec.{ltb}
 use lib.ListN.{length}
@@ -10,7 +9,6 @@ use Rattle.automaton.specs.Next.{nextOf}
 use Rattle.automaton.specs.declared.Next.{Next}
 use Rattle.times.specs.declared.Progress.{Progress}
 use Rattle.run_window.specs.Window.{vacancies}
-use Rattle.run_window.specs.declared.Entry.{Entry}
 use Rattle.run_path.specs.Path.{Path, pathFrom, longestPath}
 use Rattle.run_outcomes.specs.Way.{wayOn}
 use Rattle.run_loading.specs.Loading as parts

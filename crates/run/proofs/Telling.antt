@@ -4,13 +4,13 @@ use mathlib.Core.List.{List, [], _∷_}
 use Prim.Native.Nat.{ℕ, zero, suc, _+_, _*_, _≤_, _<_}
 use native.Mathlib.Omega.{arith}
 use lib.ListN.{getD, set}
+use Rattle.basis.specs.Laws.Bools.{by-test}
 use Rattle.plan.specs.Plan.{outcomesOf}
 use Rattle.times.specs.declared.Instance.{Instance}
 use Rattle.times.specs.declared.Progress.{Progress}
 use Rattle.times.specs.Queues.{noInstance, pendingOf}
 use Rattle.times.specs.Limits.{InstanceInLimits}
 use Rattle.run_window.specs.declared.Entry.{Entry}
-use Rattle.run_window.specs.Laws.Tests.{by-test}
 use Rattle.run.specs.declared.Run.{Run}
 use Rattle.run_outcomes.specs.Told.{tell, isInstance, toldFrom, toldOf}
 use Rattle.run_loading.specs.Inner.Loading as parts

@@ -1,10 +1,9 @@
 -- "Calls carry a clock reading: ask, completion of an action, outcome of an event (which completes it)."
-use mathlib.Core.Bool.{Bool, true, false, cond, not, _&&_}
-use mathlib.Core.List.{List, [], _∷_}
-use Prim.Native.Nat.{ℕ, zero, suc, _+_, _*_}
-use lib.Dec.{ltb, eqb}
-use lib.ListN.{getD, set}
-use Rattle.basis.specs.Parts.{part}
+use mathlib.Core.Bool.{Bool, cond, _&&_}
+use mathlib.Core.List.{List}
+use Prim.Native.Nat.{ℕ}
+use lib.Dec.{ltb}
+use lib.ListN.{set}
 use Rattle.time.specs.declared.Clock.{Clock}
 use Rattle.plan.specs.Plan.{isFinal, outcomesOf}
 use Rattle.plan.specs.Limits.{nodeAt}

@@ -1,16 +1,14 @@
 -- "An opening gives a plan, Ψ, a slack of 1 to 1,000,000, and one availability, in specified time, for each resource. The
 -- plan comes as bytes and is judged first; the run keeps it."
-use mathlib.Core.Bool.{Bool, true, false, cond, _&&_, _||_}
-use mathlib.Core.List.{List, [], _∷_, _++_, map}
-use Prim.Native.Nat.{ℕ, zero, suc, _+_, _-_}
-use lib.Dec.{ltb, leb, eqb}
+use mathlib.Core.Bool.{cond, _||_}
+use mathlib.Core.List.{List}
+use Prim.Native.Nat.{ℕ}
+use lib.Dec.{ltb, eqb}
 use lib.ListN.{length, replicate}
 use Rattle.time.specs.Time.{horizon}
-use Rattle.time.specs.declared.Specified.{Specified}
 use Rattle.time.specs.declared.Clock.{Clock}
 use Rattle.plan.specs.declared.Plan.{Plan}
 use Rattle.plan.specs.declared.Verdict.{Verdict}
-use Rattle.plan.specs.declared.PlanRead.{PlanRead}
 use Rattle.plan.specs.Reading.{zeroPlan}
 use Rattle.judge.specs.Judge.{judgeOf}
 use Rattle.automaton.specs.Next.{nextOf}

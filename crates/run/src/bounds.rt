@@ -1,9 +1,6 @@
 // "50 a run in which a stored count, number or time lies outside this paper's or its plan's limits".
 use crate::Run;
 ghost use mathlib.Core.Path.{_≡_};
-ghost use mathlib.Core.Bool.{_&&_};
-ghost use Rattle.run_limits.specs.Progress.{progressInLimits};
-ghost use Rattle.run_limits.specs.Window.{windowInLimits};
 ghost use Rattle.run.specs.Limits.{runInLimits};
 ghost use Rattle.run.specs.Inner.Checks.{storedInLimits};
 

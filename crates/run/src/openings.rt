@@ -15,7 +15,6 @@ use time::Specified;
 use times::Progress;
 ghost use mathlib.Core.Bool.{false};
 ghost use mathlib.Core.Path.{_≡_};
-ghost use Prim.Native.Nat.{_≤_};
 ghost use lib.ListN.{length};
 ghost use Rattle.plan.specs.Limits.{InLimits};
 ghost use Rattle.run_opening.specs.Given.{anyAbove};

@@ -5,10 +5,10 @@ use mathlib.Core.List.{List}
 use Prim.Native.Nat.{ℕ, _*_, _+_, _/_, _%_}
 use lib.ListN.{getD}
 use lib.Dec.{ltb, leb}
+use Rattle.basis.specs.Tests.{every}
 use Rattle.time.specs.Time.{horizon}
 use Rattle.time.specs.declared.Specified.{Specified}
 use Rattle.plan.specs.declared.Plan.{Plan}
-use Rattle.activity.specs.Tests.{every}
 use Rattle.times.specs.declared.Told.{Told}
 use Rattle.times.specs.declared.Instance.{Instance}
 use Rattle.times.specs.declared.Progress.{Progress}

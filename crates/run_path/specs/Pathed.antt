@@ -12,7 +12,7 @@ use Rattle.run_window.specs.Window.{vacant}
 use Rattle.run_window.specs.Inner.Times.{AllInTime}
 use Rattle.run_window.specs.declared.Entry.{Entry}
 use Rattle.run_path.specs.declared.Pathed.{Pathed}
-use Rattle.run_path.specs.Path.{Path, pathFrom, longestPath}
+use Rattle.run_path.specs.Path.{Path}
 
 -- the first n entries of a list, and vacant places past its end
 unfoldable pub firsts : ℕ → List Entry → List Entry

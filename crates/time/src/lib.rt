@@ -1,6 +1,6 @@
 // The two kinds of time, in whole microseconds. Adding the start time Ψ is the only way from one to the other.
 ghost use mathlib.Core.Path.{_≡_};
-ghost use Prim.Native.Nat.{_≤_, _<_};
+ghost use Prim.Native.Nat.{_≤_};
 ghost use Rattle.time.specs.Time.{toClock, horizon};
 
 // Specified time: counts from zero.

@@ -1,10 +1,8 @@
 -- What is stored between transitions lies "inside this paper's and its plan's limits" (number 50): counts, numbers and
 -- times of the resources and events that the plan has.
-use mathlib.Core.Bool.{Bool, true, false, cond}
 use mathlib.Core.List.{List}
-use Prim.Native.Nat.{ℕ, zero, suc, _+_, _/_, _%_, _≤_, _<_}
+use Prim.Native.Nat.{ℕ, _+_, _≤_, _<_}
 use lib.ListN.{getD}
-use lib.Dec.{ltb}
 use Rattle.basis.specs.Lists.{Among}
 use Rattle.time.specs.Time.{horizon}
 use Rattle.plan.specs.Plan.{pastNode, predecessors}
@@ -17,8 +15,8 @@ use Rattle.times.specs.declared.Told.{Told}
 use Rattle.times.specs.declared.Instance.{Instance}
 use Rattle.times.specs.declared.Progress.{Progress}
 use Rattle.times.specs.Times.{at}
-use Rattle.times.specs.Queues.{noInstance, pendingOf, instanceOf}
-use Rattle.times.specs.Engine.{lastPosition, aboveOf}
+use Rattle.times.specs.Queues.{pendingOf, instanceOf}
+use Rattle.times.specs.Engine.{lastPosition}
 
 -- an outcome that was reported of an event is one of its outcomes
 abbrev pub ToldNames : ℕ → Told → Type 0

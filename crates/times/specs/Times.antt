@@ -7,7 +7,7 @@ use Prim.Native.Nat.{ℕ, zero, suc, _+_, max}
 use lib.ListN.{length, getD, set, replicate}
 use lib.Dec.{eqb}
 use Rattle.basis.specs.Parts.{part}
-pub use Rattle.basis.specs.Tests.{flag}
+use Rattle.basis.specs.Tests.{flag}
 use Rattle.time.specs.declared.Specified.{Specified}
 use Rattle.plan.specs.Plan.{predecessors}
 use Rattle.plan.specs.declared.Kind.{Kind}

@@ -17,7 +17,7 @@ ghost use mathlib.Core.Path.{_≡_};
 ghost use Prim.Native.Nat.{_≤_, _<_};
 ghost use Rattle.plan.specs.Plan.{nodesOf};
 ghost use Rattle.times.specs.Times.{orderOf};
-ghost use Rattle.times.specs.Engine.{lastPosition, raisedOf, leftOf, aboveOf, beyondOf, advanceOf};
+ghost use Rattle.times.specs.Engine.{raisedOf, leftOf, aboveOf, beyondOf, advanceOf};
 ghost use Rattle.times.specs.Limits.{StepFits};
 ghost use Rattle.times.specs.Inner.Times.{Leaving};
 

@@ -5,12 +5,13 @@ use mathlib.Core.List.{List, [], _++_, append-nil, append-assoc}
 use Prim.Native.Nat.{ℕ, suc, _-_, _≤_, _<_}
 use native.Mathlib.Omega.{arith}
 use lib.ListN.{length, take}
+use Rattle.basis.specs.Laws.Bools.{clash}
 use Rattle.plan.specs.declared.Plan.{Plan}
 use Rattle.judge.specs.Judge.{judgeOf}
 use Rattle.times.specs.declared.Progress.{Progress}
 use Rattle.timetable_turns.specs.Inner.Turn.{OneTurn, turnOf, turnsFrom, waitsOf, readAfter, mostTurns, isRefused, firstText, firstProgress}
 use Rattle.timetable_turns.specs.Timetable.{textOfPlan}
-use Rattle.timetable_turns.specs.Laws.ByTurns.{never, plan-by-turns}
+use Rattle.timetable_turns.specs.Laws.ByTurns.{plan-by-turns}
 use Rattle.timetable_turns.specs.Lent.{Lends, pastOf}
 use Rattle.timetable_turns.specs.Laws.Lent.{lent-puts, put-front}
 use Rattle.timetable_turns.specs.Laws.Hearing.{heard-turn}
@@ -37,7 +38,7 @@ pub prints-lost : (p : Plan) (b : Between) (out : List ℕ) (o : Output) → Han
 prints-lost p b out o h e = record {
   text = [];
   gathers = λ l g. subst (λ (t : List ℕ). Gathers t out o) (sym (append-nil l)) (h .gathers l g);
-  onward = λ k rest. never (sym e ∙ k);
+  onward = λ k rest. clash (sym e ∙ k);
 }
 
 -- one turn, handed a byte only where the state waits for one
@@ -83,7 +84,7 @@ prints-join p b l m n c r whole u v = record {
 -- ---- all turns
 
 pub ends-lost : (p : Plan) (b : Between) (out : List ℕ) (r : Output) → r .lost ≡ true → Ends p b out r
-ends-lost p b out r e = record { all = λ l g k. never (sym e ∙ k) }
+ends-lost p b out r e = record { all = λ l g k. clash (sym e ∙ k) }
 
 pub ends-whole : (p : Plan) (b : Between) (before after : List ℕ) (c : Between) (r : Output) → Prints p b before after c → c .left ≡ 0 → c .output .lost ≡ false → HandsOn after (c .output) r → r .gathered ≡ 0 → Ends p b before r
 unfolding turnsFrom

@@ -4,6 +4,7 @@ use mathlib.Core.Bool.{Bool, false}
 use mathlib.Core.List.{List}
 use Prim.Native.Nat.{ℕ, _<_}
 use lib.ListN.{getD}
+use Rattle.basis.specs.Laws.Bools.{clash}
 use Rattle.plan.specs.Fault.{numberOf}
 use Rattle.plan.specs.declared.Fault.{Fault}
 use Rattle.plan.specs.declared.PlanRead.{PlanRead}
@@ -15,7 +16,6 @@ use Rattle.timetable_turns.specs.declared.Put.{Put}
 use Rattle.timetable_turns.specs.Inner.Turn.{isRefused, firstText, firstProgress, Open}
 use Rattle.timetable_turns.specs.Lent.{Lends}
 use Rattle.timetable_turns.specs.Inner.Answers.{Begins}
-use Rattle.timetable_turns.specs.Laws.ByTurns.{never}
 use Rattle.timetable_turns.specs.Laws.Lent.{lends-as}
 use Rattle.timetable_turns.specs.Laws.InLimits.{judged-limits, first-open}
 
@@ -25,7 +25,7 @@ lends-refused before after r v f place number n e l = lends-as before 0 _ _ afte
 module _ (bytes : List ℕ) (small : (k : ℕ) → getD bytes k 0 < 256) (before after : List ℕ) (r : PlanRead) (e : r ≡ judgeOf bytes) (put : Put) (closed : Bool) (g : Progress) where
   accepted-if : (v : Verdict) → isRefused v ≡ false → v ≡ Verdict.Accepted
   accepted-if Verdict.Accepted k = refl
-  accepted-if (Verdict.Refused f place) k = never k
+  accepted-if (Verdict.Refused f place) k = clash k
 
   verdict-is : r .verdict ≡ judgeOf bytes .verdict
   verdict-is = ap (λ (x : PlanRead). x .verdict) e

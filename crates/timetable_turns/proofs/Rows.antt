@@ -6,12 +6,12 @@ use Prim.Native.Nat.{ℕ, _+_, _*_, _≤_, _<_}
 use native.Mathlib.Omega.{arith}
 use lib.ListN.{getD}
 use Rattle.basis.specs.Parts.{part}
+use Rattle.basis.specs.Laws.Parts.{part-step, part-end}
 use Rattle.wire.specs.Puts.{Puts}
 use Rattle.wire.specs.Laws.Puts.{puts-none, puts-join}
 use Rattle.plan.specs.Plan.{pastNode}
 use Rattle.plan.specs.declared.Node.{Node}
 use Rattle.times.specs.declared.Schedule.{Schedule}
-use Rattle.times.specs.Laws.Loops.{part-step, part-end}
 use Rattle.run_window.specs.declared.Entry.{Entry}
 use Rattle.run_path.specs.Path.{isWork, loaded, entriesFrom}
 use Rattle.run_path.specs.Laws.Collecting.{rest, rest-all}

@@ -3,6 +3,7 @@ use mathlib.Core.Path.{_≡_, refl, sym, ap, _∙_, subst}
 use mathlib.Core.Bool.{Bool, true, false, cond}
 use mathlib.Core.List.{List}
 use Prim.Native.Nat.{ℕ}
+use Rattle.basis.specs.Laws.Bools.{clash}
 use Rattle.wire.specs.Puts.{Puts}
 use Rattle.plan.specs.Plan.{nodesOf}
 use Rattle.plan.specs.declared.Node.{Node}
@@ -18,7 +19,6 @@ use Rattle.timetable_turns.specs.declared.Drafted.{Drafted}
 use Rattle.timetable_turns.specs.Inner.Turn.{OneTurn, closes}
 use Rattle.timetable_turns.specs.Inner.Stepped.{taking, closing, stepped, closedAt}
 use Rattle.timetable_turns.specs.Inner.Answers.{Drafts}
-use Rattle.timetable_turns.specs.Laws.ByTurns.{never}
 
 -- whether a step takes a transition
 abbrev takesOne : Step → Bool
@@ -32,7 +32,7 @@ unfolding stepped
 stepped-closes resources nodes g read Step.Ends n = refl
 stepped-closes resources nodes g read (Step.Waits e) n = refl
 stepped-closes resources nodes g read Step.Lacks n = refl
-stepped-closes resources nodes g read (Step.Takes m heard) n = never n
+stepped-closes resources nodes g read (Step.Takes m heard) n = clash n
 
 module _ (before : List ℕ) (at : ℕ) (after : List ℕ) where
   pub turns-closed : (g : Progress) (text : List ℕ) (next : ℕ) → Puts before at text after next → Drafts before at (closes g text) after (closedAt next g)

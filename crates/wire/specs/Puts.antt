@@ -1,12 +1,9 @@
 -- Bytes put into a lent buffer: past its end nothing is put, and bytes after those put are unchanged.
-use mathlib.Core.Path.{_≡_, refl, sym, _∙_, ap, ap₂}
-use mathlib.Core.List.{List, [], _∷_, _++_}
-use Prim.Native.Nat.{ℕ, zero, suc, _+_, _%_, _<_}
-use native.Mathlib.Nat.{add-zero, add-suc, suc-add}
-use native.Mathlib.Omega.{arith}
-use lib.ListN.{length, set, length-append}
-use lib.Seq.{sets, length-sets}
-use Rattle.wire.specs.Number.{bytesOf}
+use mathlib.Core.Path.{_≡_}
+use mathlib.Core.List.{List}
+use Prim.Native.Nat.{ℕ, _+_}
+use lib.ListN.{length}
+use lib.Seq.{sets}
 
 -- the bytes xs are put at `at`; `next` is the offset past them
 pub record Puts (before : List ℕ) (at : ℕ) (xs after : List ℕ) (next : ℕ) : Type 0 where

@@ -3,7 +3,7 @@ use mathlib.Core.List.{List}
 use Rattle.plan.specs.Plan.{pastNode, sizeOf}
 use Rattle.plan.specs.declared.Node.{Node}
 use Prim.Native.Nat.{_≤_, _-_, _+_, _*_}
-use mathlib.Core.Path.{_≡_, refl, ap, _∙_}
+use mathlib.Core.Path.{_≡_, ap, _∙_}
 use native.Mathlib.Omega.{arith}
 use lib.ListN.{getD, set}
 use Rattle.activity.specs.Inner.Copied.{filled, copied}

@@ -1,21 +1,12 @@
 -- What the contracts behind `Laws/Closure` cite.
-use mathlib.Core.Path.{_≡_, refl, sym, _∙_, subst}
-use mathlib.Core.Bool.{Bool, true, false, cond}
-use mathlib.Core.List.{List, [], _∷_, map}
-use mathlib.Core.Logic.{_⊎_, inl, inr, _↔_, ⊎-elim}
-use Prim.Native.Nat.{ℕ, zero, suc, _+_, _<_, _≤_}
-use native.Mathlib.Omega.{arith}
-use borrow.Author.Count.{below-more}
-use lib.Bits.{bitOr}
-use lib.ListN.{length, getD, length-map, List·getD-eq-default}
-use Rattle.basis.specs.Lists.{one, more}
-use Rattle.plan.specs.Plan.{pastNode, predecessors}
+use mathlib.Core.Path.{_≡_}
+use mathlib.Core.List.{List}
+use mathlib.Core.Logic.{_⊎_, _↔_}
+use Prim.Native.Nat.{ℕ, _<_, _≤_}
+use lib.ListN.{getD}
 use Rattle.plan.specs.declared.Node.{Node}
-use Rattle.activity.specs.Rules.{node, Arrow, Before}
-use Rattle.activity.specs.Tests.{bit, wordOf, through, pass, passes, beforeWords}
-use Rattle.activity.specs.Laws.Tells.{Answer, holds, fails}
+use Rattle.activity.specs.Rules.{Before}
 use Rattle.activity.specs.Inner.Bits.{Bit}
-use Rattle.activity.specs.Laws.Bits.{tells-bit, or-iff, no-bit, word-iff, lt-or-ge}
 
 -- bit m of the word of n stands
 abbrev pub Rel : List ℕ → ℕ → ℕ → Type 0

@@ -1,19 +1,13 @@
 -- What the contracts behind `Laws/Copied` cite.
-use mathlib.Core.Path.{_≡_, sym, ap, _∙_, subst}
 use mathlib.Core.List.{List, _++_}
-use Prim.Native.Nat.{ℕ, _+_, _-_, _*_, _<_}
-use native.Mathlib.Omega.{arith}
-use lib.ListN.{length, getD, replicate, List·getD-append}
-use lib.Seq.{ext-getD}
+use Prim.Native.Nat.{ℕ, _-_, _*_}
+use lib.ListN.{replicate}
 use Rattle.basis.specs.Parts.{part}
-use Rattle.basis.specs.Laws.PartsHold.{length-part, getD-part}
-use Rattle.plan.specs.Plan.{pastNode, sizeOf, nodesOf, activityOf}
-use Rattle.plan.specs.Limits.{InLimits, nodeAt}
+use Rattle.plan.specs.Plan.{pastNode, sizeOf}
 use Rattle.plan.specs.declared.Kind.{Kind}
 use Rattle.plan.specs.declared.Node.{Node}
 use Rattle.plan.specs.declared.Activity.{Activity}
 use Rattle.plan.specs.declared.Plan.{Plan}
-use Rattle.activity.specs.Inner.Fits.{NodeFits, Fits}
 
 -- a node of zeros
 abbrev pub emptyNode : Node

@@ -1,19 +1,11 @@
 -- What the contracts behind `Laws/Nodes` cite.
 use mathlib.Core.Path.{_≡_}
 use mathlib.Core.List.{List}
-use mathlib.Core.Logic.{_↔_, ⊎-elim}
-use Prim.Native.Nat.{ℕ, _<_, _≤_}
-use native.Mathlib.Omega.{arith}
-use lib.ListN.{length}
+use Prim.Native.Nat.{ℕ}
 use Rattle.plan.specs.declared.Kind.{Kind}
 use Rattle.plan.specs.declared.Node.{Node}
 use Rattle.plan.specs.declared.Fault.{Fault}
 use Rattle.activity.specs.Rules.{Is, Arrow, Before, Ordered}
-use Rattle.activity.specs.Judged.{Rule}
-use Rattle.activity.specs.Laws.Theorem.{start}
-use Rattle.activity.specs.Laws.Bits.{lt-or-ge}
-use Rattle.activity.specs.Laws.Closure.{within}
-use Rattle.activity.specs.Inner.Order.{Below}
 
 -- what number f asks of node n
 abbrev pub At : (ℕ → ℕ) → List Node → ℕ → Fault → Type 0

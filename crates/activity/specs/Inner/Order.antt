@@ -1,12 +1,6 @@
 -- What the contracts behind `Laws/Order` cite.
-use mathlib.Core.Path.{_≡_, refl, sym, ap, _∙_, subst}
-use mathlib.Core.List.{List, [], _∷_}
-use mathlib.Core.Logic.{inl, inr}
-use Prim.Native.Nat.{ℕ, suc, _+_, _<_, _≤_}
-use native.Mathlib.Omega.{arith}
-use native.Mathlib.Nat.{eq-or-lt-of-le}
-use borrow.Author.Count.{below-more}
-use lib.ListN.{getD}
+use mathlib.Core.Path.{_≡_}
+use Prim.Native.Nat.{ℕ, _<_, _≤_}
 use Rattle.plan.specs.Fault.{numberOf}
 use Rattle.plan.specs.declared.Fault.{Fault}
 

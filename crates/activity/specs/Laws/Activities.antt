@@ -11,7 +11,6 @@ use Rattle.plan.specs.declared.Fault.{Fault}
 use Rattle.plan.specs.declared.Plan.{Plan}
 use Rattle.plan.specs.declared.Verdict.{Verdict}
 use Rattle.activity.specs.declared.Finding.{Finding}
-use Rattle.activity.specs.Rules.{Meets}
 use Rattle.activity.specs.Number.{faultOf, orNext, verdictFrom, activitiesVerdict}
 use Rattle.activity.specs.Judged.{First, Judged}
 use Rattle.activity.specs.Laws.Theorem.{judged, meets-rule, only}

@@ -11,8 +11,9 @@ use lib.Bits.{bitOr, bitAnd, or-shr, or-mod, and-shr, and-mod}
 use lib.ListN.{getD, replicate}
 use lib.Pow.{pow-lt, pow-add, shl-shr}
 use Rattle.basis.specs.Lists.{Among}
+use Rattle.basis.specs.Inner.Tells.{Tells}
+use Rattle.basis.specs.Laws.Tells.{tells-eqb}
 use Rattle.activity.specs.Tests.{bit, wordOf}
-use Rattle.activity.specs.Laws.Tells.{Tells, tells-eqb}
 use Rattle.activity.specs.Inner.Bits.{Bit}
 
 pub tells-bit : (w j : ℕ) → Tells (bit w j) (Bit w j)

@@ -10,11 +10,11 @@ use borrow.Author.Count.{below-more}
 use lib.Bits.{bitOr}
 use lib.ListN.{length, getD, length-map, List·getD-eq-default}
 use Rattle.basis.specs.Lists.{one, more}
+use Rattle.basis.specs.Inner.Tells.{Answer, holds, fails}
 use Rattle.plan.specs.Plan.{pastNode, predecessors}
 use Rattle.plan.specs.declared.Node.{Node}
 use Rattle.activity.specs.Rules.{node, Arrow, Before}
 use Rattle.activity.specs.Tests.{bit, wordOf, through, pass, passes, beforeWords}
-use Rattle.activity.specs.Laws.Tells.{Answer, holds, fails}
 use Rattle.activity.specs.Inner.Closure.{Rel, Closure, Through, Stepped}
 use Rattle.activity.specs.Inner.Bits.{Bit}
 use Rattle.activity.specs.Laws.Bits.{tells-bit, or-iff, no-bit, word-iff, lt-or-ge}

@@ -9,9 +9,6 @@ use Rattle.basis.specs.Parts.{part}
 use Rattle.basis.specs.Laws.PartsHold.{length-part, getD-part}
 use Rattle.plan.specs.Plan.{pastNode, sizeOf, nodesOf, activityOf}
 use Rattle.plan.specs.Limits.{InLimits, nodeAt}
-use Rattle.plan.specs.declared.Kind.{Kind}
-use Rattle.plan.specs.declared.Node.{Node}
-use Rattle.plan.specs.declared.Activity.{Activity}
 use Rattle.plan.specs.declared.Plan.{Plan}
 use Rattle.activity.specs.Inner.Fits.{NodeFits, Fits}
 use Rattle.activity.specs.Inner.Copied.{copied, filled, emptyNode}

@@ -3,13 +3,14 @@ use mathlib.Core.Path.{_≡_, refl}
 use mathlib.Core.List.{List, [], _∷_, _++_, map}
 use Prim.Native.Nat.{ℕ, _-_}
 use lib.ListN.{length, getD, replicate}
+use Rattle.basis.specs.Tests.{every, some}
 use Rattle.plan.specs.declared.Kind.{Kind}
 use Rattle.plan.specs.declared.Node.{Node}
 use Rattle.plan.specs.declared.Fault.{Fault}
 use Rattle.plan.specs.declared.Plan.{Plan}
 use Rattle.plan.specs.declared.Verdict.{Verdict}
 use Rattle.activity.specs.declared.Finding.{Finding}
-use Rattle.activity.specs.Tests.{every, some, wordOf, passes, beforeWords}
+use Rattle.activity.specs.Tests.{wordOf, passes, beforeWords}
 use Rattle.activity.specs.Number.{noCycle, ruleI, ruleII, ruleIII, ruleIV, ruleV, ruleVI, ruleVII, ruleVIII, ruleIX, ruleX, ruleXI, faultBy, faultOf, verdictFrom, activitiesVerdict}
 use Rattle.activity.specs.Inner.Copied.{emptyNode}
 

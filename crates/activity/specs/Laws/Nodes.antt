@@ -1,5 +1,4 @@
 -- The rules node by node: what each number asks of one node.
-use mathlib.Core.Path.{_≡_}
 use mathlib.Core.List.{List}
 use mathlib.Core.Logic.{_↔_, ⊎-elim}
 use Prim.Native.Nat.{ℕ, _<_, _≤_}
@@ -8,7 +7,7 @@ use lib.ListN.{length}
 use Rattle.plan.specs.declared.Kind.{Kind}
 use Rattle.plan.specs.declared.Node.{Node}
 use Rattle.plan.specs.declared.Fault.{Fault}
-use Rattle.activity.specs.Rules.{Is, Arrow, Before, Ordered}
+use Rattle.activity.specs.Rules.{Is}
 use Rattle.activity.specs.Judged.{Rule}
 use Rattle.activity.specs.Laws.Theorem.{start}
 use Rattle.activity.specs.Inner.Nodes.{At}

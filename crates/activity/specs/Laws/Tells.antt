@@ -6,9 +6,8 @@ use mathlib.Core.Logic.{inl}
 use Prim.Native.Nat.{ℕ}
 use native.Mathlib.Omega.{arith}
 use Rattle.basis.specs.Lists.{Among}
-pub use Rattle.basis.specs.Inner.Tells.{Answer, Tells, holds, fails}
-pub use Rattle.basis.specs.Laws.Tells.{told, denied, told-true, told-false, granted, refuted, tells-iff, tells-not, tells-and, tells-or, tells-eqb}
-pub use Rattle.basis.specs.Laws.Every.{tells-every, tells-some}
+use Rattle.basis.specs.Inner.Tells.{Tells, holds, fails}
+use Rattle.basis.specs.Laws.Tells.{tells-iff, tells-eqb}
 use Rattle.plan.specs.declared.Kind.{Kind}
 use Rattle.activity.specs.Tests.{implies, none, isAction, isClaim, isRelease, isEvent, ofAction, ofClaim, ofRelease, ofEvent}
 

@@ -8,13 +8,17 @@ use native.Mathlib.Decide.{ℕ-discrete}
 use lib.ListN.{length, getD}
 use lib.Dec.{eqb}
 use Rattle.basis.specs.Lists.{one}
+use Rattle.basis.specs.Tests.{every, some}
+use Rattle.basis.specs.Inner.Tells.{Tells}
+use Rattle.basis.specs.Laws.Tells.{tells-iff, tells-not, tells-and, tells-or, tells-eqb}
+use Rattle.basis.specs.Laws.Every.{tells-every, tells-some}
 use Rattle.plan.specs.Plan.{predecessors}
 use Rattle.plan.specs.declared.Kind.{Kind}
 use Rattle.plan.specs.declared.Node.{Node}
 use Rattle.activity.specs.Rules.{node, Is, Before, Ordered, NoCycle, RuleI, RuleII, RuleIII, RuleIV, RuleV, RuleVI, RuleVII, RuleVIII, RuleIX, RuleX, RuleXI}
-use Rattle.activity.specs.Tests.{every, some, implies}
+use Rattle.activity.specs.Tests.{implies}
 use Rattle.activity.specs.Number.{kindOf, before, ordered, noCycle, ruleI, ruleII, ruleIII, ruleIV, ruleV, ruleVI, ruleVII, ruleVIII, ruleIX, ruleX, ruleXI}
-use Rattle.activity.specs.Laws.Tells.{Tells, Sort, actions, claims, releases, events, tells-iff, tells-not, tells-and, tells-or, tells-implies, tells-eqb, tells-none, tells-any, tells-every, tells-some}
+use Rattle.activity.specs.Laws.Tells.{Sort, actions, claims, releases, events, tells-implies, tells-none, tells-any}
 use Rattle.activity.specs.Laws.Bits.{tells-bit}
 use Rattle.activity.specs.Inner.Closure.{Closure}
 use Rattle.activity.specs.Laws.Closure.{within, first-arrow}

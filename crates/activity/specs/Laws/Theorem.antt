@@ -7,6 +7,8 @@ use mathlib.Core.Logic.{_↔_}
 use Prim.Native.Nat.{ℕ}
 use native.Mathlib.Omega.{arith}
 use native.Mathlib.Decide.{decLt}
+use Rattle.basis.specs.Inner.Tells.{Tells, holds, fails}
+use Rattle.basis.specs.Laws.Tells.{tells-and}
 use Rattle.plan.specs.Fault.{numberOf}
 use Rattle.plan.specs.declared.Node.{Node}
 use Rattle.plan.specs.declared.Fault.{Fault}
@@ -14,7 +16,6 @@ use Rattle.activity.specs.declared.Finding.{Finding}
 use Rattle.activity.specs.Rules.{NoCycle, RuleI, RuleII, RuleIII, RuleIV, RuleV, RuleVI, RuleVII, RuleVIII, RuleIX, RuleX, RuleXI, Meets}
 use Rattle.activity.specs.Number.{unless, faultBy, faultOf}
 use Rattle.activity.specs.Tests.{beforeWords}
-use Rattle.activity.specs.Laws.Tells.{Tells, holds, fails, tells-and}
 use Rattle.activity.specs.Judged.{Rule, First, Judged}
 use Rattle.activity.specs.Laws.TestsRight.{tells-noCycle, tells-I, tells-II, tells-III, tells-IV, tells-V, tells-VI, tells-VII, tells-VIII, tells-IX, tells-X, tells-XI}
 use Rattle.activity.specs.Inner.Closure.{Closure}

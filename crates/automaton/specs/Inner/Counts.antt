@@ -1,13 +1,8 @@
 -- What the contracts behind `Laws/Counts` cite.
-use mathlib.Core.Path.{_≡_, refl, sym, ap, _∙_, subst}
-use mathlib.Core.Bool.{Bool, true, false}
+use mathlib.Core.Path.{_≡_}
+use mathlib.Core.Bool.{Bool, true}
 use mathlib.Core.List.{List}
-use mathlib.Core.Logic.{_⊎_, inl, inr}
 use Prim.Native.Nat.{ℕ, _+_, _*_, _≤_, _<_}
-use native.Mathlib.Omega.{arith}
-use native.Mathlib.Decide.{decLt}
-use borrow.Author.Tests.{eqb-true, eq-eqb}
-use lib.Dec.{eqb}
 use Rattle.basis.specs.Tests.{flag}
 use Rattle.plan.specs.declared.Input.{Input}
 use Rattle.plan.specs.declared.Output.{Output}
@@ -15,7 +10,7 @@ use Rattle.plan.specs.declared.Transition.{Transition}
 use Rattle.plan.specs.declared.Automaton.{Automaton}
 use Rattle.plan.specs.Plan.{move, isFinal}
 use Rattle.automaton.specs.Tests.{at}
-use Rattle.automaton.specs.Rules.{Leaves, Path, none, more, ToFinal, EveryState, one, takes, processed, emitted, Breaks25, unemitted, leftover, Breaks26}
+use Rattle.automaton.specs.Rules.{Path, takes, processed, emitted}
 
 -- ---- what the limits of a plan say of its automaton
 

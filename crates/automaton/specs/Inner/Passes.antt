@@ -1,24 +1,17 @@
 -- What the contracts behind `Laws/Passes` cite.
-use mathlib.Core.Path.{_≡_, refl, sym, ap, _∙_, subst}
+use mathlib.Core.Path.{_≡_}
 use mathlib.Core.Bool.{Bool, true, false}
 use mathlib.Core.List.{List}
-use Prim.Native.Nat.{ℕ, suc, _+_, _-_, _*_, _≤_, _<_}
-use native.Mathlib.Omega.{arith}
-use native.Mathlib.Decide.{ℕ-discrete}
-use borrow.Author.Count.{below-more}
-use lib.ListN.{length, set, replicate, length-set}
-use lib.Seq.{getD-set-same, getD-set-other, ext-getD}
-use Rattle.basis.specs.Laws.Flags.{falses-set, kept, grown, no-flag}
-use Rattle.basis.specs.Laws.Tells.{tells-same}
+use Prim.Native.Nat.{ℕ, _+_, _*_, _≤_, _<_}
+use lib.ListN.{length}
 use Rattle.basis.specs.Tests.{flag, falses}
-use Rattle.basis.specs.Inner.Tells.{Tells, holds, fails}
 use Rattle.plan.specs.declared.Input.{Input}
 use Rattle.plan.specs.declared.Output.{Output}
 use Rattle.plan.specs.declared.Automaton.{Automaton}
 use Rattle.plan.specs.Plan.{move, isFinal}
-use Rattle.automaton.specs.Tests.{at, true-false}
-use Rattle.automaton.specs.Rules.{Path, none, more, ToFinal, takes}
-use Rattle.automaton.specs.Inner.Counts.{InRange, Witness, Ready, Known}
+use Rattle.automaton.specs.Tests.{at}
+use Rattle.automaton.specs.Rules.{ToFinal, takes}
+use Rattle.automaton.specs.Inner.Counts.{Witness, Ready}
 
 -- ---- back from the final states
 

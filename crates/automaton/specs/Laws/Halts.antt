@@ -8,12 +8,12 @@ use native.Mathlib.Omega.{arith}
 use lib.ListN.{length, set, replicate, length-set}
 use Rattle.basis.specs.Laws.Flags.{falses-set, grown, no-flag}
 use Rattle.basis.specs.Tests.{flag, falses}
+use Rattle.basis.specs.Laws.Bools.{clash}
 use Rattle.plan.specs.declared.Automaton.{Automaton}
 use Rattle.plan.specs.declared.Plan.{Plan}
 use Rattle.plan.specs.Plan.{move}
 use Rattle.plan.specs.Limits.{InLimits}
 use Rattle.automaton.specs.declared.Next.{Next}
-use Rattle.automaton.specs.Tests.{true-false}
 use Rattle.automaton.specs.Rules.{Leaves, Path, none, more, MeetsAutomaton}
 use Rattle.automaton.specs.Next.{nextOf}
 use Rattle.automaton.specs.Laws.Later.{Stops, ends, awaits, Goes, stay, go, final-ends, goes-only, no-further}
@@ -43,7 +43,7 @@ module _ (p : Plan) (limits : InLimits p) (m : MeetsAutomaton p) (s : ℕ) (low 
   -- a state that a path meets has such a path of its own
   cut : {q n : ℕ} {D : List Bool} → Simple a s q n D → (r : ℕ) → flag D r ≡ true → Reach r
   unfolding Reach
-  cut one r h = grown (λ r. Reach r) (replicate 64 false) s (0, (_, one)) (λ r h. absurd (true-false (sym h ∙ no-flag 64 r))) r h
+  cut one r h = grown (λ r. Reach r) (replicate 64 false) s (0, (_, one)) (λ r h. absurd (clash (sym h ∙ no-flag 64 r))) r h
   cut (add {q} {r} {n} {D} w i l t new) x h = grown (λ x. Reach x) D r (suc n, (_, add w i l t new)) (λ x h. cut w x h) x h
 
   onward : {q r : ℕ} (i : ℕ) → Leaves a q i → move a i .to ≡ r → Reach q → Reach r

@@ -8,6 +8,7 @@ use lib.Dec.{eqb, leb}
 use Rattle.basis.specs.Tests.{flag}
 use Rattle.basis.specs.Inner.Tells.{Tells}
 use Rattle.basis.specs.Laws.Tells.{told-true, told-false, tells, tells-eqb, tells-leb}
+use Rattle.basis.specs.Laws.Bools.{clash as true-false}
 use Rattle.plan.specs.declared.Output.{Output}
 use Rattle.plan.specs.declared.Transition.{Transition}
 use Rattle.plan.specs.declared.Automaton.{Automaton}
@@ -15,7 +16,7 @@ use Rattle.plan.specs.declared.Fault.{Fault}
 use Rattle.plan.specs.declared.Verdict.{Verdict}
 use Rattle.plan.specs.Plan.{move, isFinal}
 use Rattle.automaton.specs.declared.Explored.{Explored}
-use Rattle.automaton.specs.Tests.{at, pick, both, all, true-false}
+use Rattle.automaton.specs.Tests.{at, pick, both, all}
 use Rattle.automaton.specs.Rules.{Path, none, more, ToFinal, EveryState, takes, emitted, Breaks25, unemitted, leftover, Breaks26}
 use Rattle.automaton.specs.Number.{explored, fits, keepsMove, keeps, clear, few, judgeCounts, pathVerdict}
 use Rattle.automaton.specs.Laws.Works.{Small, explored-known}

@@ -12,11 +12,12 @@ use Rattle.basis.specs.Laws.Flags.{falses-set, kept, grown, no-flag}
 use Rattle.basis.specs.Laws.Tells.{tells-same}
 use Rattle.basis.specs.Tests.{flag, falses}
 use Rattle.basis.specs.Inner.Tells.{Tells, holds, fails}
+use Rattle.basis.specs.Laws.Bools.{clash}
 use Rattle.plan.specs.declared.Input.{Input}
 use Rattle.plan.specs.declared.Output.{Output}
 use Rattle.plan.specs.declared.Automaton.{Automaton}
 use Rattle.plan.specs.Plan.{move, isFinal}
-use Rattle.automaton.specs.Tests.{at, true-false}
+use Rattle.automaton.specs.Tests.{at}
 use Rattle.automaton.specs.Rules.{Path, none, more, ToFinal, takes}
 use Rattle.automaton.specs.Inner.Passes.{Backing, Advanced, Going}
 use Rattle.automaton.specs.Inner.Counts.{InRange, Witness, Ready, Known}
@@ -35,7 +36,7 @@ back-starts a F l h = record {
   sound = λ s m t. record { end = s; way = none; final = sym (h s m) ∙ t };
   finals = λ s m f. h s m ∙ f;
   no-more = omega arith;
-  fewer = λ p. absurd (true-false (sym p));
+  fewer = λ p. absurd (clash (sym p));
   closed = λ p j k. absurd (omega arith);
 }
 
@@ -61,7 +62,7 @@ module _ (a : Automaton) (ok : InRange a) where
       sound = b .sound;
       finals = b .finals;
       no-more = omega arith;
-      fewer = λ p. absurd (true-false (sym p));
+      fewer = λ p. absurd (clash (sym p));
       closed = λ p j l. absurd (omega arith);
     }
 
@@ -72,7 +73,7 @@ module _ (a : Automaton) (ok : InRange a) where
       finals = λ s m h. kept E (move a i .from) s f (b .finals s m h);
       no-more = omega (arith, less, b .no-more);
       fewer = λ p. omega (arith, less, b .no-more);
-      closed = λ p. absurd (true-false p);
+      closed = λ p. absurd (clash p);
     }
       where
         less : suc (falses (set E (move a i .from) true)) ≡ falses E
@@ -97,7 +98,7 @@ module _ (a : Automaton) (ok : InRange a) where
 
       go : (s : ℕ) → s < 64 → (x : Bool) → flag E s ≡ x → Tells x (ToFinal a s)
       go s l true h = holds (b .sound s l h)
-      go s l false h = fails (λ z. true-false (sym (back (z .way) (b .finals (z .end) (path-low (z .way) l) (z .final))) ∙ h))
+      go s l false h = fails (λ z. clash (sym (back (z .way) (b .finals (z .end) (path-low (z .way) l) (z .final))) ∙ h))
 
 module _ (gives : Output → ℕ → ℕ) (C : List ℕ) (from to : ℕ) (n : Input) (o : Output) where
   pub advance-starts : length C ≡ 1024 → Advanced gives C from to n o 0 C
@@ -137,12 +138,12 @@ module _ (a : Automaton) (gives : Output → ℕ → ℕ) (ok : InRange a) where
   going-starts C l z = record {
     long = simp length-set refl;
     cells = l;
-    known = grown (λ s. (s < a .states) × Witness a gives C s) N (a .initial) (ok .initial, record { path = none; counts = λ e n. omega (arith, z (16 * a .initial + e)) }) (λ s h. absurd (true-false (sym h ∙ no-flag 64 s)));
+    known = grown (λ s. (s < a .states) × Witness a gives C s) N (a .initial) (ok .initial, record { path = none; counts = λ e n. omega (arith, z (16 * a .initial + e)) }) (λ s h. absurd (clash (sym h ∙ no-flag 64 s)));
     small = λ k. omega (arith, z k, less);
     root = getD-set-same N (a .initial) true false (omega (arith, ok .initial, ok .states));
     zero-there = λ e n. z (16 * a .initial + e);
     no-more = omega arith;
-    fewer = λ p. absurd (true-false (sym p));
+    fewer = λ p. absurd (clash (sym p));
     closed = λ p j h. absurd (omega arith);
   }
     where
@@ -175,7 +176,7 @@ module _ (a : Automaton) (gives : Output → ℕ → ℕ) (ok : InRange a) where
       root = g .root;
       zero-there = g .zero-there;
       no-more = omega arith;
-      fewer = λ p. absurd (true-false (sym p));
+      fewer = λ p. absurd (clash (sym p));
       closed = λ p j l. absurd (omega arith);
     }
 
@@ -190,7 +191,7 @@ module _ (a : Automaton) (gives : Output → ℕ → ℕ) (ok : InRange a) where
       zero-there = λ e n. other (a .initial) (g .root) e n ∙ g .zero-there e n;
       no-more = omega (arith, less, g .no-more);
       fewer = λ p. omega (arith, less, g .no-more);
-      closed = λ p. absurd (true-false p);
+      closed = λ p. absurd (clash p);
     }
       where
         less : suc (falses (set R (move a i .to) true)) ≡ falses R
@@ -198,7 +199,7 @@ module _ (a : Automaton) (gives : Output → ℕ → ℕ) (ok : InRange a) where
 
         other : (s : ℕ) → flag R s ≡ true → (e : ℕ) → e < 16 → at B (16 * s + e) ≡ at C (16 * s + e)
         other s h e n =
-            d .others (16 * s + e) (λ x m q. let same : s ≡ move a i .to = omega arith in true-false (sym h ∙ ap (flag R) same ∙ t))
+            d .others (16 * s + e) (λ x m q. let same : s ≡ move a i .to = omega arith in clash (sym h ∙ ap (flag R) same ∙ t))
 
         new : Witness a gives B (move a i .to)
         new =

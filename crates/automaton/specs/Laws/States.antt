@@ -9,12 +9,13 @@ use lib.Dec.{eqb}
 use Rattle.basis.specs.Parts.{part}
 use Rattle.basis.specs.Laws.Tells.{tells-not, told-true, told-false, tells, tells-eqb}
 use Rattle.basis.specs.Inner.Tells.{Tells, holds, fails}
+use Rattle.basis.specs.Laws.Bools.{clash}
 use Rattle.plan.specs.declared.Input.{Input}
 use Rattle.plan.specs.declared.Automaton.{Automaton}
 use Rattle.plan.specs.Plan.{pastMove, move, isFinal}
 use Rattle.automaton.specs.declared.Next.{Next}
 use Rattle.automaton.specs.declared.Chosen.{Chosen}
-use Rattle.automaton.specs.Tests.{pick, both, all, true-false}
+use Rattle.automaton.specs.Tests.{pick, both, all}
 use Rattle.automaton.specs.Rules.{Leaves, Processes, NoWayOut, Branch, Branches, Serves}
 use Rattle.automaton.specs.Next.{onInput, nextFrom, nextOf, carries, chosenFrom, chosenOf}
 use Rattle.automaton.specs.Number.{isEnded, noWayOut, apart, apartFrom, branchesIn, branches, isMove, servesNext, serves}
@@ -110,7 +111,7 @@ tells-21 a s = go (isFinal a s) refl (nextOf a s) (next-is a s)
     go true f Next.Ended (ended h) = holds (λ z. h)
     go true f (Next.Goes i) (goes l h) = fails (λ z. z f i l)
     go true f (Next.Waits e) (waits o x) = fails (λ z. z f (x .index) (x .leaves))
-    go false f n h = holds (λ z. true-false (sym z ∙ f))
+    go false f n h = holds (λ z. clash (sym z ∙ f))
 
 -- ---- 22
 

@@ -1,15 +1,12 @@
 -- Tests by Bool and what they tell; numbers and flags in a list.
 use mathlib.Core.Path.{_≡_, refl, sym, subst}
 use mathlib.Core.Bool.{Bool, true, false}
-use mathlib.Core.List.{List}
 use Prim.Native.Nat.{ℕ, zero, suc, _<_}
 use native.Mathlib.Omega.{arith}
 use native.Mathlib.Decide.{ℕ-discrete}
-use lib.ListN.{getD}
-use Rattle.basis.specs.Tests.{flag}
-use Rattle.basis.specs.Inner.Tells.{Tells, holds, fails}
-use Rattle.basis.specs.Laws.Bools.{clash as true-false}
-use Rattle.basis.specs.Laws.Tells.{told, denied, tells, told-true, told-false, tells-eqb, tells-leb, tells-ltb}
+use Rattle.basis.specs.Inner.Tells.{Tells, fails}
+use Rattle.basis.specs.Laws.Bools.{clash}
+use Rattle.basis.specs.Laws.Tells.{told, denied, tells, told-true, told-false}
 use Rattle.automaton.specs.Tests.{both, all}
 
 -- ---- laws
@@ -17,12 +14,12 @@ use Rattle.automaton.specs.Tests.{both, all}
 pub both-left : (b c : Bool) → both b c ≡ true → b ≡ true
 unfolding both
 both-left true c h = refl
-both-left false c h = true-false (sym h)
+both-left false c h = clash (sym h)
 
 pub both-right : (b c : Bool) → both b c ≡ true → c ≡ true
 unfolding both
 both-right true c h = h
-both-right false c h = true-false (sym h)
+both-right false c h = clash (sym h)
 
 pub both-tells : (b c : Bool) (P Q : Type 0) → Tells b P → Tells c Q → Tells (both b c) (P × Q)
 unfolding both
@@ -40,7 +37,7 @@ all-true (suc n) f h k l = elim (ℕ-discrete k n) [ yes e ↦ subst (λ (j : �
 -- where not all pass, one does not
 pub all-false : (n : ℕ) (f : ℕ → Bool) → all n f ≡ false → (k : ℕ) × (k < n) × (f k ≡ false)
 unfolding all both
-all-false zero f h = true-false h
+all-false zero f h = clash h
 all-false (suc n) f h = go (all n f) refl h (λ e. all-false n f e)
   where
     go : (b : Bool) → all n f ≡ b → both b (f n) ≡ false → (all n f ≡ false → (k : ℕ) × (k < n) × (f k ≡ false)) → (k : ℕ) × (k < suc n) × (f k ≡ false)

@@ -14,12 +14,13 @@ use Rattle.basis.specs.Laws.Lists.{all-same}
 use Rattle.basis.specs.Tests.{flag, falses}
 use Rattle.basis.specs.Inner.Tells.{Tells, holds}
 use Rattle.basis.specs.Laws.Tells.{told-true, told-false, tells-ltb}
+use Rattle.basis.specs.Laws.Bools.{clash}
 use Rattle.plan.specs.declared.Input.{Input}
 use Rattle.plan.specs.declared.Output.{Output}
 use Rattle.plan.specs.declared.Automaton.{Automaton}
 use Rattle.plan.specs.Plan.{pastMove, move, movesOf, isFinal}
 use Rattle.automaton.specs.declared.Explored.{Explored}
-use Rattle.automaton.specs.Tests.{at, pick, both, true-false}
+use Rattle.automaton.specs.Tests.{at, pick, both}
 use Rattle.automaton.specs.Number.{again, finalsOf, passBack, toFinal, isReady, advanced, isNew, passOn, outset, explored}
 use Rattle.automaton.specs.Inner.Counts.{InRange, Ready, Known}
 use Rattle.automaton.specs.Laws.Counts.{ready-takes}
@@ -64,7 +65,7 @@ module _ (a : Automaton) (ok : InRange a) where
   back-step D i E l (ch, b) = go (flag E (move a i .to)) refl (flag E (move a i .from)) refl
     where
       go : (x : Bool) → flag E (move a i .to) ≡ x → (y : Bool) → flag E (move a i .from) ≡ y → Backed D (i + 1) (pick x (set E (move a i .from) true) E)
-      go false t y f = (ch, back-stay a ok D i E ch b (λ h. absurd (true-false (sym h ∙ t))))
+      go false t y f = (ch, back-stay a ok D i E ch b (λ h. absurd (clash (sym h ∙ t))))
       go true t true f =
           let same : E ≡ set E (move a i .from) true = sym (set-getD E (move a i .from) false) ∙ ap (set E (move a i .from)) f in
           (ch, subst (λ (F : List Bool). Backing a D (i + 1) F ch) same (back-stay a ok D i E ch b (λ h. f)))
@@ -126,7 +127,7 @@ module _ (a : Automaton) (gives : Output → ℕ → ℕ) (ok : InRange a) (smal
 
       go : (u : Bool) → flag (x .reached) (move a i .from) ≡ u → (v : Bool) → flag (x .reached) (move a i .to) ≡ v → (w : Bool) → isReady (x .counts) (move a i .from) (move a i .input) ≡ w
           → Went D (i + 1) (pick (both u (both (not v) w)) (reach i x) x)
-      go false f v t w r = stay (λ h k. absurd (true-false (sym h ∙ f)))
+      go false f v t w r = stay (λ h k. absurd (clash (sym h ∙ f)))
       go true f true t w r = stay (λ h k. t)
       go true f false t false r = stay (λ h k. absurd (told-false (tells-ready (x .counts) (move a i .from) (move a i .input)) r k))
       go true f false t true r = (

@@ -1,6 +1,8 @@
 -- `crowded` looks at all counts: none before k is above 8 at a reached state.
 use Rattle.basis.specs.Inner.Tells.{holds, fails}
-use Rattle.automaton.specs.Tests.{true-false, flag, at}
+use Rattle.basis.specs.Laws.Bools.{clash}
+use Rattle.basis.specs.Tests.{flag}
+use Rattle.automaton.specs.Tests.{at}
 use Rattle.automaton_counts.proofs.Tools.{crowd-at, no-crowd}
 use borrow.Author.Count.{below-more}
 use mathlib.Core.Bool.{true}
@@ -48,7 +50,7 @@ loop-less-2 : tie.Need-loop-less-2 Inv-loop μ-loop
 loop-less-2 c = search needs
 
 loop-again-2 : tie.Need-loop-again-2 Inv-loop μ-loop
-loop-again-2 c = (omega arith, below-more _ _ (c .before .before .before .before .before .loop .inv .1) (λ h. absurd (true-false (sym h ∙ c .if2 .left))))
+loop-again-2 c = (omega arith, below-more _ _ (c .before .before .before .before .before .loop .inv .1) (λ h. absurd (clash (sym h ∙ c .if2 .left))))
 
 returns-2 : tie.Need-returns-2 Inv-loop μ-loop
 returns-2 c = fails (no-crowd _ _ (λ j l r. c .before .loop .inv .1 j (omega (arith, c .before .before .pre .1 (j / 16) r)) r))

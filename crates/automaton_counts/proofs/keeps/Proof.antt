@@ -1,6 +1,7 @@
 -- `keeps` looks at all transitions of reached states.
+use Rattle.basis.specs.Laws.Bools.{clash as true-false}
+use Rattle.basis.specs.Tests.{flag}
 use Rattle.automaton_counts.specs.Inner.Emits.{gives}
-use Rattle.automaton.specs.Tests.{true-false, flag}
 use Rattle.automaton.specs.Inner.Counts.{Kept}
 use Rattle.automaton_counts.proofs.Tools.{moved, move-ok, sure, fails}
 use Rattle.plan.specs.Plan.{move}

@@ -6,7 +6,9 @@ use native.Mathlib.Omega.{arith}
 use borrow.Author.Count.{below-more}
 use borrow.Author.Tests.{not-true, not-false}
 use Rattle.basis.specs.Inner.Tells.{holds, fails}
-use Rattle.automaton.specs.Tests.{at, flag, true-false}
+use Rattle.basis.specs.Tests.{flag}
+use Rattle.basis.specs.Laws.Bools.{clash}
+use Rattle.automaton.specs.Tests.{at}
 use Rattle.automaton_counts.specs.Inner.Emits.{finalBit}
 use Rattle.automaton_counts.proofs.Tools.{left-at, no-left, final-same}
 use borrow.Author.Needs.{needs}
@@ -47,7 +49,7 @@ loop-less-2 : tie.Need-loop-less-2 Inv-loop μ-loop
 loop-less-2 c = search needs
 
 loop-again-2 : tie.Need-loop-again-2 Inv-loop μ-loop
-loop-again-2 c = (omega arith, below-more _ _ (c .before .before .before .before .before .loop .inv .1) (λ h. absurd (true-false (sym h ∙ not-true _ (c .if2 .taken)))))
+loop-again-2 c = (omega arith, below-more _ _ (c .before .before .before .before .before .loop .inv .1) (λ h. absurd (clash (sym h ∙ not-true _ (c .if2 .taken)))))
 
 is-final-requires : tie.Need-is-final-requires Inv-loop μ-loop
 is-final-requires c κs = search needs
@@ -59,7 +61,7 @@ loop-less-3 : tie.Need-loop-less-3 Inv-loop μ-loop
 loop-less-3 c = search needs
 
 loop-again-3 : tie.Need-loop-again-3 Inv-loop μ-loop
-loop-again-3 c = (omega arith, below-more _ _ (c .before .before .before .before .before .before .before .loop .inv .1) (λ _ h. absurd (true-false (sym h ∙ sym (c .before .is-final .ensures) ∙ c .if3 .left))))
+loop-again-3 c = (omega arith, below-more _ _ (c .before .before .before .before .before .before .before .loop .inv .1) (λ _ h. absurd (clash (sym h ∙ sym (c .before .is-final .ensures) ∙ c .if3 .left))))
 
 returns-2 : tie.Need-returns-2 Inv-loop μ-loop
 returns-2 c a same = fails (no-left a _ _ (λ j l r f. c .before .loop .inv .1 j (omega (arith, c .before .before .pre .1 (j / 16) r)) r (sym (final-same a _ same (j / 16)) ∙ f)))

@@ -1,5 +1,5 @@
 -- `pending` judges by the counts: a transition that does not fit, something left, more than 8.
-use Rattle.automaton.specs.Tests.{told-true, told-false}
+use Rattle.basis.specs.Laws.Tells.{told-true, told-false}
 use Rattle.automaton_counts.specs.Laws.Emits.{gives-bounded}
 use Rattle.automaton.specs.Inner.OnPaths.{broken25, broken26, neither}
 use Rattle.automaton.specs.Laws.Counts.{clash-25, left-25, crowd-26, crowd-of, not-25}

@@ -4,7 +4,7 @@ use mathlib.Core.Path.{ap, _∙_}
 use denote.Ref.{now}
 use mathlib.Core.Bool.{Bool}
 use mathlib.Core.List.{List}
-use Rattle.automaton.specs.Tests.{flag}
+use Rattle.basis.specs.Tests.{flag}
 use Rattle.automaton.specs.Number.{lowest, toFinal}
 use Rattle.automaton_counts.proofs.Tools.{way-stops, way-goes}
 use borrow.Author.Needs.{needs}

@@ -2,22 +2,16 @@
 use mathlib.Core.Path.{_≡_, refl, ap}
 use mathlib.Core.Bool.{Bool, true, false}
 use mathlib.Core.List.{List}
-use Prim.Native.Nat.{ℕ, _+_, _*_, _/_, _%_, _^_, _≤_, _<_}
+use Prim.Native.Nat.{ℕ, _+_, _*_, _≤_, _<_}
 use native.Mathlib.Omega.{arith}
 use borrow.Author.Tests.{lt-ltb, le-ltb}
-use lib.Dec.{eqb, ltb}
-use lib.ListN.{length}
+use lib.Dec.{ltb}
 use Rattle.plan.specs.declared.Output.{Output}
-use Rattle.plan.specs.declared.Transition.{Transition}
 use Rattle.plan.specs.declared.Automaton.{Automaton}
-use Rattle.plan.specs.declared.Verdict.{Verdict}
-use Rattle.automaton.specs.Tests.{at, flag, pick}
-use Rattle.automaton.specs.Rules.{ToFinal, EveryState}
+use Rattle.automaton.specs.Tests.{at, pick}
 use Rattle.plan.specs.Plan.{move}
 use Rattle.automaton.specs.Laws.Works.{Small}
 use Rattle.automaton.specs.Laws.Counts.{Bounded}
-use Rattle.automaton.specs.Inner.Counts.{Kept}
-use Rattle.automaton.specs.Inner.OnPaths.{OnPaths}
 use Rattle.automaton_counts.specs.Inner.Emits.{gives, Few}
 
 -- ---- the table

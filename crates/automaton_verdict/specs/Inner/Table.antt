@@ -1,21 +1,13 @@
 -- What the contracts behind `Laws/Table` cite.
-use mathlib.Core.Path.{_≡_, refl, sym, ap, _∙_}
+use mathlib.Core.Path.{_≡_}
 use mathlib.Core.List.{List}
 use Prim.Native.Nat.{ℕ, _+_, _*_, _<_}
-use native.Mathlib.Omega.{arith}
-use native.Mathlib.Decide.{decLt}
 use Rattle.plan.specs.declared.Kind.{Kind}
-use Rattle.plan.specs.declared.Output.{Output}
 use Rattle.plan.specs.declared.Plan.{Plan}
-use Rattle.plan.specs.Plan.{activityOf, move, outcomesOf}
-use Rattle.plan.specs.Limits.{OutputNames, InLimits}
+use Rattle.plan.specs.Plan.{activityOf}
 use Rattle.automaton.specs.Tests.{at}
-use Rattle.automaton.specs.Rules.{eventsIn, emits}
-use Rattle.automaton.specs.Laws.Bounds.{in-range, emits-bounded, emits-small}
-use Rattle.automaton.specs.Number.{stateVerdict, wayVerdict, automatonVerdict}
-use Rattle.automaton.specs.Laws.Decides.{way-same}
-use Rattle.automaton_counts.specs.Inner.Emits.{gives, Few}
-use Rattle.automaton_counts.specs.Laws.Emits.{gives-at, gives-small, gives-bounded}
+use Rattle.automaton.specs.Rules.{eventsIn}
+use Rattle.automaton_counts.specs.Inner.Emits.{Few}
 
 -- at 16 * k + e stands how many nodes of event e activity k has
 pub record Table (p : Plan) (em : List ℕ) : Type 0 where

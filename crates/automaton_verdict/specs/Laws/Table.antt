@@ -1,20 +1,18 @@
 -- What the activities of a plan emit, as a table.
 use mathlib.Core.Path.{_≡_, refl, sym, ap, _∙_}
 use mathlib.Core.List.{List}
-use Prim.Native.Nat.{ℕ, _+_, _*_, _<_}
+use Prim.Native.Nat.{ℕ, _<_}
 use native.Mathlib.Omega.{arith}
 use native.Mathlib.Decide.{decLt}
-use Rattle.plan.specs.declared.Kind.{Kind}
 use Rattle.plan.specs.declared.Output.{Output}
 use Rattle.plan.specs.declared.Plan.{Plan}
-use Rattle.plan.specs.Plan.{activityOf, move, outcomesOf}
+use Rattle.plan.specs.Plan.{move, outcomesOf}
 use Rattle.plan.specs.Limits.{OutputNames, InLimits}
-use Rattle.automaton.specs.Tests.{at}
-use Rattle.automaton.specs.Rules.{eventsIn, emits}
+use Rattle.automaton.specs.Rules.{emits}
 use Rattle.automaton.specs.Laws.Bounds.{in-range, emits-bounded, emits-small}
 use Rattle.automaton.specs.Number.{stateVerdict, wayVerdict, automatonVerdict}
 use Rattle.automaton.specs.Laws.Decides.{way-same}
-use Rattle.automaton_counts.specs.Inner.Emits.{gives, Few}
+use Rattle.automaton_counts.specs.Inner.Emits.{gives}
 use Rattle.automaton_counts.specs.Laws.Emits.{gives-at, gives-small, gives-bounded}
 use Rattle.automaton_verdict.specs.Inner.Table.{Table}
 

@@ -1,6 +1,6 @@
 -- `writing-iff`: writing answers 50, 36 or the bytes, each in its condition. `not-written`, `buffer`: what the buffer then holds.
 -- `read-back`: what was written is read as the same plan. `writing-numbers`: the same by number and place.
-use mathlib.Core.Path.{_≡_, refl, sym, _∙_, ap, subst}
+use mathlib.Core.Path.{_≡_, refl, sym, ap, subst}
 use mathlib.Core.Bool.{Bool, true, false, cond}
 use mathlib.Core.List.{List, _++_}
 use mathlib.Core.Logic.{_↔_}

@@ -10,12 +10,6 @@ use Rattle.drive.proofs.Turns.{drivenFrom, Leads, call-ahead, turn-ends
 use borrow.Author.Needs.{needs}
 use Rattle.drive.proofs.calls_from.Statement.{statement}
 use Rattle.drive.proofs.calls_from.Tie as tie
-use Rattle.drive.proofs.calls_from.Reads as reads
-use Rattle.drive.proofs.calls_from.Lts as lts
-use Rattle.drive_input.proofs.call_at.Reads as call-at-reads
-use Rattle.drive_records.proofs.put_at.Reads as put-at-reads
-use Rattle.drive_records.proofs.reply_record.Reads as reply-record-reads
-use Rattle.run.proofs.Run.call.Reads as call-reads
 
 abbrev Inv-loop : tie.InvT-loop
 Inv-loop input from out₀ written calls run₀ at₀ end₀ left₀ out run at end left =

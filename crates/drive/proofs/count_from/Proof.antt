@@ -9,9 +9,6 @@ use Rattle.drive.proofs.Turns.{call-ahead, count-ends, count-goes, coun
 use borrow.Author.Needs.{needs}
 use Rattle.drive.proofs.count_from.Statement.{statement}
 use Rattle.drive.proofs.count_from.Tie as tie
-use Rattle.drive.proofs.count_from.Reads as reads
-use Rattle.drive.proofs.count_from.Lts as lts
-use Rattle.drive_input.proofs.call_at.Reads as call-at-reads
 
 abbrev Inv-loop : tie.InvT-loop
 Inv-loop input from at₀ count₀ left₀ at count left =

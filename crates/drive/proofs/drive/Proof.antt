@@ -5,10 +5,6 @@ use Rattle.drive.proofs.Fitting.{no-opening}
 use borrow.Author.Needs.{needs}
 use Rattle.drive.proofs.drive.Statement.{statement}
 use Rattle.drive.proofs.drive.Tie as tie
-use Rattle.drive.proofs.drive.Reads as reads
-use Rattle.drive.proofs.drive.Lts as lts
-use Rattle.drive_input.proofs.head_of.Reads as head-of-reads
-use Rattle.drive.proofs.if_they_fit.Reads as if-they-fit-reads
 
 head-of-requires : tie.Need-head-of-requires
 head-of-requires c κs = search needs

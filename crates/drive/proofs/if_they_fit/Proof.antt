@@ -1,16 +1,11 @@
 -- Counted first: a buffer that is too short stays as it was.
 use native.Mathlib.Omega.{arith}
 use denote.Ref.{now}
-use Prim.Native.Nat.{_-_}
 use Rattle.drive.proofs.Turns.{whole-calls}
 use Rattle.drive.proofs.Fitting.{all-calls, too-short, all-written}
 use borrow.Author.Needs.{needs}
 use Rattle.drive.proofs.if_they_fit.Statement.{statement}
 use Rattle.drive.proofs.if_they_fit.Tie as tie
-use Rattle.drive.proofs.if_they_fit.Reads as reads
-use Rattle.drive.proofs.if_they_fit.Lts as lts
-use Rattle.drive.proofs.count_from.Reads as count-from-reads
-use Rattle.drive.proofs.opened_and_called.Reads as opened-and-called-reads
 
 count-from-requires : tie.Need-count-from-requires
 count-from-requires c κs = let s = c .before .before in whole-calls (now (s .args .input)) (s .args .head) (s .pre)

@@ -10,11 +10,6 @@ use Rattle.run.specs.Opening.{openOf}
 use borrow.Author.Needs.{needs}
 use Rattle.drive.proofs.open.Statement.{statement}
 use Rattle.drive.proofs.open.Tie as tie
-use Rattle.drive.proofs.open.Reads as reads
-use Rattle.drive.proofs.open.Lts as lts
-use Rattle.drive_input.proofs.availabilities.Reads as availabilities-reads
-use Rattle.drive_input.proofs.wide.Reads as wide-reads
-use Rattle.run.proofs.Run.open.Reads as open-reads
 
 add-end : tie.Need-add-end
 add-end c = search needs

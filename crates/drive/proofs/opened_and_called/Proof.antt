@@ -1,19 +1,12 @@
 -- The opening's record stands first, and the calls begin where the opening ends.
 use native.Mathlib.Omega.{arith}
 use denote.Ref.{now}
-use Prim.Native.Nat.{_-_}
 use Rattle.drive.proofs.Turns.{whole-fits, whole-calls, opens}
 use Rattle.drive_records.specs.Laws.Records.{record-length}
 use Rattle.wire.specs.Laws.Puts.{puts-length}
 use borrow.Author.Needs.{needs}
 use Rattle.drive.proofs.opened_and_called.Statement.{statement}
 use Rattle.drive.proofs.opened_and_called.Tie as tie
-use Rattle.drive.proofs.opened_and_called.Reads as reads
-use Rattle.drive.proofs.opened_and_called.Lts as lts
-use Rattle.drive.proofs.calls_from.Reads as calls-from-reads
-use Rattle.drive.proofs.open.Reads as open-reads
-use Rattle.drive_records.proofs.opening_record.Reads as opening-record-reads
-use Rattle.drive_records.proofs.put_at.Reads as put-at-reads
 
 open-requires : tie.Need-open-requires
 open-requires c κs = let a = c .before .before .args in whole-fits (now (a .input)) (a .head) (c .before .before .pre .0)

@@ -1,14 +1,10 @@
 -- An ask: there whole, or cut off.
 use native.Mathlib.Omega.{arith}
 use denote.Ref.{now}
-use Prim.Native.Nat.{_-_}
 use Rattle.drive_input.proofs.Offsets.{ask-cut, ask-there}
 use borrow.Author.Needs.{needs}
 use Rattle.drive_input.proofs.ask_at.Statement.{statement}
 use Rattle.drive_input.proofs.ask_at.Tie as tie
-use Rattle.drive_input.proofs.ask_at.Reads as reads
-use Rattle.drive_input.proofs.ask_at.Lts as lts
-use Rattle.drive_input.proofs.eight.Reads as eight-reads
 
 sub-if1 : tie.Need-sub-if1
 sub-if1 c = search needs

@@ -9,10 +9,6 @@ use Rattle.drive_input.proofs.Filled.{Fills, fills-none, fills-more, fi
 use borrow.Author.Needs.{needs}
 use Rattle.drive_input.proofs.availabilities.Statement.{statement}
 use Rattle.drive_input.proofs.availabilities.Tie as tie
-use Rattle.drive_input.proofs.availabilities.Reads as reads
-use Rattle.drive_input.proofs.availabilities.Lts as lts
-use Rattle.drive_input.proofs.eight.Reads as eight-reads
-use Rattle.drive_input.proofs.wide.Reads as wide-reads
 
 abbrev Inv-loop : tie.InvT-loop
 Inv-loop input at count times₀ i₀ off₀ n times i off =

@@ -2,16 +2,10 @@
 use mathlib.Core.Path.{_∙_}
 use native.Mathlib.Omega.{arith}
 use denote.Ref.{now}
-use Prim.Native.Nat.{_-_}
 use Rattle.drive_input.proofs.Offsets.{no-call, is-ask, is-completion, is-outcome, no-kind}
 use borrow.Author.Needs.{needs}
 use Rattle.drive_input.proofs.call_at.Statement.{statement}
 use Rattle.drive_input.proofs.call_at.Tie as tie
-use Rattle.drive_input.proofs.call_at.Reads as reads
-use Rattle.drive_input.proofs.call_at.Lts as lts
-use Rattle.drive_input.proofs.ask_at.Reads as ask-at-reads
-use Rattle.drive_input.proofs.completion_at.Reads as completion-at-reads
-use Rattle.drive_input.proofs.outcome_at.Reads as outcome-at-reads
 
 returns : tie.Need-returns
 returns c = let a = c .before .before .args in no-call (now (a .input)) (a .at) (omega arith)

@@ -1,15 +1,10 @@
 -- A completion: there whole, or cut off.
 use native.Mathlib.Omega.{arith}
 use denote.Ref.{now}
-use Prim.Native.Nat.{_-_}
 use Rattle.drive_input.proofs.Offsets.{completion-cut, completion-there}
 use borrow.Author.Needs.{needs}
 use Rattle.drive_input.proofs.completion_at.Statement.{statement}
 use Rattle.drive_input.proofs.completion_at.Tie as tie
-use Rattle.drive_input.proofs.completion_at.Reads as reads
-use Rattle.drive_input.proofs.completion_at.Lts as lts
-use Rattle.drive_input.proofs.eight.Reads as eight-reads
-use Rattle.drive_input.proofs.four.Reads as four-reads
 
 sub-if1 : tie.Need-sub-if1
 sub-if1 c = search needs

@@ -6,9 +6,6 @@ use Rattle.drive_input.proofs.There.{eight-is, eight-there}
 use borrow.Author.Needs.{needs}
 use Rattle.drive_input.proofs.eight.Statement.{statement}
 use Rattle.drive_input.proofs.eight.Tie as tie
-use Rattle.drive_input.proofs.eight.Reads as reads
-use Rattle.drive_input.proofs.eight.Lts as lts
-use Rattle.wire.proofs.wide_at.Reads as wide-at-reads
 
 wide-at-requires : tie.Need-wide-at-requires
 wide-at-requires c κs = search needs

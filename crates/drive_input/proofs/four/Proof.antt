@@ -6,9 +6,6 @@ use Rattle.drive_input.proofs.There.{four-is, four-there}
 use borrow.Author.Needs.{needs}
 use Rattle.drive_input.proofs.four.Statement.{statement}
 use Rattle.drive_input.proofs.four.Tie as tie
-use Rattle.drive_input.proofs.four.Reads as reads
-use Rattle.drive_input.proofs.four.Lts as lts
-use Rattle.wire.proofs.long_at.Reads as long-at-reads
 
 long-at-requires : tie.Need-long-at-requires
 long-at-requires c κs = search needs

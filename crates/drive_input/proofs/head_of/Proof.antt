@@ -2,16 +2,11 @@
 use mathlib.Core.Path.{refl, ap}
 use native.Mathlib.Omega.{arith}
 use denote.Ref.{now}
-use Prim.Native.Nat.{ℕ, _+_, _*_, _-_}
+use Prim.Native.Nat.{ℕ, _+_, _*_}
 use Rattle.drive_input.proofs.Offsets.{head-cut, times-cut, head-there}
 use borrow.Author.Needs.{needs}
 use Rattle.drive_input.proofs.head_of.Statement.{statement}
 use Rattle.drive_input.proofs.head_of.Tie as tie
-use Rattle.drive_input.proofs.head_of.Reads as reads
-use Rattle.drive_input.proofs.head_of.Lts as lts
-use Rattle.drive_input.proofs.eight.Reads as eight-reads
-use Rattle.drive_input.proofs.two.Reads as two-reads
-use Rattle.drive_input.proofs.wide.Reads as wide-reads
 
 returns : tie.Need-returns
 returns c = let a = c .before .before .args in head-cut (now (a .input)) (omega arith)

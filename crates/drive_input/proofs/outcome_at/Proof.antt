@@ -1,15 +1,10 @@
 -- An outcome: there whole, or cut off.
 use native.Mathlib.Omega.{arith}
 use denote.Ref.{now}
-use Prim.Native.Nat.{_-_}
 use Rattle.drive_input.proofs.Offsets.{outcome-cut, outcome-there}
 use borrow.Author.Needs.{needs}
 use Rattle.drive_input.proofs.outcome_at.Statement.{statement}
 use Rattle.drive_input.proofs.outcome_at.Tie as tie
-use Rattle.drive_input.proofs.outcome_at.Reads as reads
-use Rattle.drive_input.proofs.outcome_at.Lts as lts
-use Rattle.drive_input.proofs.eight.Reads as eight-reads
-use Rattle.drive_input.proofs.four.Reads as four-reads
 
 sub-if1 : tie.Need-sub-if1
 sub-if1 c = search needs

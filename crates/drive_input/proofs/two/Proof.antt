@@ -6,9 +6,6 @@ use Rattle.drive_input.proofs.There.{two-is, two-there}
 use borrow.Author.Needs.{needs}
 use Rattle.drive_input.proofs.two.Statement.{statement}
 use Rattle.drive_input.proofs.two.Tie as tie
-use Rattle.drive_input.proofs.two.Reads as reads
-use Rattle.drive_input.proofs.two.Lts as lts
-use Rattle.wire.proofs.short_at.Reads as short-at-reads
 
 short-at-requires : tie.Need-short-at-requires
 short-at-requires c κs = search needs

@@ -3,10 +3,6 @@ use Rattle.drive_records.specs.Records.{bare, openingRecord}
 use borrow.Author.Needs.{needs}
 use Rattle.drive_records.proofs.opening_record.Statement.{statement}
 use Rattle.drive_records.proofs.opening_record.Tie as tie
-use Rattle.drive_records.proofs.opening_record.Reads as reads
-use Rattle.drive_records.proofs.opening_record.Lts as lts
-use Rattle.drive_records.proofs.bare.Reads as bare-reads
-use Rattle.drive_records.proofs.unopened_record.Reads as unopened-record-reads
 
 enum-told : tie.Need-enum-told
 enum-told c = search needs

@@ -9,9 +9,6 @@ use Rattle.drive_records.proofs.Placed.{placed}
 use borrow.Author.Needs.{needs}
 use Rattle.drive_records.proofs.put_at.Statement.{statement}
 use Rattle.drive_records.proofs.put_at.Tie as tie
-use Rattle.drive_records.proofs.put_at.Reads as reads
-use Rattle.drive_records.proofs.put_at.Lts as lts
-use Rattle.drive_records.proofs.put_first.Reads as put-first-reads
 
 add-end : tie.Need-add-end
 add-end c = search needs

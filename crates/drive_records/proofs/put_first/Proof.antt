@@ -4,10 +4,6 @@ use Rattle.drive_records.specs.Records.{recordBytes}
 use borrow.Author.Needs.{needs}
 use Rattle.drive_records.proofs.put_first.Statement.{statement}
 use Rattle.drive_records.proofs.put_first.Tie as tie
-use Rattle.drive_records.proofs.put_first.Reads as reads
-use Rattle.drive_records.proofs.put_first.Lts as lts
-use Rattle.wire.proofs.puts.put_byte.Reads as put-byte-reads
-use Rattle.wire.proofs.puts.put_number.Reads as put-number-reads
 
 put-byte-requires : tie.Need-put-byte-requires
 put-byte-requires c κs = search needs

@@ -5,11 +5,6 @@ use Rattle.drive_records.specs.Records.{bare, replyRecord}
 use borrow.Author.Needs.{needs}
 use Rattle.drive_records.proofs.reply_record.Statement.{statement}
 use Rattle.drive_records.proofs.reply_record.Tie as tie
-use Rattle.drive_records.proofs.reply_record.Reads as reads
-use Rattle.drive_records.proofs.reply_record.Lts as lts
-use Rattle.drive_records.proofs.bare.Reads as bare-reads
-use Rattle.drive_records.proofs.refusal_number.Reads as refusal-number-reads
-use Rattle.drive_records.proofs.stop_record.Reads as stop-record-reads
 
 enum-known-reply : tie.Need-enum-known-reply
 enum-known-reply c = search needs

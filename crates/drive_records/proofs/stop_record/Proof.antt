@@ -3,9 +3,6 @@ use Rattle.drive_records.specs.Records.{bare, stopRecord}
 use borrow.Author.Needs.{needs}
 use Rattle.drive_records.proofs.stop_record.Statement.{statement}
 use Rattle.drive_records.proofs.stop_record.Tie as tie
-use Rattle.drive_records.proofs.stop_record.Reads as reads
-use Rattle.drive_records.proofs.stop_record.Lts as lts
-use Rattle.drive_records.proofs.bare.Reads as bare-reads
 
 enum-known-s : tie.Need-enum-known-s
 enum-known-s c = search needs

@@ -3,9 +3,6 @@ use Rattle.drive_records.specs.Records.{bare}
 use borrow.Author.Needs.{needs}
 use Rattle.drive_records.proofs.unopened_record.Statement.{statement}
 use Rattle.drive_records.proofs.unopened_record.Tie as tie
-use Rattle.drive_records.proofs.unopened_record.Reads as reads
-use Rattle.drive_records.proofs.unopened_record.Lts as lts
-use Rattle.drive_records.proofs.bare.Reads as bare-reads
 
 enum-known-u : tie.Need-enum-known-u
 enum-known-u c = search needs

@@ -3,10 +3,6 @@ use Rattle.exports.specs.Codes.{codeOf}
 use borrow.Author.Needs.{needs}
 use Rattle.exports.proofs.activities_of.Statement.{statement}
 use Rattle.exports.proofs.activities_of.Tie as tie
-use Rattle.exports.proofs.activities_of.Reads as reads
-use Rattle.exports.proofs.activities_of.Lts as lts
-use Rattle.activity.proofs.activities.Reads as activities-reads
-use Rattle.exports.proofs.code.Reads as code-reads
 
 activities-requires : tie.Need-activities-requires
 activities-requires c κs = search needs

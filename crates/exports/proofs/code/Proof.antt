@@ -3,10 +3,6 @@ use Rattle.exports.specs.Codes.{codeOf}
 use borrow.Author.Needs.{needs}
 use Rattle.exports.proofs.code.Statement.{statement}
 use Rattle.exports.proofs.code.Tie as tie
-use Rattle.exports.proofs.code.Reads as reads
-use Rattle.exports.proofs.code.Lts as lts
-use Rattle.exports.proofs.number.Reads as number-reads
-use Rattle.exports.proofs.short_place.Reads as short-place-reads
 
 enum-told : tie.Need-enum-told
 enum-told c = search needs

@@ -5,11 +5,6 @@ use Rattle.exports.specs.Codes.{activitiesCode}
 use borrow.Author.Needs.{needs}
 use Rattle.exports.proofs.jidlekuvo_activities.Statement.{statement}
 use Rattle.exports.proofs.jidlekuvo_activities.Tie as tie
-use Rattle.exports.proofs.jidlekuvo_activities.Reads as reads
-use Rattle.exports.proofs.jidlekuvo_activities.Lts as lts
-use Rattle.exports.proofs.activities_of.Reads as activities-of-reads
-use Rattle.exports.proofs.code.Reads as code-reads
-use Rattle.plan_read.proofs.read.Reads as read-reads
 
 read-requires : tie.Need-read-requires
 read-requires c κs = search needs

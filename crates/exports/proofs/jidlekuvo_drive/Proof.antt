@@ -3,10 +3,6 @@ use Rattle.exports.specs.Codes.{recordedCode}
 use borrow.Author.Needs.{needs}
 use Rattle.exports.proofs.jidlekuvo_drive.Statement.{statement}
 use Rattle.exports.proofs.jidlekuvo_drive.Tie as tie
-use Rattle.exports.proofs.jidlekuvo_drive.Reads as reads
-use Rattle.exports.proofs.jidlekuvo_drive.Lts as lts
-use Rattle.drive.proofs.drive.Reads as drive-reads
-use Rattle.exports.proofs.recorded_code.Reads as recorded-code-reads
 
 drive-requires : tie.Need-drive-requires
 drive-requires c κs = search needs

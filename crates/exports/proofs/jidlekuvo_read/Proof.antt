@@ -4,10 +4,6 @@ use Rattle.exports.specs.Codes.{codeOf}
 use borrow.Author.Needs.{needs}
 use Rattle.exports.proofs.jidlekuvo_read.Statement.{statement}
 use Rattle.exports.proofs.jidlekuvo_read.Tie as tie
-use Rattle.exports.proofs.jidlekuvo_read.Reads as reads
-use Rattle.exports.proofs.jidlekuvo_read.Lts as lts
-use Rattle.exports.proofs.code.Reads as code-reads
-use Rattle.plan_read.proofs.read.Reads as read-reads
 
 read-requires : tie.Need-read-requires
 read-requires c κs = search needs

@@ -3,12 +3,6 @@ use Rattle.exports.specs.Codes.{writtenCode, backCode, backBuffer}
 use borrow.Author.Needs.{needs}
 use Rattle.exports.proofs.jidlekuvo_write_back.Statement.{statement}
 use Rattle.exports.proofs.jidlekuvo_write_back.Tie as tie
-use Rattle.exports.proofs.jidlekuvo_write_back.Reads as reads
-use Rattle.exports.proofs.jidlekuvo_write_back.Lts as lts
-use Rattle.exports.proofs.code.Reads as code-reads
-use Rattle.exports.proofs.written_code.Reads as written-code-reads
-use Rattle.plan_read.proofs.read.Reads as read-reads
-use Rattle.plan_write.proofs.write.Reads as write-reads
 
 read-requires : tie.Need-read-requires
 read-requires c κs = search needs

@@ -5,8 +5,6 @@ use Rattle.exports.specs.Codes.{recordedCode}
 use borrow.Author.Needs.{needs}
 use Rattle.exports.proofs.recorded_code.Statement.{statement}
 use Rattle.exports.proofs.recorded_code.Tie as tie
-use Rattle.exports.proofs.recorded_code.Reads as reads
-use Rattle.exports.proofs.recorded_code.Lts as lts
 
 short : (w : NotRecorded) → 154_618_822_656 ≡ recordedCode (Recorded.Refused w)
 unfolding recordedCode

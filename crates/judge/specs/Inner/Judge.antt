@@ -1,7 +1,5 @@
 -- The verdict on a plan that was read, without the plan. Inner: `judgePlan` says the same with it.
 use mathlib.Core.Path.{_≡_, refl, ap, _∙_}
-use Prim.Native.Nat.{ℕ}
-use Rattle.plan.specs.declared.Fault.{Fault}
 use Rattle.plan.specs.declared.Plan.{Plan}
 use Rattle.plan.specs.declared.Verdict.{Verdict}
 use Rattle.activity.specs.Number.{activitiesVerdict}

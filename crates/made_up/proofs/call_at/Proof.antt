@@ -3,12 +3,6 @@ use Rattle.made_up.specs.Made.{callAt}
 use borrow.Author.Needs.{needs}
 use Rattle.made_up.proofs.call_at.Statement.{statement}
 use Rattle.made_up.proofs.call_at.Tie as tie
-use Rattle.made_up.proofs.call_at.Reads as reads
-use Rattle.made_up.proofs.call_at.Lts as lts
-use Rattle.made.proofs.numbers.byte.Reads as byte-reads
-use Rattle.made.proofs.numbers.eight.Reads as eight-reads
-use Rattle.made.proofs.numbers.four.Reads as four-reads
-use Rattle.made_up.proofs.call_of_kind.Reads as call-of-kind-reads
 
 add-eight : tie.Need-add-eight
 add-eight c = search needs

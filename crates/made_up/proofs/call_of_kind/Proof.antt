@@ -1,11 +1,8 @@
 -- Each kind gives its call.
 use borrow.Author.Tests.{eq-eqb, ne-eqb}
 use Rattle.made_up.specs.Made.{callOfKind}
-use borrow.Author.Needs.{needs}
 use Rattle.made_up.proofs.call_of_kind.Statement.{statement}
 use Rattle.made_up.proofs.call_of_kind.Tie as tie
-use Rattle.made_up.proofs.call_of_kind.Reads as reads
-use Rattle.made_up.proofs.call_of_kind.Lts as lts
 
 returns : tie.Need-returns
 unfolding callOfKind

@@ -2,12 +2,6 @@
 use borrow.Author.Needs.{needs}
 use Rattle.made_up.proofs.halt_at.Statement.{statement}
 use Rattle.made_up.proofs.halt_at.Tie as tie
-use Rattle.made_up.proofs.halt_at.Reads as reads
-use Rattle.made_up.proofs.halt_at.Lts as lts
-use Rattle.made.proofs.numbers.byte.Reads as byte-reads
-use Rattle.made.proofs.numbers.four.Reads as four-reads
-use Rattle.made_up.proofs.halt_of.Reads as halt-of-reads
-use Rattle.made_up.proofs.stop_of.Reads as stop-of-reads
 
 add-byte : tie.Need-add-byte
 add-byte c = search needs

@@ -1,11 +1,8 @@
 -- Each tag says whether the run has stopped.
 use borrow.Author.Tests.{eq-eqb, ne-eqb}
 use Rattle.made_up.specs.Made.{haltOf}
-use borrow.Author.Needs.{needs}
 use Rattle.made_up.proofs.halt_of.Statement.{statement}
 use Rattle.made_up.proofs.halt_of.Tie as tie
-use Rattle.made_up.proofs.halt_of.Reads as reads
-use Rattle.made_up.proofs.halt_of.Lts as lts
 
 returns : tie.Need-returns
 unfolding haltOf

@@ -3,13 +3,6 @@ use Rattle.made_up.specs.Made.{madeOf}
 use borrow.Author.Needs.{needs}
 use Rattle.made_up.proofs.run_of.Statement.{statement}
 use Rattle.made_up.proofs.run_of.Tie as tie
-use Rattle.made_up.proofs.run_of.Reads as reads
-use Rattle.made_up.proofs.run_of.Lts as lts
-use Rattle.made.proofs.window_of.Reads as window-of-reads
-use Rattle.made.proofs.progress_of.Reads as progress-of-reads
-use Rattle.made.proofs.numbers.eight.Reads as eight-reads
-use Rattle.made.proofs.plan_of.Reads as plan-of-reads
-use Rattle.made_up.proofs.halt_at.Reads as halt-at-reads
 
 eight-requires : tie.Need-eight-requires
 eight-requires c κs = search needs

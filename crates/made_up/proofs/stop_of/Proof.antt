@@ -1,11 +1,8 @@
 -- Each tag gives its stop.
 use borrow.Author.Tests.{eq-eqb, ne-eqb}
 use Rattle.made_up.specs.Made.{stopOf}
-use borrow.Author.Needs.{needs}
 use Rattle.made_up.proofs.stop_of.Statement.{statement}
 use Rattle.made_up.proofs.stop_of.Tie as tie
-use Rattle.made_up.proofs.stop_of.Reads as reads
-use Rattle.made_up.proofs.stop_of.Lts as lts
 
 returns : tie.Need-returns
 unfolding stopOf

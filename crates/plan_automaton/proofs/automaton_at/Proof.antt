@@ -1,16 +1,8 @@
 -- The state count, the initial state, and what follows.
-use native.Mathlib.Omega.{arith}
-use mathlib.Core.Path.{_≡_, refl, sym, _∙_, ap}
 use Rattle.plan.specs.Moves.{automatonAt}
 use borrow.Author.Needs.{needs}
 use Rattle.plan_automaton.proofs.automaton_at.Statement.{statement}
 use Rattle.plan_automaton.proofs.automaton_at.Tie as tie
-use Rattle.plan_automaton.proofs.automaton_at.Reads as reads
-use Rattle.plan_automaton.proofs.automaton_at.Lts as lts
-use Rattle.plan_fields.proofs.count_at.Reads as count-at-reads
-use Rattle.plan_fields.proofs.name_at.Reads as name-at-reads
-use Rattle.plan_automaton.proofs.moves_at.Reads as moves-at-reads
-use Rattle.plan_automaton.proofs.no_automaton.Reads as no-automaton-reads
 
 count-at-requires : tie.Need-count-at-requires
 count-at-requires c κs = search needs

@@ -1,17 +1,10 @@
 -- The final-state bits, the transition count, and the loop.
-use native.Mathlib.Omega.{arith}
-use mathlib.Core.Path.{_≡_, refl, sym, _∙_, ap}
+use mathlib.Core.Path.{sym, _∙_}
 use Rattle.plan.specs.Moves.{movesAt}
-use Rattle.plan_fields.specs.Laws.Read.{byte-most, move-count-most}
+use Rattle.plan_fields.specs.Laws.Read.{move-count-most}
 use borrow.Author.Needs.{needs}
 use Rattle.plan_automaton.proofs.moves_at.Statement.{statement}
 use Rattle.plan_automaton.proofs.moves_at.Tie as tie
-use Rattle.plan_automaton.proofs.moves_at.Reads as reads
-use Rattle.plan_automaton.proofs.moves_at.Lts as lts
-use Rattle.plan_fields.proofs.finals_at.Reads as finals-at-reads
-use Rattle.plan_fields.proofs.move_count_at.Reads as move-count-at-reads
-use Rattle.plan_automaton.proofs.moves_loop.Reads as moves-loop-reads
-use Rattle.plan_automaton.proofs.no_automaton.Reads as no-automaton-reads
 
 finals-at-requires : tie.Need-finals-at-requires
 finals-at-requires c κs = search needs

@@ -1,8 +1,8 @@
 -- The loop over the transitions: the whole answer is the answer of what is left.
 use native.Mathlib.Omega.{arith}
-use mathlib.Core.Path.{_≡_, refl, sym, _∙_, ap}
+use mathlib.Core.Path.{_≡_, sym, _∙_}
 use denote.Ref.{now}
-use Prim.Native.Nat.{ℕ, _+_, _-_, _%_, _/_, _≤_, _<_}
+use Prim.Native.Nat.{_-_, _≤_}
 use lib.ListN.{length, replicate, length-set}
 use native.Mathlib.Nat.{sub-zero}
 use Rattle.plan_automaton.proofs.Loops.{moves-done, moves-refused, moves-next}
@@ -11,11 +11,6 @@ use Rattle.plan.specs.Plan.{pastMove}
 use borrow.Author.Needs.{needs}
 use Rattle.plan_automaton.proofs.moves_loop.Statement.{statement}
 use Rattle.plan_automaton.proofs.moves_loop.Tie as tie
-use Rattle.plan_automaton.proofs.moves_loop.Reads as reads
-use Rattle.plan_automaton.proofs.moves_loop.Lts as lts
-use Rattle.plan_automaton.proofs.transitions.move_at.Reads as move-at-reads
-use Rattle.plan_automaton.proofs.no_automaton.Reads as no-automaton-reads
-use Rattle.plan_automaton.proofs.zero_move.Reads as zero-move-reads
 
 abbrev Inv-loop : tie.InvT-loop
 Inv-loop bytes at states initial finals count events outcomes activities moves₀ off₀ i₀ n moves off i =

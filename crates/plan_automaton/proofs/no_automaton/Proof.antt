@@ -1,11 +1,7 @@
 -- A refused automaton is all zeros.
-use mathlib.Core.Path.{_≡_, refl, sym, _∙_, ap}
 use borrow.Author.Needs.{needs}
 use Rattle.plan_automaton.proofs.no_automaton.Statement.{statement}
 use Rattle.plan_automaton.proofs.no_automaton.Tie as tie
-use Rattle.plan_automaton.proofs.no_automaton.Reads as reads
-use Rattle.plan_automaton.proofs.no_automaton.Lts as lts
-use Rattle.plan_automaton.proofs.zero_automaton.Reads as zero-automaton-reads
 
 zero-automaton-requires : tie.Need-zero-automaton-requires
 zero-automaton-requires c κs = search needs

@@ -1,11 +1,7 @@
 -- All zeros.
-use mathlib.Core.Path.{_≡_, refl, sym, _∙_, ap}
 use borrow.Author.Needs.{needs}
 use Rattle.plan_automaton.proofs.zero_automaton.Statement.{statement}
 use Rattle.plan_automaton.proofs.zero_automaton.Tie as tie
-use Rattle.plan_automaton.proofs.zero_automaton.Reads as reads
-use Rattle.plan_automaton.proofs.zero_automaton.Lts as lts
-use Rattle.plan_automaton.proofs.zero_move.Reads as zero-move-reads
 
 zero-move-requires : tie.Need-zero-move-requires
 zero-move-requires c κs = search needs

@@ -1,9 +1,7 @@
 -- A field of one byte: each answer by the law of fields.
 use native.Mathlib.Omega.{arith}
-use borrow.Author.Tests.{lt-ltb, le-ltb, le-leb, lt-leb, leb-true, ltb-true, eq-eqb, ne-eqb}
-use mathlib.Core.Path.{_≡_, refl, sym, _∙_, ap}
+use mathlib.Core.Path.{sym, _∙_}
 use denote.Ref.{now}
-use Prim.Native.Nat.{ℕ, _+_, _^_}
 use Rattle.wire.specs.Laws.Fields.{short, too-low, too-high, in-range}
 use Rattle.plan_fields.proofs.There.{byte-there, byte-short}
 use Rattle.plan.specs.declared.fields.Field.{Field}
@@ -12,10 +10,6 @@ use Rattle.plan.specs.Fields.{byteAt}
 use borrow.Author.Needs.{needs}
 use Rattle.plan_fields.proofs.byte_in.Statement.{statement}
 use Rattle.plan_fields.proofs.byte_in.Tie as tie
-use Rattle.plan_fields.proofs.byte_in.Reads as reads
-use Rattle.plan_fields.proofs.byte_in.Lts as lts
-use Rattle.plan_fields.proofs.widen.Reads as widen-reads
-use Rattle.wire.proofs.byte_at.Reads as byte-at-reads
 
 byte-at-requires : tie.Need-byte-at-requires
 byte-at-requires c κs = search needs

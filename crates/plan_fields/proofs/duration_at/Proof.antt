@@ -1,15 +1,10 @@
 -- A duration that is present iff bit 4 stands.
-use native.Mathlib.Omega.{arith}
-use mathlib.Core.Path.{_≡_, refl, sym, _∙_, ap}
-use borrow.Author.Tests.{lt-ltb, le-ltb, le-leb, lt-leb, leb-true, ltb-true, eq-eqb, ne-eqb}
+use borrow.Author.Tests.{eq-eqb, ne-eqb}
 use Rattle.plan.specs.Nodes.{durationAt}
 use Rattle.wire.specs.Number.{optional}
 use borrow.Author.Needs.{needs}
 use Rattle.plan_fields.proofs.duration_at.Statement.{statement}
 use Rattle.plan_fields.proofs.duration_at.Tie as tie
-use Rattle.plan_fields.proofs.duration_at.Reads as reads
-use Rattle.plan_fields.proofs.duration_at.Lts as lts
-use Rattle.plan_fields.proofs.duration_in.Reads as duration-in-reads
 
 duration-in-requires : tie.Need-duration-in-requires
 duration-in-requires c κs = search needs

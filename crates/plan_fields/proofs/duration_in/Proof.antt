@@ -1,9 +1,7 @@
 -- A duration that is present: each answer by the law of fields.
 use native.Mathlib.Omega.{arith}
-use borrow.Author.Tests.{lt-ltb, le-ltb, le-leb, lt-leb, leb-true, ltb-true, eq-eqb, ne-eqb}
-use mathlib.Core.Path.{_≡_, refl, sym, _∙_, ap}
+use mathlib.Core.Path.{sym, _∙_}
 use denote.Ref.{now}
-use Prim.Native.Nat.{ℕ, _+_, _^_}
 use Rattle.wire.specs.Laws.Fields.{short, too-low, too-high, in-range}
 use Rattle.plan_fields.proofs.There.{long-there, long-short}
 use Rattle.plan.specs.declared.fields.DurationField.{DurationField}
@@ -11,9 +9,6 @@ use Rattle.plan.specs.declared.Fault.{Fault}
 use borrow.Author.Needs.{needs}
 use Rattle.plan_fields.proofs.duration_in.Statement.{statement}
 use Rattle.plan_fields.proofs.duration_in.Tie as tie
-use Rattle.plan_fields.proofs.duration_in.Reads as reads
-use Rattle.plan_fields.proofs.duration_in.Lts as lts
-use Rattle.wire.proofs.long_at.Reads as long-at-reads
 
 long-at-requires : tie.Need-long-at-requires
 long-at-requires c κs = search needs

@@ -1,10 +1,10 @@
 -- The final-state bits: each answer by the law of fields.
 use native.Mathlib.Omega.{arith}
-use borrow.Author.Tests.{lt-ltb, le-ltb, le-leb, lt-leb, leb-true, ltb-true, eq-eqb, ne-eqb}
-use mathlib.Core.Path.{_≡_, refl, sym, _∙_, ap}
+use borrow.Author.Tests.{ltb-true}
+use mathlib.Core.Path.{sym, _∙_}
 use denote.Ref.{now}
-use Prim.Native.Nat.{ℕ, _+_, _^_}
-use Rattle.wire.specs.Laws.Fields.{short, too-low, too-high, in-range}
+use Prim.Native.Nat.{_^_}
+use Rattle.wire.specs.Laws.Fields.{short, too-high, in-range}
 use Rattle.plan_fields.proofs.There.{wide-there, wide-short}
 use Rattle.plan.specs.declared.fields.FinalsField.{FinalsField}
 use Rattle.plan.specs.declared.Fault.{Fault}
@@ -13,10 +13,6 @@ use borrow.Author.Tests.{ltb-false}
 use borrow.Author.Needs.{needs}
 use Rattle.plan_fields.proofs.finals_at.Statement.{statement}
 use Rattle.plan_fields.proofs.finals_at.Tie as tie
-use Rattle.plan_fields.proofs.finals_at.Reads as reads
-use Rattle.plan_fields.proofs.finals_at.Lts as lts
-use Rattle.plan_fields.proofs.in_states.Reads as in-states-reads
-use Rattle.wire.proofs.wide_at.Reads as wide-at-reads
 
 wide-at-requires : tie.Need-wide-at-requires
 wide-at-requires c κs = search needs

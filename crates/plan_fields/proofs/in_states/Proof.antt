@@ -1,16 +1,11 @@
 -- No bit past the last state stands iff the bits, as a number, are below 2 ^ states.
 use native.Mathlib.Omega.{arith}
-use borrow.Author.Tests.{lt-ltb, le-ltb, le-leb, lt-leb, leb-true, ltb-true, eq-eqb, ne-eqb}
-use mathlib.Core.Path.{_≡_, refl, sym, _∙_, ap}
-use Prim.Native.Nat.{ℕ, _+_, _^_}
-use native.Mathlib.Decide.{decLt}
-use native.Mathlib.Nat.{div-eq-of-lt, pow-le-pow-right, le-div-iff-mul-le}
+use borrow.Author.Tests.{lt-ltb}
+use mathlib.Core.Path.{sym}
 use Rattle.plan_fields.proofs.There.{shift-none, power-most}
 use borrow.Author.Needs.{needs}
 use Rattle.plan_fields.proofs.in_states.Statement.{statement}
 use Rattle.plan_fields.proofs.in_states.Tie as tie
-use Rattle.plan_fields.proofs.in_states.Reads as reads
-use Rattle.plan_fields.proofs.in_states.Lts as lts
 
 shr-result : tie.Need-shr-result
 shr-result c = search needs

@@ -1,10 +1,8 @@
 -- The transition count: each answer by the law of fields.
 use native.Mathlib.Omega.{arith}
-use borrow.Author.Tests.{lt-ltb, le-ltb, le-leb, lt-leb, leb-true, ltb-true, eq-eqb, ne-eqb}
-use mathlib.Core.Path.{_≡_, refl, sym, _∙_, ap}
+use mathlib.Core.Path.{sym, _∙_}
 use denote.Ref.{now}
-use Prim.Native.Nat.{ℕ, _+_, _^_}
-use Rattle.wire.specs.Laws.Fields.{short, too-low, too-high, in-range}
+use Rattle.wire.specs.Laws.Fields.{short, too-high, in-range}
 use Rattle.plan_fields.proofs.There.{short-there, short-short}
 use Rattle.plan.specs.declared.fields.MoveCount.{MoveCount}
 use Rattle.plan.specs.declared.Fault.{Fault}
@@ -12,9 +10,6 @@ use Rattle.plan.specs.Moves.{moveCountAt}
 use borrow.Author.Needs.{needs}
 use Rattle.plan_fields.proofs.move_count_at.Statement.{statement}
 use Rattle.plan_fields.proofs.move_count_at.Tie as tie
-use Rattle.plan_fields.proofs.move_count_at.Reads as reads
-use Rattle.plan_fields.proofs.move_count_at.Lts as lts
-use Rattle.wire.proofs.short_at.Reads as short-at-reads
 
 short-at-requires : tie.Need-short-at-requires
 short-at-requires c κs = search needs

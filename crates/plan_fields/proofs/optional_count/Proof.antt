@@ -1,14 +1,9 @@
 -- A count that is present iff its bit stands.
-use native.Mathlib.Omega.{arith}
-use mathlib.Core.Path.{_≡_, refl, sym, _∙_, ap}
 use Rattle.plan.specs.Fields.{byteAt, optionalCount}
 use Rattle.wire.specs.Number.{optional}
 use borrow.Author.Needs.{needs}
 use Rattle.plan_fields.proofs.optional_count.Statement.{statement}
 use Rattle.plan_fields.proofs.optional_count.Tie as tie
-use Rattle.plan_fields.proofs.optional_count.Reads as reads
-use Rattle.plan_fields.proofs.optional_count.Lts as lts
-use Rattle.plan_fields.proofs.count_at.Reads as count-at-reads
 
 count-at-requires : tie.Need-count-at-requires
 count-at-requires c κs = search needs

@@ -1,10 +1,10 @@
 -- What a field of one byte that was read says.
-use mathlib.Core.Path.{_≡_, refl, subst}
+use mathlib.Core.Path.{_≡_, subst}
 use mathlib.Core.Bool.{Bool, true, false}
 use mathlib.Core.List.{List}
 use Prim.Native.Nat.{ℕ, _+_, _≤_, _<_}
 use native.Mathlib.Omega.{arith}
-use Rattle.wire.specs.Number.{number, optional}
+use Rattle.wire.specs.Number.{optional}
 use Rattle.wire.specs.Laws.Fields as law
 use Rattle.plan.specs.Fields.{byteAt, optionalCount}
 use Rattle.plan.specs.declared.Fault.{Fault}

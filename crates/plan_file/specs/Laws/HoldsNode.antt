@@ -1,7 +1,7 @@
 -- What the description asks of a number and of a node: the limits that it sets them.
 use mathlib.Core.Path.{_≡_, refl, sym, _∙_, subst}
 use mathlib.Core.Bool.{Bool, true, false, cond, not}
-use mathlib.Core.List.{List, [], _∷_, _++_}
+use mathlib.Core.List.{[], _∷_, _++_}
 use mathlib.Core.Logic.{_↔_, inl, inr}
 use Prim.Native.Nat.{ℕ, zero, suc, _+_, _^_, _≤_, _<_}
 use native.Mathlib.Nat.{eq-or-lt-of-le}
@@ -14,7 +14,7 @@ use Rattle.wire.specs.Number.{present}
 use Rattle.wire.specs.Laws.Fields.{present-none, present-is}
 use Rattle.wire.specs.Map.{bit}
 use Rattle.wire.specs.Laws.Maps.{map-below}
-use Rattle.format.specs.Format.{_when_, Format, done, number, _>>=_, part-of, good, fault, first, Holds, result}
+use Rattle.format.specs.Format.{_when_, Format, done, number, _>>=_, good, fault, first, Holds, result}
 use Rattle.format.specs.Laws.Format.{then-iff, last-iff, part-iff}
 use Rattle.plan.specs.declared.Kind.{Kind}
 use Rattle.plan.specs.declared.Node.{Node}

@@ -1,5 +1,5 @@
 -- What the description asks of a plan: FileRules.
-use mathlib.Core.Path.{_≡_, refl, sym, subst}
+use mathlib.Core.Path.{refl, sym, subst}
 use mathlib.Core.Bool.{Bool, true, not}
 use mathlib.Core.List.{List, [], _∷_, _++_}
 use mathlib.Core.Logic.{_↔_}
@@ -11,7 +11,7 @@ use borrow.Author.Tests.{le-leb, lt-ltb}
 use Rattle.wire.specs.Number.{present}
 use Rattle.wire.specs.Map.{bit}
 use Rattle.wire.specs.Laws.Maps.{map-below}
-use Rattle.format.specs.Format.{_when_, Format, done, number, _>>=_, part-of, each, good, first, Holds, result}
+use Rattle.format.specs.Format.{_when_, done, number, _>>=_, part-of, each, Holds, result}
 use Rattle.format.specs.Laws.Format.{then-iff, given-iff, last-iff, part-iff, each-iff}
 use Rattle.plan.specs.declared.Input.{Input}
 use Rattle.plan.specs.declared.Output.{Output}
@@ -24,7 +24,7 @@ use Rattle.plan_file.specs.Laws.Bits.{no-high-bit, below-power}
 use Rattle.plan_file.specs.PlanFile.{faultOrder, outside, count, name, node, nodeOf, nodeCount, activity, event, outcome, emitted, inputBit, outputBit, moveMap, transition, moveOf, moveCount, finalBits, automaton, resourceCount, peripheralCount, itsResource, eventCount, itsOutcomes, activityCount, sectionMap, planFile}
 use Rattle.plan_file.specs.Laws.Basis.{two, three, four}
 use Rattle.plan_file.specs.Laws.Stages.{moveLast, inputs, both, end, turns, finally, begun, last, lastly, acting, outcoming, eventing, belonging, having, resourced, mapped}
-use Rattle.plan_file.specs.Laws.Reads.{move-bit, inPart, outPart, in-read, out-read, at-bit, r0, r1, r2, r3, bs, os, outcome-at, rb, ro}
+use Rattle.plan_file.specs.Laws.Reads.{move-bit, inPart, outPart, in-read, at-bit, r0, r1, r2, r3, bs, os, outcome-at, rb, ro}
 use Rattle.plan_file.specs.Laws.HoldsNode.{bounded, may-iff, named, node-iff}
 
 powers : (i j : ℕ) → i ≤ j → 2 ^ i ≤ 2 ^ j

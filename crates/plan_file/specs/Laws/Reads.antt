@@ -13,7 +13,7 @@ use Rattle.wire.specs.Number.{present}
 use Rattle.wire.specs.Laws.Fields.{present-none}
 use Rattle.wire.specs.Map.{bit}
 use Rattle.wire.specs.Laws.Maps.{bit-map}
-use Rattle.format.specs.Format.{_when_, Format, done, number, _>>=_, part-of, optional, each, result}
+use Rattle.format.specs.Format.{_when_, Format, done, number, part-of, optional, each, result}
 use Rattle.format.specs.Laws.Format.{result-then, result-step, result-part, read-each}
 use Rattle.plan.specs.declared.Kind.{Kind}
 use Rattle.plan.specs.declared.Node.{Node}

@@ -2,8 +2,8 @@
 use mathlib.Core.Path.{sym, _∙_}
 use borrow.Author.Tests.{not-true, not-false}
 use borrow.Author.Needs.{needs}
+use Rattle.basis.specs.Laws.Tells.{told-true}
 use Rattle.plan_limits.specs.Laws.Plans.{tells-in-limits}
-use Rattle.activity.specs.Laws.Tells.{told-true}
 use Rattle.plan_limits.specs.Limits.{fileRules}
 use Rattle.plan_limits.specs.Laws.Files.{rules-are}
 use Rattle.plan_limits.proofs.file_rules.Statement.{statement}

@@ -7,7 +7,7 @@ use Prim.Native.Nat.{ℕ, zero, suc, _-_, _<_}
 use native.Mathlib.Nat.{eq-or-lt-of-le, le-of-suc-le-suc}
 use native.Mathlib.Numerals.{sub-one}
 use native.Mathlib.Omega.{arith}
-use Rattle.activity.specs.Tests.{every}
+use Rattle.basis.specs.Tests.{every}
 
 and-false : (b : Bool) → b && false ≡ false
 and-false true = refl

@@ -6,6 +6,9 @@ use mathlib.Core.Logic.{_↔_}
 use Prim.Native.Nat.{ℕ, _+_, _-_, _<_, _≤_}
 use native.Mathlib.Omega.{arith}
 use lib.ListN.{getD}
+use Rattle.basis.specs.Inner.Tells.{Tells, holds, fails}
+use Rattle.basis.specs.Laws.Tells.{tells-iff, tells-and, tells-eqb, tells-ltb, tells-leb, tells-then}
+use Rattle.basis.specs.Laws.Every.{tells-every}
 use Rattle.format.specs.Format.{Holds, keeps}
 use Rattle.format.specs.Laws.Format.{keeps-iff}
 use Rattle.plan.specs.Plan.{pastNode, sizeOf}
@@ -15,9 +18,8 @@ use Rattle.plan.specs.declared.Node.{Node}
 use Rattle.plan.specs.declared.Plan.{Plan}
 use Rattle.plan_file.specs.PlanFile.{faultOrder, planFile}
 use Rattle.plan_file.specs.Laws.HoldsPlan.{plan-iff}
-use Rattle.activity.specs.Laws.Tells.{Tells, holds, fails, tells-iff, tells-and, tells-every, tells-eqb}
 use Rattle.plan_limits.specs.Limits.{isRising, isBrief, slotWritten, nodesWritten, fileRules}
-use Rattle.plan_limits.specs.Laws.Tells.{tells-ltb, tells-leb, tells-then, tells-used, tells-places}
+use Rattle.plan_limits.specs.Laws.Tells.{tells-used, tells-places}
 use Rattle.plan_limits.specs.Laws.Plans.{tells-in-limits}
 
 tells-rising : (count : ℕ) (xs : List ℕ) → Tells (isRising count xs) ((i : ℕ) → i + 1 < count → getD xs i 0 < getD xs (i + 1) 0)

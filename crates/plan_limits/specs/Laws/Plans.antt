@@ -4,6 +4,9 @@ use mathlib.Core.Bool.{true}
 use Prim.Native.Nat.{ℕ, _<_, _≤_}
 use native.Mathlib.Omega.{arith}
 use lib.ListN.{getD}
+use Rattle.basis.specs.Inner.Tells.{Tells, holds}
+use Rattle.basis.specs.Laws.Tells.{tells-iff, tells-and, tells-ltb, tells-leb, tells-then}
+use Rattle.basis.specs.Laws.Every.{tells-every}
 use Rattle.plan_file.specs.Laws.Basis.{below-among, among-below}
 use Rattle.plan.specs.Plan.{pastNode, sizeOf, outcomesOf, move, isFinal}
 use Rattle.plan.specs.Limits.{longest, KindNames, NodeInLimits, InputNames, OutputNames, MoveInLimits, nodeAt, InLimits}
@@ -13,9 +16,8 @@ use Rattle.plan.specs.declared.Input.{Input}
 use Rattle.plan.specs.declared.Output.{Output}
 use Rattle.plan.specs.declared.Transition.{Transition}
 use Rattle.plan.specs.declared.Plan.{Plan}
-use Rattle.activity.specs.Laws.Tells.{Tells, holds, tells-iff, tells-and, tells-every}
 use Rattle.plan_limits.specs.Limits.{kindNames, nodeInLimits, slotInLimits, nodesInLimits, inputNames, outputNames, moveInLimits, movesInLimits, automatonInLimits, partsInLimits, inLimits}
-use Rattle.plan_limits.specs.Laws.Tells.{tells-ltb, tells-leb, tells-then, tells-used, tells-within, tells-places}
+use Rattle.plan_limits.specs.Laws.Tells.{tells-used, tells-within, tells-places}
 use Rattle.plan_limits.specs.Laws.Shift.{tells-finals}
 
 module _ (p : Plan) where

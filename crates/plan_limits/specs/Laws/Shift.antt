@@ -7,10 +7,10 @@ use native.Mathlib.Decide.{decLt}
 use native.Mathlib.Omega.{arith}
 use borrow.Author.Tests.{lt-ltb, le-ltb, eq-eqb, ne-eqb}
 use lib.Dec.{ltb, eqb}
+use Rattle.basis.specs.Inner.Tells.{Tells}
+use Rattle.basis.specs.Laws.Tells.{tells-iff, tells-ltb}
 use Rattle.wire.specs.Map.{bit}
 use Rattle.plan_file.specs.Laws.Bits.{no-high-bit, below-power}
-use Rattle.activity.specs.Laws.Tells.{Tells, tells-iff}
-use Rattle.plan_limits.specs.Laws.Tells.{tells-ltb}
 
 under : (x m : ℕ) → 0 < m → x / m ≡ 0 → x < m
 under x m p e = let q : x < 1 * m = div-lt-iff-lt-mul p .0 (omega arith) in omega arith

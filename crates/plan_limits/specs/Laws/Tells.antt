@@ -1,38 +1,20 @@
 -- What a test of two numbers tells, a test of the first `count` numbers of an array, and a test of the used places of an
 -- array with room for w in each group: place n of group a stands at w * a + n. Assumes nothing.
-use mathlib.Core.Path.{_≡_, refl, ap, _∙_, subst}
+use mathlib.Core.Path.{_≡_, ap, _∙_, subst}
 use mathlib.Core.Logic.{_⊎_, inl, inr, ⊎-elim}
-use mathlib.Core.Bool.{Bool, true, false, _&&_, _||_}
+use mathlib.Core.Bool.{Bool, _||_}
 use mathlib.Core.List.{List}
 use Prim.Native.Nat.{ℕ, _+_, _*_, _/_, _%_, _<_, _≤_}
 use native.Mathlib.Nat.{mul-add-div, mul-add-mod-self-left, mod-eq-of-lt, div-eq-of-lt, div-add-mod, div-lt-iff-lt-mul, mul-comm, mul-le-mul-left, mul-suc}
 use native.Mathlib.Decide.{decLt}
 use native.Mathlib.Omega.{arith}
-use borrow.Author.Tests.{ltb-true, ltb-false, leb-true, leb-false}
 use lib.ListN.{getD}
-use lib.Dec.{ltb, leb}
-use Rattle.activity.specs.Tests.{every}
-use Rattle.activity.specs.Laws.Tells.{Tells, holds, fails, tells-iff, tells-and, tells-or, tells-every}
+use lib.Dec.{leb}
+use Rattle.basis.specs.Tests.{every}
+use Rattle.basis.specs.Inner.Tells.{Tells}
+use Rattle.basis.specs.Laws.Tells.{tells-iff, tells-and, tells-or, tells-ltb, tells-leb}
+use Rattle.basis.specs.Laws.Every.{tells-every}
 use Rattle.plan_limits.specs.Limits.{within}
-
-pub tells-ltb : (x y : ℕ) → Tells (ltb x y) (x < y)
-tells-ltb x y = go (ltb x y) refl
-  where
-    go : (b : Bool) → ltb x y ≡ b → Tells b (x < y)
-    go true e = holds (ltb-true x y e)
-    go false e = fails (λ h. let l = ltb-false x y e in omega arith)
-
-pub tells-leb : (x y : ℕ) → Tells (leb x y) (x ≤ y)
-tells-leb x y = go (leb x y) refl
-  where
-    go : (b : Bool) → leb x y ≡ b → Tells b (x ≤ y)
-    go true e = holds (leb-true x y e)
-    go false e = fails (λ h. let l = leb-false x y e in omega arith)
-
--- the second test counts only where the first one holds
-pub tells-then : {b c : Bool} {P Q : Type 0} → Tells b P → (P → Tells c Q) → Tells (b && c) (P × Q)
-tells-then (holds p) q = tells-and (holds p) (q p)
-tells-then (fails n) q = fails (λ x. n (x .0))
 
 -- place n of a group of `size`: what stands there passes, or it is spare room
 pub tells-used : (size n : ℕ) {b : Bool} {P : Type 0} → Tells b P → Tells (leb size n || b) (n < size → P)

@@ -1,12 +1,7 @@
 -- The two fields of an action, by their answers.
-use mathlib.Core.Path.{_≡_, refl, sym, _∙_, ap}
 use borrow.Author.Needs.{needs}
 use Rattle.plan_nodes.proofs.action_at.Statement.{statement}
 use Rattle.plan_nodes.proofs.action_at.Tie as tie
-use Rattle.plan_nodes.proofs.action_at.Reads as reads
-use Rattle.plan_nodes.proofs.action_at.Lts as lts
-use Rattle.plan_fields.proofs.any_at.Reads as any-at-reads
-use Rattle.plan_fields.proofs.name_at.Reads as name-at-reads
 
 any-at-requires : tie.Need-any-at-requires
 any-at-requires c κs = search needs

@@ -1,18 +1,15 @@
 -- The match of the map byte by value and range gives the kind that the bits ask for.
-use mathlib.Core.Path.{_≡_, refl, sym, _∙_, ap}
+use mathlib.Core.Path.{_≡_, refl, sym}
 use lib.Dec.{eqb}
 use Prim.Native.Nat.{ℕ, _<_}
 use mathlib.Core.Bool.{Bool, true, false}
 use Rattle.plan_nodes.proofs.Below.{either, or, all, all-at}
 use Rattle.plan.specs.declared.fields.Asks.{Asks}
-use mathlib.Core.Logic.{_⊎_, ⊎-elim, inl, inr}
+use mathlib.Core.Logic.{_⊎_, ⊎-elim}
 use borrow.Author.Tests.{le-ltb, eqb-true}
 use Rattle.plan.specs.Nodes.{asksOf}
-use borrow.Author.Needs.{needs}
 use Rattle.plan_nodes.proofs.asks_of.Statement.{statement}
 use Rattle.plan_nodes.proofs.asks_of.Tie as tie
-use Rattle.plan_nodes.proofs.asks_of.Reads as reads
-use Rattle.plan_nodes.proofs.asks_of.Lts as lts
 
 -- below 64 the map is one of the keys, or asks for nothing: a test that is computed at each
 abbrev Key : ℕ → Type 0

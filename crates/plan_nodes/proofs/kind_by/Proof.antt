@@ -1,15 +1,8 @@
 -- The fields of the kind that the map asks for.
-use mathlib.Core.Path.{_≡_, refl, sym, _∙_, ap}
 use Rattle.plan.specs.Nodes.{kindBy}
 use borrow.Author.Needs.{needs}
 use Rattle.plan_nodes.proofs.kind_by.Statement.{statement}
 use Rattle.plan_nodes.proofs.kind_by.Tie as tie
-use Rattle.plan_nodes.proofs.kind_by.Reads as reads
-use Rattle.plan_nodes.proofs.kind_by.Lts as lts
-use Rattle.plan_nodes.proofs.action_at.Reads as action-at-reads
-use Rattle.plan_nodes.proofs.claim_at.Reads as claim-at-reads
-use Rattle.plan_nodes.proofs.event_at.Reads as event-at-reads
-use Rattle.plan_nodes.proofs.release_at.Reads as release-at-reads
 
 enum-told : tie.Need-enum-told
 enum-told c = search needs

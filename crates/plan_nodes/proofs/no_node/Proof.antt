@@ -1,11 +1,7 @@
 -- A refused node is all zeros.
-use mathlib.Core.Path.{_≡_, refl, sym, _∙_, ap}
 use borrow.Author.Needs.{needs}
 use Rattle.plan_nodes.proofs.no_node.Statement.{statement}
 use Rattle.plan_nodes.proofs.no_node.Tie as tie
-use Rattle.plan_nodes.proofs.no_node.Reads as reads
-use Rattle.plan_nodes.proofs.no_node.Lts as lts
-use Rattle.plan_nodes.proofs.zero_node.Reads as zero-node-reads
 
 zero-node-requires : tie.Need-zero-node-requires
 zero-node-requires c κs = search needs

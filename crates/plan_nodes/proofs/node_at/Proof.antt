@@ -1,16 +1,8 @@
 -- A node: its map, its kind, and what follows.
-use mathlib.Core.Path.{_≡_, refl, sym, _∙_, ap}
 use Rattle.plan.specs.Nodes.{nodeAt}
 use borrow.Author.Needs.{needs}
 use Rattle.plan_nodes.proofs.node_at.Statement.{statement}
 use Rattle.plan_nodes.proofs.node_at.Tie as tie
-use Rattle.plan_nodes.proofs.node_at.Reads as reads
-use Rattle.plan_nodes.proofs.node_at.Lts as lts
-use Rattle.plan_fields.proofs.any_at.Reads as any-at-reads
-use Rattle.plan_nodes.proofs.asks_of.Reads as asks-of-reads
-use Rattle.plan_nodes.proofs.kind_by.Reads as kind-by-reads
-use Rattle.plan_nodes.proofs.no_node.Reads as no-node-reads
-use Rattle.plan_nodes.proofs.node_with.Reads as node-with-reads
 
 any-at-requires : tie.Need-any-at-requires
 any-at-requires c κs = search needs

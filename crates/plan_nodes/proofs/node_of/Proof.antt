@@ -1,11 +1,7 @@
 -- A node is made of its kind, its duration and its predecessors.
-use mathlib.Core.Path.{_≡_, refl, sym, _∙_, ap}
 use borrow.Author.Needs.{needs}
 use Rattle.plan_nodes.proofs.node_of.Statement.{statement}
 use Rattle.plan_nodes.proofs.node_of.Tie as tie
-use Rattle.plan_nodes.proofs.node_of.Reads as reads
-use Rattle.plan_nodes.proofs.node_of.Lts as lts
-use Rattle.plan_nodes.proofs.no_node.Reads as no-node-reads
 
 enum-known-v : tie.Need-enum-known-v
 enum-known-v c = search needs

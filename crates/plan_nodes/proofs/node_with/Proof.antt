@@ -1,15 +1,8 @@
 -- The duration, and the predecessors.
-use mathlib.Core.Path.{_≡_, refl, sym, _∙_, ap}
 use Rattle.plan.specs.Nodes.{nodeWith}
 use borrow.Author.Needs.{needs}
 use Rattle.plan_nodes.proofs.node_with.Statement.{statement}
 use Rattle.plan_nodes.proofs.node_with.Tie as tie
-use Rattle.plan_nodes.proofs.node_with.Reads as reads
-use Rattle.plan_nodes.proofs.node_with.Lts as lts
-use Rattle.plan_fields.proofs.duration_at.Reads as duration-at-reads
-use Rattle.plan_nodes.proofs.no_node.Reads as no-node-reads
-use Rattle.plan_nodes.proofs.node_of.Reads as node-of-reads
-use Rattle.plan_nodes.proofs.preds_at.Reads as preds-at-reads
 
 duration-at-requires : tie.Need-duration-at-requires
 duration-at-requires c κs = search needs

@@ -1,17 +1,10 @@
 -- The predecessors: their count, and the loop.
-use native.Mathlib.Omega.{arith}
-use mathlib.Core.Path.{_≡_, refl, sym, _∙_, ap}
-use borrow.Author.Tests.{lt-ltb, le-ltb, le-leb, lt-leb, eq-eqb, ne-eqb, eqb-true}
+use mathlib.Core.Path.{sym, _∙_}
 use Rattle.plan.specs.Nodes.{predsAt}
 use Rattle.plan_fields.specs.Laws.Read.{count-most}
 use borrow.Author.Needs.{needs}
 use Rattle.plan_nodes.proofs.preds_at.Statement.{statement}
 use Rattle.plan_nodes.proofs.preds_at.Tie as tie
-use Rattle.plan_nodes.proofs.preds_at.Reads as reads
-use Rattle.plan_nodes.proofs.preds_at.Lts as lts
-use Rattle.plan_fields.proofs.optional_count.Reads as optional-count-reads
-use Rattle.plan_nodes.proofs.no_preds.Reads as no-preds-reads
-use Rattle.plan_nodes.proofs.preds_loop.Reads as preds-loop-reads
 
 optional-count-requires : tie.Need-optional-count-requires
 optional-count-requires c κs = search needs

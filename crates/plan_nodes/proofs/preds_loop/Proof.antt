@@ -1,9 +1,8 @@
 -- The loop over the predecessors: the whole answer is the answer of what is left.
 use native.Mathlib.Omega.{arith}
-use borrow.Author.Tests.{lt-ltb, le-ltb, le-leb, lt-leb, eq-eqb, ne-eqb, eqb-true}
-use mathlib.Core.Path.{_≡_, refl, sym, _∙_, ap}
+use mathlib.Core.Path.{_≡_, sym, _∙_}
 use denote.Ref.{now}
-use Prim.Native.Nat.{ℕ, _+_, _-_, _≤_, _<_}
+use Prim.Native.Nat.{_-_, _≤_}
 use lib.ListN.{length, replicate, length-set}
 use native.Mathlib.Nat.{sub-zero}
 use Rattle.plan_nodes.proofs.Loops.{preds-done, preds-refused, preds-fall, preds-next}
@@ -12,10 +11,6 @@ use Rattle.plan_fields.specs.Laws.Read.{byte-most}
 use borrow.Author.Needs.{needs}
 use Rattle.plan_nodes.proofs.preds_loop.Statement.{statement}
 use Rattle.plan_nodes.proofs.preds_loop.Tie as tie
-use Rattle.plan_nodes.proofs.preds_loop.Reads as reads
-use Rattle.plan_nodes.proofs.preds_loop.Lts as lts
-use Rattle.plan_fields.proofs.name_at.Reads as name-at-reads
-use Rattle.plan_nodes.proofs.no_preds.Reads as no-preds-reads
 
 abbrev Inv-loop : tie.InvT-loop
 Inv-loop bytes at size count preds₀ low₀ off₀ i₀ n preds low off i =

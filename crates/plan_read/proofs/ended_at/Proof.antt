@@ -1,13 +1,9 @@
 -- A plan is accepted where its last section ends the bytes.
-use mathlib.Core.Path.{_≡_, refl, sym, _∙_, ap, subst}
 use borrow.Author.Tests.{eq-eqb, ne-eqb}
 use Rattle.plan.specs.Reading.{endedAt}
 use borrow.Author.Needs.{needs}
 use Rattle.plan_read.proofs.ended_at.Statement.{statement}
 use Rattle.plan_read.proofs.ended_at.Tie as tie
-use Rattle.plan_read.proofs.ended_at.Reads as reads
-use Rattle.plan_read.proofs.ended_at.Lts as lts
-use Rattle.plan_read.proofs.no_plan.Reads as no-plan-reads
 
 returns : tie.Need-returns
 unfolding endedAt

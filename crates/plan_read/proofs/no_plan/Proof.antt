@@ -1,11 +1,7 @@
 -- A refused plan is all zeros.
-use mathlib.Core.Path.{_≡_, refl, sym, _∙_, ap, subst}
 use borrow.Author.Needs.{needs}
 use Rattle.plan_read.proofs.no_plan.Statement.{statement}
 use Rattle.plan_read.proofs.no_plan.Tie as tie
-use Rattle.plan_read.proofs.no_plan.Reads as reads
-use Rattle.plan_read.proofs.no_plan.Lts as lts
-use Rattle.plan_read.proofs.zero_plan.Reads as zero-plan-reads
 
 zero-plan-requires : tie.Need-zero-plan-requires
 zero-plan-requires c κs = search needs

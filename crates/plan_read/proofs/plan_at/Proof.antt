@@ -1,16 +1,9 @@
 -- The resource count, and what follows.
-use mathlib.Core.Path.{_≡_, refl, sym, _∙_, ap, subst}
 use Rattle.plan.specs.Reading.{planAt}
 use Rattle.wire.specs.Laws.Maps.{bit-zero}
 use borrow.Author.Needs.{needs}
 use Rattle.plan_read.proofs.plan_at.Statement.{statement}
 use Rattle.plan_read.proofs.plan_at.Tie as tie
-use Rattle.plan_read.proofs.plan_at.Reads as reads
-use Rattle.plan_read.proofs.plan_at.Lts as lts
-use Rattle.plan_fields.proofs.optional_count.Reads as optional-count-reads
-use Rattle.plan_read.proofs.no_plan.Reads as no-plan-reads
-use Rattle.plan_read.proofs.with_peripherals.Reads as with-peripherals-reads
-use Rattle.plan_sections.proofs.peripherals_at.Reads as peripherals-at-reads
 
 optional-count-requires : tie.Need-optional-count-requires
 optional-count-requires c κs = search needs

@@ -1,14 +1,8 @@
 -- The map of sections, and what follows.
-use mathlib.Core.Path.{_≡_, refl, sym, _∙_, ap, subst}
 use Rattle.plan.specs.Reading.{readPlan}
 use borrow.Author.Needs.{needs}
 use Rattle.plan_read.proofs.read.Statement.{statement}
 use Rattle.plan_read.proofs.read.Tie as tie
-use Rattle.plan_read.proofs.read.Reads as reads
-use Rattle.plan_read.proofs.read.Lts as lts
-use Rattle.plan_read.proofs.no_plan.Reads as no-plan-reads
-use Rattle.plan_read.proofs.plan_at.Reads as plan-at-reads
-use Rattle.plan_read.proofs.sections_at.Reads as sections-at-reads
 
 sections-at-requires : tie.Need-sections-at-requires
 sections-at-requires c κs = search needs

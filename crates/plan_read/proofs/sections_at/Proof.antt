@@ -1,13 +1,9 @@
 -- The map of sections: its rule, then the automaton's bit.
-use mathlib.Core.Path.{_≡_, refl, sym, _∙_, ap, subst}
 use borrow.Author.Tests.{eq-eqb, ne-eqb}
 use Rattle.plan.specs.Reading.{sectionsAt}
 use borrow.Author.Needs.{needs}
 use Rattle.plan_read.proofs.sections_at.Statement.{statement}
 use Rattle.plan_read.proofs.sections_at.Tie as tie
-use Rattle.plan_read.proofs.sections_at.Reads as reads
-use Rattle.plan_read.proofs.sections_at.Lts as lts
-use Rattle.plan_fields.proofs.byte_in.Reads as byte-in-reads
 
 byte-in-requires : tie.Need-byte-in-requires
 byte-in-requires c κs = search needs

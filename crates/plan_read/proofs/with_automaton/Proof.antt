@@ -1,14 +1,8 @@
 -- What follows the automaton.
-use mathlib.Core.Path.{_≡_, refl, sym, _∙_, ap, subst}
 use Rattle.plan.specs.Reading.{withAutomaton}
 use borrow.Author.Needs.{needs}
 use Rattle.plan_read.proofs.with_automaton.Statement.{statement}
 use Rattle.plan_read.proofs.with_automaton.Tie as tie
-use Rattle.plan_read.proofs.with_automaton.Reads as reads
-use Rattle.plan_read.proofs.with_automaton.Lts as lts
-use Rattle.plan_read.proofs.ended_at.Reads as ended-at-reads
-use Rattle.plan_read.proofs.no_plan.Reads as no-plan-reads
-use Rattle.plan_read.proofs.plan_of.Reads as plan-of-reads
 
 enum-known-v : tie.Need-enum-known-v
 enum-known-v c = search needs

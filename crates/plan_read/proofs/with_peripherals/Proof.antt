@@ -1,19 +1,12 @@
 -- What follows the peripherals.
 use Rattle.plan_read.proofs.Steps.{after-peripherals}
-use mathlib.Core.Path.{_≡_, refl, sym, _∙_, ap, subst}
+use mathlib.Core.Path.{_∙_}
 use denote.Ref.{now}
 use Rattle.plan.specs.Reading.{withPeripherals}
-use Prim.Native.Nat.{_≤_}
 use Rattle.plan_sections.specs.Laws.Counts.{events-most}
-use Rattle.plan.specs.declared.fields.EventsRead.{EventsRead}
 use borrow.Author.Needs.{needs}
 use Rattle.plan_read.proofs.with_peripherals.Statement.{statement}
 use Rattle.plan_read.proofs.with_peripherals.Tie as tie
-use Rattle.plan_read.proofs.with_peripherals.Reads as reads
-use Rattle.plan_read.proofs.with_peripherals.Lts as lts
-use Rattle.plan_read.proofs.no_plan.Reads as no-plan-reads
-use Rattle.plan_read.proofs.with_events.Reads as with-events-reads
-use Rattle.plan_sections.proofs.events_at.Reads as events-at-reads
 
 enum-known-v : tie.Need-enum-known-v
 enum-known-v c = search needs

@@ -1,12 +1,7 @@
 -- All zeros.
-use mathlib.Core.Path.{_≡_, refl, sym, _∙_, ap, subst}
 use borrow.Author.Needs.{needs}
 use Rattle.plan_read.proofs.zero_plan.Statement.{statement}
 use Rattle.plan_read.proofs.zero_plan.Tie as tie
-use Rattle.plan_read.proofs.zero_plan.Reads as reads
-use Rattle.plan_read.proofs.zero_plan.Lts as lts
-use Rattle.plan_automaton.proofs.zero_automaton.Reads as zero-automaton-reads
-use Rattle.plan_nodes.proofs.zero_node.Reads as zero-node-reads
 
 zero-node-requires : tie.Need-zero-node-requires
 zero-node-requires c κs = search needs

@@ -1,8 +1,8 @@
 -- The loop over activities and nodes: the whole answer is the answer of what is left.
 use native.Mathlib.Omega.{arith}
-use mathlib.Core.Path.{_≡_, refl, sym, _∙_, ap}
+use mathlib.Core.Path.{_≡_, sym, _∙_}
 use denote.Ref.{now}
-use Prim.Native.Nat.{ℕ, _+_, _*_, _-_, _≤_, _<_}
+use Prim.Native.Nat.{_+_, _*_, _-_, _≤_}
 use lib.ListN.{length, replicate, length-set}
 use native.Mathlib.Nat.{sub-zero}
 use Rattle.plan_sections.proofs.Loops.{rest, turned}
@@ -11,12 +11,6 @@ use Rattle.plan.specs.Sections.{activitiesLoop, nodesThen}
 use borrow.Author.Needs.{needs}
 use Rattle.plan_sections.proofs.activities_loop.Statement.{statement}
 use Rattle.plan_sections.proofs.activities_loop.Tie as tie
-use Rattle.plan_sections.proofs.activities_loop.Reads as reads
-use Rattle.plan_sections.proofs.activities_loop.Lts as lts
-use Rattle.plan_nodes.proofs.zero_node.Reads as zero-node-reads
-use Rattle.plan_sections.proofs.all_activities.Reads as all-activities-reads
-use Rattle.plan_sections.proofs.no_activities.Reads as no-activities-reads
-use Rattle.plan_sections.proofs.parts.part_at.Reads as part-at-reads
 
 abbrev Inv-loop : tie.InvT-loop
 Inv-loop bytes at peripherals resources events count all₀ sizes₀ off₀ i₀ a₀ size₀ left₀ all sizes off i a size left =

@@ -1,23 +1,18 @@
 -- The loop over the numbers: the whole answer is the answer of what is left.
 use native.Mathlib.Omega.{arith}
-use mathlib.Core.Path.{_≡_, refl, sym, _∙_, ap}
+use mathlib.Core.Path.{_≡_, sym, _∙_}
 use denote.Ref.{now}
-use Prim.Native.Nat.{ℕ, _+_, _*_, _-_, _≤_, _<_}
+use Prim.Native.Nat.{_-_, _≤_}
 use Rattle.plan.specs.declared.Fault.{Fault}
 use Rattle.plan.specs.declared.fields.Step.{Step}
-use lib.ListN.{length, replicate, length-set}
+use lib.ListN.{length, length-set}
 use native.Mathlib.Nat.{sub-zero}
 use Rattle.plan_sections.proofs.Loops.{numbers-done, numbers-refused, numbers-next}
 use Rattle.plan.specs.Fields.{numbersThen}
 use Rattle.plan.specs.Sections.{belongsAt, noPeripherals}
-use Rattle.plan.specs.declared.fields.PeripheralsRead.{PeripheralsRead}
 use borrow.Author.Needs.{needs}
 use Rattle.plan_sections.proofs.belongs_at.Statement.{statement}
 use Rattle.plan_sections.proofs.belongs_at.Tie as tie
-use Rattle.plan_sections.proofs.belongs_at.Reads as reads
-use Rattle.plan_sections.proofs.belongs_at.Lts as lts
-use Rattle.plan_fields.proofs.name_at.Reads as name-at-reads
-use Rattle.plan_sections.proofs.no_peripherals.Reads as no-peripherals-reads
 
 abbrev Inv-loop : tie.InvT-loop
 Inv-loop bytes at resources count belongs₀ off₀ i₀ n belongs off i =

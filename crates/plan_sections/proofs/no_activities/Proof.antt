@@ -1,11 +1,7 @@
 -- Refused activities are all zeros.
-use mathlib.Core.Path.{_≡_, refl, sym, _∙_, ap}
 use borrow.Author.Needs.{needs}
 use Rattle.plan_sections.proofs.no_activities.Statement.{statement}
 use Rattle.plan_sections.proofs.no_activities.Tie as tie
-use Rattle.plan_sections.proofs.no_activities.Reads as reads
-use Rattle.plan_sections.proofs.no_activities.Lts as lts
-use Rattle.plan_nodes.proofs.zero_node.Reads as zero-node-reads
 
 zero-node-requires : tie.Need-zero-node-requires
 zero-node-requires c κs = search needs

@@ -1,17 +1,10 @@
 -- A section: its count, and the loop over what it counts.
-use native.Mathlib.Omega.{arith}
-use mathlib.Core.Path.{_≡_, refl, sym, _∙_, ap}
-use borrow.Author.Tests.{lt-ltb, le-ltb, le-leb, lt-leb, eq-eqb, ne-eqb, eqb-true}
+use mathlib.Core.Path.{sym, _∙_}
 use Rattle.plan.specs.Sections.{peripheralsAt}
-use Rattle.plan_fields.specs.Laws.Read.{byte-most, count-most}
+use Rattle.plan_fields.specs.Laws.Read.{count-most}
 use borrow.Author.Needs.{needs}
 use Rattle.plan_sections.proofs.peripherals_at.Statement.{statement}
 use Rattle.plan_sections.proofs.peripherals_at.Tie as tie
-use Rattle.plan_sections.proofs.peripherals_at.Reads as reads
-use Rattle.plan_sections.proofs.peripherals_at.Lts as lts
-use Rattle.plan_fields.proofs.optional_count.Reads as optional-count-reads
-use Rattle.plan_sections.proofs.belongs_at.Reads as belongs-at-reads
-use Rattle.plan_sections.proofs.no_peripherals.Reads as no-peripherals-reads
 
 optional-count-requires : tie.Need-optional-count-requires
 optional-count-requires c κs = search needs

@@ -1,7 +1,6 @@
 -- `check_reading` refuses a reading below the last one; 42 comes after it, and then 41.
 use mathlib.Core.Path.{sym, ap}
 use borrow.Author.Tests.{lt-ltb, le-ltb}
-use Rattle.run_window.specs.declared.Found.{Found}
 use Rattle.run_window.specs.declared.Seen.{Seen}
 use Rattle.run_checks.specs.Order.{timelyBy}
 use borrow.Author.Needs.{needs}

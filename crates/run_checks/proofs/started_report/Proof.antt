@@ -1,5 +1,5 @@
 -- `started_report` refuses a node that is not started.
-use mathlib.Core.Path.{_≡_, sym, _∙_, ap}
+use mathlib.Core.Path.{sym, _∙_}
 use borrow.Author.Needs.{needs}
 use Rattle.run_checks.proofs.started_report.Statement.{statement}
 use Rattle.run_checks.proofs.started_report.Tie as tie

@@ -4,10 +4,11 @@ use mathlib.Core.Bool.{Bool, true, false, cond}
 use mathlib.Core.List.{List}
 use Prim.Native.Nat.{ℕ}
 use native.Mathlib.Omega.{arith}
+use Rattle.basis.specs.Laws.Bools.{by-test}
 use Rattle.run_window.specs.declared.Entry.{Entry}
 use Rattle.run_window.specs.declared.Found.{Found}
 use Rattle.run_window.specs.Window.{isHeld, isStarted, isOverdue, isLate, startsBefore, endsBefore}
-use Rattle.run_window.specs.Laws.Tests.{by-test, overdue-tells, late-tells}
+use Rattle.run_window.specs.Laws.Tests.{overdue-tells, late-tells}
 use Rattle.run_window.specs.Laws.Order.{starts-order, ends-order}
 use Rattle.run_window.specs.Laws.Firsts.{by-first}
 use Rattle.run_window.specs.Places.{Holds}

@@ -9,9 +9,9 @@ use native.Mathlib.Omega.{arith}
 use native.Mathlib.Nat.{le-of-suc-le-suc}
 use lib.ListN.{length, getD, drop, drop-of-length-le}
 use lib.Seq.{drop-cons}
+use Rattle.basis.specs.Inner.Tells.{Tells, holds, fails}
 use Rattle.run_window.specs.Window.{vacant}
 use Rattle.run_window.specs.declared.Entry.{Entry}
-use Rattle.activity.specs.Laws.Tells.{Tells, holds, fails}
 use Rattle.run_limits.specs.Window.{entryInLimits, windowInLimits}
 
 module _ (activities : ℕ) (sizes : List ℕ) where

@@ -3,6 +3,9 @@ use mathlib.Core.List.{List}
 use Prim.Native.Nat.{ℕ, _+_, _<_, _≤_}
 use native.Mathlib.Omega.{arith}
 use lib.ListN.{getD}
+use Rattle.basis.specs.Inner.Tells.{Tells, holds}
+use Rattle.basis.specs.Laws.Tells.{tells-iff, tells-and, tells-ltb, tells-leb, tells-then}
+use Rattle.basis.specs.Laws.Every.{tells-every}
 use Rattle.time.specs.Time.{horizon}
 use Rattle.time.specs.declared.Specified.{Specified}
 use Rattle.plan.specs.declared.Plan.{Plan}
@@ -13,9 +16,8 @@ use Rattle.times.specs.Times.{at}
 use Rattle.times.specs.Queues.{noInstance, pendingOf, instanceOf}
 use Rattle.times.specs.Engine.{lastPosition}
 use Rattle.times.specs.Limits.{ToldNames, InstanceInLimits, ProgressInLimits}
-use Rattle.activity.specs.Laws.Tells.{Tells, holds, tells-iff, tells-and, tells-every}
 use Rattle.run_limits.specs.Progress.{timesInLimits, toldNames, instanceInLimits, placeInLimits, pendingInLimits, progressFits, progressInLimits}
-use Rattle.plan_limits.specs.Laws.Tells.{tells-ltb, tells-leb, tells-then, tells-used, tells-within, tells-places}
+use Rattle.plan_limits.specs.Laws.Tells.{tells-used, tells-within, tells-places}
 
 tells-times : (count : ℕ) (times : List Specified) → Tells (timesInLimits count times) ((i : ℕ) → i < count → at times i ≤ horizon)
 unfolding timesInLimits

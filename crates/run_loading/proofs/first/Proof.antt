@@ -1,5 +1,5 @@
 -- `first` loads the first path, from the initial state.
-use mathlib.Core.Path.{_≡_, refl, sym, ap, _∙_, subst}
+use mathlib.Core.Path.{refl, sym, ap, _∙_, subst}
 use lib.ListN.{replicate}
 use Rattle.automaton.specs.declared.Next.{Next}
 use Rattle.run_window.specs.Window.{vacant}
@@ -7,7 +7,7 @@ use Rattle.run_window.specs.declared.Entry.{Entry}
 use Rattle.run_path.specs.Pathed.{Leads}
 use Rattle.run_path.specs.Laws.Stepping.{next-leads}
 use Rattle.run_loading.specs.Loading.{load}
-use Rattle.run_loading.specs.Inner.Loading.{settledBy, Loadable}
+use Rattle.run_loading.specs.Inner.Loading.{settledBy}
 use Rattle.run_loading.specs.Laws.Loading.{settled-loads}
 use borrow.Author.Needs.{needs}
 use Rattle.run_loading.proofs.first.Statement.{statement}

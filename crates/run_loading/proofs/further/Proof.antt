@@ -3,7 +3,7 @@ use mathlib.Core.Path.{_≡_, refl, sym, ap, _∙_}
 use Prim.Native.Nat.{_-_}
 use native.Mathlib.Omega.{arith}
 use lib.ListN.{length}
-use Rattle.run_path.specs.Laws.Collecting.{unmapped}
+use Rattle.basis.specs.Laws.Lists.{unmapped}
 use Rattle.run_outcomes.specs.Laws.Outcomes.{plan-awaits}
 use Rattle.run_loading.specs.declared.Failure.{Failure}
 use Rattle.run_loading.specs.declared.Loading.{Loading}

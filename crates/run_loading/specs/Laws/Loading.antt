@@ -6,6 +6,7 @@ use Prim.Native.Nat.{ℕ, suc}
 use borrow.Author.Tests.{ltb-false}
 use lib.Dec.{ltb}
 use lib.ListN.{length, take}
+use Rattle.basis.specs.Laws.Bools.{by-test}
 use Rattle.plan.specs.declared.Automaton.{Automaton}
 use Rattle.plan.specs.declared.Plan.{Plan}
 use Rattle.automaton.specs.Next.{nextOf, chosenOf}
@@ -14,7 +15,6 @@ use Rattle.automaton.specs.declared.Next.{Next}
 use Rattle.automaton.specs.declared.Chosen.{Chosen}
 use Rattle.times.specs.declared.Told.{Told}
 use Rattle.times.specs.declared.Progress.{Progress}
-use Rattle.run_window.specs.Laws.Tests.{by-test}
 use Rattle.run_window.specs.Window.{placed, vacancies}
 use Rattle.run_window.specs.Laws.Placed.{placed-length}
 use Rattle.run_window.specs.declared.Entry.{Entry}

@@ -1,14 +1,14 @@
 -- Where the behaviour stands at first is within the plan's limits.
 use mathlib.Core.Path.{_≡_, refl, ap}
-use mathlib.Core.Bool.{Bool, true, false, _||_}
+use mathlib.Core.Bool.{false}
 use mathlib.Core.List.{List, [], _∷_, _++_, map}
 use Prim.Native.Nat.{ℕ, zero, suc, _-_, _≤_}
 use native.Mathlib.Omega.{arith}
 use borrow.Author.Tests.{ltb-false}
 use lib.Dec.{ltb}
 use lib.ListN.{length, getD, replicate}
-pub use Rattle.basis.specs.Laws.Lists.{all-same}
-pub use Rattle.basis.specs.Laws.Bools.{or-false}
+use Rattle.basis.specs.Laws.Lists.{all-same}
+use Rattle.basis.specs.Laws.Bools.{or-false}
 use Rattle.time.specs.Time.{horizon}
 use Rattle.time.specs.declared.Specified.{Specified}
 use Rattle.plan.specs.Limits.{InLimits}

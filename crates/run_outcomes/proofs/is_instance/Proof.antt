@@ -1,10 +1,7 @@
 use borrow.Author.Tests.{eq-eqb, ne-eqb}
 use Rattle.run_outcomes.specs.Told.{isInstance}
-use borrow.Author.Needs.{needs}
 use Rattle.run_outcomes.proofs.is_instance.Statement.{statement}
 use Rattle.run_outcomes.proofs.is_instance.Tie as tie
-use Rattle.run_outcomes.proofs.is_instance.Reads as reads
-use Rattle.run_outcomes.proofs.is_instance.Lts as lts
 
 returns : tie.Need-returns
 unfolding isInstance

@@ -1,11 +1,8 @@
 use native.Mathlib.Nat.{add-zero}
 use borrow.Author.Tests.{lt-ltb, le-ltb}
-use Rattle.run_outcomes.specs.Told.{oldestTold}
 use borrow.Author.Needs.{needs}
 use Rattle.run_outcomes.proofs.oldest_told.Statement.{statement}
 use Rattle.run_outcomes.proofs.oldest_told.Tie as tie
-use Rattle.run_outcomes.proofs.oldest_told.Reads as reads
-use Rattle.run_outcomes.proofs.oldest_told.Lts as lts
 
 element-copy-out-if1 : tie.Need-element-copy-out-if1
 element-copy-out-if1 c = search needs

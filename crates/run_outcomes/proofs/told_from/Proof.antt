@@ -1,16 +1,11 @@
 use mathlib.Core.Path.{_≡_, sym, _∙_, ap}
-use Prim.Native.Nat.{_+_, _-_, _≤_}
-use native.Mathlib.Omega.{arith}
+use Prim.Native.Nat.{_-_, _≤_}
 use lib.ListN.{set}
 use Rattle.run_outcomes.specs.Told.{toldFrom}
 use Rattle.run_outcomes.proofs.Telling.{told-starts, told-here, told-past, told-none}
 use borrow.Author.Needs.{needs}
 use Rattle.run_outcomes.proofs.told_from.Statement.{statement}
 use Rattle.run_outcomes.proofs.told_from.Tie as tie
-use Rattle.run_outcomes.proofs.told_from.Reads as reads
-use Rattle.run_outcomes.proofs.told_from.Lts as lts
-use Rattle.run_outcomes.proofs.is_instance.Reads as is-instance-reads
-use Rattle.run_outcomes.proofs.tell.Reads as tell-reads
 
 abbrev Inv-loop : tie.InvT-loop
 Inv-loop from count position node o pending end i₀ i =

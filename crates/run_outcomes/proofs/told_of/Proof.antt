@@ -1,11 +1,6 @@
-use mathlib.Core.Path.{ap}
-use Rattle.run_outcomes.specs.Told.{toldOf}
 use borrow.Author.Needs.{needs}
 use Rattle.run_outcomes.proofs.told_of.Statement.{statement}
 use Rattle.run_outcomes.proofs.told_of.Tie as tie
-use Rattle.run_outcomes.proofs.told_of.Reads as reads
-use Rattle.run_outcomes.proofs.told_of.Lts as lts
-use Rattle.run_outcomes.proofs.told_from.Reads as told-from-reads
 
 element-copy-out-count : tie.Need-element-copy-out-count
 element-copy-out-count c = search needs

@@ -1,5 +1,5 @@
 -- `way_on` is the way on.
-use mathlib.Core.Path.{_≡_, sym, _∙_, ap}
+use mathlib.Core.Path.{sym, _∙_, ap}
 use Rattle.times.specs.declared.Told.{Told}
 use Rattle.run_outcomes.specs.Way.{byTold}
 use Rattle.run_outcomes.proofs.Onward.{way-ended, way-goes, way-waits}

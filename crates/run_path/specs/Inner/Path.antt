@@ -1,9 +1,8 @@
 -- What the inner functions answer: the activity of a transition as an array, and a path's entries put one after the other.
 use mathlib.Core.Bool.{true, false, cond}
 use mathlib.Core.List.{List, [], _∷_}
-use Prim.Native.Nat.{ℕ, _+_, _<_, _≤_}
+use Prim.Native.Nat.{ℕ, _+_}
 use lib.ListN.{length, set, replicate}
-use Rattle.plan.specs.Limits.{InLimits}
 use Rattle.plan.specs.Plan.{nodesOf}
 use Rattle.plan.specs.declared.Transition.{Transition}
 use Rattle.times.specs.Engine.{advanceOf}
@@ -17,7 +16,7 @@ use Rattle.run_path.specs.declared.Brought.{Brought}
 use Rattle.run_path.specs.declared.Step.{Step}
 use Rattle.run_path.specs.declared.Pathed.{Pathed}
 use Rattle.run_path.specs.Path.{Path, entriesFrom, takenBy, entriesBy}
-use Rattle.run_path.specs.Pathed.{ProgressIn, firsts}
+use Rattle.run_path.specs.Pathed.{firsts}
 
 -- the activity that a transition emits, copied out of the plan
 unfoldable pub emittedOf : Plan → Output → Activity

@@ -1,16 +1,15 @@
 -- Entries are put one after the other: one node's turn, and what is kept of all of them in the end. Assumes nothing.
 use mathlib.Core.Path.{_≡_, refl, sym, ap, _∙_}
 use mathlib.Core.Bool.{Bool, true, false, cond}
-use mathlib.Core.List.{List, [], _∷_, _++_, map}
+use mathlib.Core.List.{List, [], _∷_, _++_}
 use Prim.Native.Nat.{ℕ, zero, suc, _+_, _-_, _≤_, _<_}
 use native.Mathlib.Omega.{arith}
-use lib.ListN.{length, getD, set, take, replicate, length-map}
+use lib.ListN.{length, getD, set, take, replicate}
 use Rattle.basis.specs.Parts.{part}
-pub use Rattle.basis.specs.Laws.Lists.{unmapped}
+use Rattle.basis.specs.Laws.Parts.{part-step, part-end}
 use Rattle.plan.specs.Plan.{pastNode}
 use Rattle.plan.specs.declared.Node.{Node}
 use Rattle.times.specs.declared.Schedule.{Schedule}
-use Rattle.times.specs.Laws.Loops.{part-step, part-end}
 use Rattle.run_window.specs.Window.{vacant}
 use Rattle.run_window.specs.declared.Entry.{Entry}
 

@@ -1,11 +1,11 @@
 -- The activity that a transition emits, copied out of a plan in its limits, has the emitted nodes and fits. Assumes nothing.
 use mathlib.Core.Path.{_≡_, refl, sym, ap, _∙_, subst}
 use mathlib.Core.List.{List}
-use Prim.Native.Nat.{ℕ, _+_, _*_, _≤_, _<_}
+use Prim.Native.Nat.{ℕ, _+_, _*_, _<_}
 use native.Mathlib.Omega.{arith}
 use lib.ListN.{getD}
 use Rattle.basis.specs.Laws.PartsHold.{getD-part}
-use Rattle.plan.specs.Plan.{pastNode, sizeOf, nodesOf, activityOf, emittedBy, move}
+use Rattle.plan.specs.Plan.{pastNode, sizeOf, nodesOf, emittedBy, move}
 use Rattle.plan.specs.Limits.{KindNames, NodeInLimits, InputNames, OutputNames, InLimits, nodeAt}
 use Rattle.plan.specs.declared.Kind.{Kind}
 use Rattle.plan.specs.declared.Node.{Node}

@@ -6,6 +6,8 @@ use Prim.Native.Nat.{ℕ, zero, suc, _+_, _≤_, _<_}
 use native.Mathlib.Omega.{arith}
 use lib.ListN.{length, set, take, length-set}
 use lib.Dec.{ltb, eqb}
+use Rattle.basis.specs.Tests.{flag}
+use Rattle.basis.specs.Laws.Bools.{clash}
 use Rattle.time.specs.Time.{horizon}
 use Rattle.time.specs.declared.Specified.{Specified}
 use Rattle.plan.specs.Plan.{predecessors, emittedBy, move}
@@ -15,9 +17,9 @@ use Rattle.plan.specs.declared.Input.{Input}
 use Rattle.plan.specs.declared.Plan.{Plan}
 use Rattle.automaton.specs.Next.{nextOf}
 use Rattle.automaton.specs.declared.Next.{Next}
-use Rattle.times.specs.Times.{specified, at, flag, readyOf, startOf, placedOf, visitOf, roundOf, roundsOf, unscheduled}
+use Rattle.times.specs.Times.{specified, at, readyOf, startOf, placedOf, visitOf, roundOf, roundsOf, unscheduled}
 use Rattle.times.specs.Engine.{lastPosition, aboveOf, beyondOf, closedOf, emitsOf, timedOf, advanceOf}
-use Rattle.times.specs.Laws.Kept.{true-false, above-none}
+use Rattle.times.specs.Laws.Kept.{above-none}
 use Rattle.times.specs.declared.Progress.{Progress}
 use Rattle.times.specs.declared.Schedule.{Schedule}
 use Rattle.run_window.specs.Window.{placed, vacancies}
@@ -84,8 +86,8 @@ unfolding beyondOf
 not-above resources size end g e = go (ltb lastPosition (g .position)) (aboveOf end 0 size) (aboveOf (g .available) 0 resources) e
   where
     go : (b c d : Bool) → cond b true (cond c true d) ≡ false → c ≡ false
-    go true c d e = true-false e
-    go false true d e = true-false e
+    go true c d e = clash e
+    go false true d e = clash e
     go false false d e = refl
 
 module _ (resources : ℕ) (a : List Node) (i : Input) (to : ℕ) (g : Progress) where
@@ -101,7 +103,7 @@ module _ (resources : ℕ) (a : List Node) (i : Input) (to : ℕ) (g : Progress)
 
 -- no entry
 in-time-none : AllInTime []
-in-time-none i e = true-false (sym e)
+in-time-none i e = clash (sym e)
 
 in-time-more : (e : Entry) (es : List Entry) → InTime e → AllInTime es → AllInTime (e ∷ es)
 in-time-more e es h k zero = h
@@ -152,7 +154,7 @@ module _ (p : Plan) (limits : InLimits p) where
       way b = cond b (record { beyond = true; entries = []; progress = g }) (after (entriesBy p t g) rest)
 
       go : (b : Bool) → takenBy p t g .beyond ≡ b → (ProgressIn p (takenBy p t g .progress) → rest .beyond ≡ false → Keeps p rest) → way b .beyond ≡ false → Keeps p (way b)
-      go true d f e = true-false e
+      go true d f e = clash e
       go false d f e =
           let u = f (taken-kept p t g limits l h d) e in
           (u .0, in-time-append (entriesBy p t g) (rest .entries) (taken-in-time p t g d) (u .1))

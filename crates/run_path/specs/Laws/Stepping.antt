@@ -8,7 +8,7 @@ use lib.ListN.{length, replicate}
 use lib.Dec.{eqb}
 use Rattle.basis.specs.Laws.PartsHold.{length-part}
 use Rattle.plan.specs.Plan.{pastMove, pastNode, nodesOf, emittedBy, move, movesOf}
-use Rattle.plan.specs.Limits.{InLimits, OutputNames}
+use Rattle.plan.specs.Limits.{InLimits}
 use Rattle.plan.specs.declared.Node.{Node}
 use Rattle.plan.specs.declared.Input.{Input}
 use Rattle.plan.specs.declared.Transition.{Transition}
@@ -26,7 +26,7 @@ use Rattle.run_window.specs.Window.{vacant}
 use Rattle.run_window.specs.declared.Entry.{Entry}
 use Rattle.run_path.specs.declared.Pathed.{Pathed}
 use Rattle.run_path.specs.Path.{Path, activityNumber, takenBy, entriesBy, ends, after, pathFrom}
-use Rattle.run_path.specs.Pathed.{ProgressIn, Leads, firsts, pathed}
+use Rattle.run_path.specs.Pathed.{ProgressIn, Leads, pathed}
 use Rattle.run_path.specs.Inner.Path.{emittedOf, put, onto, stopped, step, takenOf}
 use Rattle.run_path.specs.Laws.Collecting.{put-append, put-vacant, entries-few}
 use Rattle.run_path.specs.Laws.Emitting.{emitted-nodes, emitted-fits, step-fits}

@@ -10,7 +10,7 @@ use lib.ListN.{length, getD, set, take, drop, replicate}
 use lib.Seq.{take-nil, drop-nil, set-at, append-snoc}
 use Rattle.basis.specs.Parts.{part}
 use Rattle.basis.specs.Laws.PartsHold.{length-part}
-use Rattle.plan.specs.Plan.{pastNode, sizeOf, nodesOf, emittedBy, move}
+use Rattle.plan.specs.Plan.{pastNode, sizeOf, nodesOf, move}
 use Rattle.plan.specs.Limits.{OutputNames, InLimits}
 use Rattle.plan.specs.declared.Node.{Node}
 use Rattle.plan.specs.declared.Output.{Output}
@@ -28,7 +28,7 @@ use Rattle.run_path.specs.declared.Step.{Step}
 use Rattle.run_path.specs.declared.Pathed.{Pathed}
 use Rattle.run_path.specs.Path.{entriesFrom, activityNumber, takenBy, entriesBy}
 use Rattle.run_path.specs.Pathed.{ProgressIn, firsts}
-use Rattle.run_path.specs.Inner.Path.{emittedOf, emittedCount, broughtOf, steppedOf, stepBy, put, stored, onto, stopped, step, takenOf}
+use Rattle.run_path.specs.Inner.Path.{emittedOf, emittedCount, broughtOf, steppedOf, stepBy, put, stored, onto, stopped, takenOf}
 use Rattle.run_path.specs.Laws.Collecting.{set-outside, take-firsts}
 use Rattle.run_path.specs.Laws.Emitting.{emitted-nodes, step-fits}
 use Rattle.run_path.specs.Laws.Stepping.{taken-stops, taken-goes, entries-by}

@@ -4,12 +4,6 @@ use Rattle.run_window.specs.Inner.Search.{SoughtInTime}
 use borrow.Author.Needs.{needs}
 use Rattle.run_window.proofs.is_sought.Statement.{statement}
 use Rattle.run_window.proofs.is_sought.Tie as tie
-use Rattle.run_window.proofs.is_sought.Reads as reads
-use Rattle.run_window.proofs.is_sought.Lts as lts
-use Rattle.run_window.proofs.is_due.Reads as is-due-reads
-use Rattle.run_window.proofs.is_late.Reads as is-late-reads
-use Rattle.run_window.proofs.is_node.Reads as is-node-reads
-use Rattle.run_window.proofs.is_overdue.Reads as is-overdue-reads
 
 enum-known-sought : tie.Need-enum-known-sought
 enum-known-sought c = search needs

@@ -6,9 +6,9 @@ use Prim.Native.Nat.{ℕ, _≤_, _<_}
 use native.Mathlib.Omega.{arith}
 use lib.Dec.{eqb}
 use borrow.Author.Tests.{ltb-true, ltb-false, le-ltb, eqb-true, eqb-false, eq-eqb, ne-eqb}
+use Rattle.basis.specs.Laws.Bools.{by-test}
 use Rattle.run_window.specs.declared.Entry.{Entry}
 use Rattle.run_window.specs.Window.{before, startsBefore, endsBefore}
-use Rattle.run_window.specs.Laws.Tests.{by-test}
 
 -- entry a with the time x stands at or before entry b with the time y: by time, then position, then node
 pub data AtMost (x y : ℕ) (a b : Entry) : Type 0 where

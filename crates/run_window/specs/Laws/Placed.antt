@@ -7,9 +7,10 @@ use mathlib.Core.Logic.{_⊎_, inl, inr, ⊎-elim}
 use Prim.Native.Nat.{ℕ, zero, suc, _-_, _≤_, _<_}
 use native.Mathlib.Omega.{arith}
 use lib.ListN.{length, getD}
+use Rattle.basis.specs.Laws.Bools.{by-test}
 use Rattle.run_window.specs.declared.Entry.{Entry}
 use Rattle.run_window.specs.Window.{vacant, isFree, isHeld, placed, vacancies}
-use Rattle.run_window.specs.Laws.Tests.{by-test, free-or-held, held-unfree}
+use Rattle.run_window.specs.Laws.Tests.{free-or-held, held-unfree}
 use Rattle.run_window.specs.Places.{Holds}
 use Rattle.run_window.specs.Laws.Places.{SameNode, Once, holds-unfree}
 

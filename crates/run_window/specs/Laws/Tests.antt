@@ -1,19 +1,15 @@
 -- What each test of one place tells, on the clock.
 use mathlib.Core.Path.{_≡_, refl, sym}
-use mathlib.Core.Bool.{Bool, true, false, cond, _&&_, true≢false}
+use mathlib.Core.Bool.{true, false, true≢false}
 use mathlib.Core.Logic.{_↔_, _⊎_, inl, inr}
 use Prim.Native.Nat.{ℕ, _+_, _≤_, _<_}
 use lib.Dec.{eqb}
 use borrow.Author.Tests.{ltb-true, ltb-false, lt-ltb, leb-true, leb-false, le-leb, eqb-true, eq-eqb}
+use Rattle.basis.specs.Laws.Bools.{and-left, and-right, and-both}
 use Rattle.time.specs.declared.Clock.{Clock}
 use Rattle.run_window.specs.declared.Phase.{Phase}
 use Rattle.run_window.specs.declared.Entry.{Entry}
 use Rattle.run_window.specs.Window.{isFree, isLoaded, isStarted, isHeld, isOverdue, isLate, isDue, isNode}
-
--- by cases of a test
-pub by-test : {A : Type 0} (P : A → Type 0) (b : Bool) (x y : A) → (b ≡ true → P x) → (b ≡ false → P y) → P (cond b x y)
-by-test P true x y f g = f refl
-by-test P false x y f g = g refl
 
 -- ---- phases
 
@@ -49,17 +45,6 @@ held-unfree Phase.Loaded e = refl
 held-unfree Phase.Started e = refl
 
 -- ---- two tests at once
-
-and-left : (a b : Bool) → a && b ≡ true → a ≡ true
-and-left true b e = refl
-and-left false b e = e
-
-and-right : (a b : Bool) → a && b ≡ true → b ≡ true
-and-right true b e = e
-and-right false b e = absurd (true≢false (sym e))
-
-and-both : (a b : Bool) → a ≡ true → b ≡ true → a && b ≡ true
-and-both a b e f = rw (e, f)
 
 -- ---- the tests
 

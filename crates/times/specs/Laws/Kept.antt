@@ -12,7 +12,7 @@ use lib.ListN.{length, getD, set}
 use lib.Seq.{getD-set-other}
 use lib.Dec.{ltb}
 use Rattle.basis.specs.Lists.{Among}
-pub use Rattle.basis.specs.Laws.Bools.{clash as true-false}
+use Rattle.basis.specs.Laws.Bools.{clash}
 use Rattle.basis.specs.Laws.PartsHold.{among-part, length-part}
 use Rattle.time.specs.Time.{horizon}
 use Rattle.time.specs.declared.Specified.{Specified}
@@ -39,7 +39,7 @@ above-none zero i ts e j h l = absurd (omega arith)
 above-none (suc k) i ts e j h l = go (ltb horizon (at ts i)) refl e (ℕ-discrete j i) (λ f m. above-none k (i + 1) ts f j m (omega arith))
   where
     go : (b : Bool) → ltb horizon (at ts i) ≡ b → cond b true (aboveOf ts (i + 1) k) ≡ false → Dec (j ≡ i) → (aboveOf ts (i + 1) k ≡ false → i + 1 ≤ j → at ts j ≤ horizon) → at ts j ≤ horizon
-    go true f e d rest = true-false e
+    go true f e d rest = clash e
     go false f e (yes q) rest = subst (λ (n : ℕ). at ts n ≤ horizon) (sym q) (ltb-false horizon (at ts i) f)
     go false f e (no q) rest = rest e (omega arith)
 
@@ -157,8 +157,8 @@ unfolding beyondOf
 beyond-told R size end g e = go (ltb lastPosition (g .position)) refl (aboveOf end 0 size) refl e
   where
     go : (b : Bool) → ltb lastPosition (g .position) ≡ b → (d : Bool) → aboveOf end 0 size ≡ d → cond b true (cond d true (aboveOf (g .available) 0 R)) ≡ false → (g .position ≤ lastPosition) × (aboveOf end 0 size ≡ false) × (aboveOf (g .available) 0 R ≡ false)
-    go true p d q e = true-false e
-    go false p true q e = true-false e
+    go true p d q e = clash e
+    go false p true q e = clash e
     go false p false q e = (ltb-false lastPosition (g .position) p, q, e)
 
 module _ (R : ℕ) (a : Activity) (i : Input) (to : ℕ) (g : Progress) (fits : StepFits R a i g) where

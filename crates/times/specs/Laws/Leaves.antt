@@ -7,6 +7,7 @@ use borrow.Author.Tests.{lt-ltb, le-ltb}
 use lib.ListN.{getD, set}
 use Rattle.basis.specs.Parts.{part}
 use Rattle.basis.specs.Laws.PartsHold.{getD-part}
+use Rattle.basis.specs.Laws.Parts.{part-step, part-end}
 use Rattle.time.specs.declared.Specified.{Specified}
 use Rattle.plan.specs.Plan.{pastNode, nodesOf}
 use Rattle.plan.specs.declared.Kind.{Kind}
@@ -18,7 +19,6 @@ use Rattle.times.specs.declared.Schedule.{Schedule}
 use Rattle.times.specs.Times.{specified, at}
 use Rattle.times.specs.Queues.{pendingOf, emission, queuedOf}
 use Rattle.times.specs.Engine.{releasedOf, completedOf, leftBy, leftOf}
-use Rattle.times.specs.Laws.Loops.{part-step, part-end}
 
 -- ---- the turn
 

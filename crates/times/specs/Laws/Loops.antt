@@ -1,18 +1,17 @@
 -- One turn, and the end, of each loop whose definition goes down what is left: k of n from place i on. Assumes nothing.
-use mathlib.Core.Path.{_≡_, sym, ap, _∙_}
+use mathlib.Core.Path.{_≡_, ap, _∙_}
 use mathlib.Core.Bool.{Bool, true, false, cond}
-use mathlib.Core.List.{List, [], _∷_, map}
-use Prim.Native.Nat.{ℕ, suc, _+_, _-_, _≤_, _<_, max}
-use native.Mathlib.Omega.{arith}
-use lib.ListN.{length, getD, set, length-map}
+use mathlib.Core.List.{List}
+use Prim.Native.Nat.{ℕ, _+_, _-_, _≤_, _<_, max}
+use lib.ListN.{getD, set}
 use lib.Dec.{ltb}
 use Rattle.basis.specs.Parts.{part}
-pub use Rattle.basis.specs.Laws.Lists.{unmapped}
-pub use Rattle.basis.specs.Laws.Parts.{fewer, none, part-step, part-end}
+use Rattle.basis.specs.Laws.Parts.{fewer, none, part-step, part-end}
+use Rattle.basis.specs.Tests.{flag}
 use Rattle.time.specs.Time.{horizon}
 use Rattle.time.specs.declared.Specified.{Specified}
 use Rattle.times.specs.declared.Instance.{Instance}
-use Rattle.times.specs.Times.{specified, at, flag, readyOf, largestOf}
+use Rattle.times.specs.Times.{specified, at, readyOf, largestOf}
 use Rattle.times.specs.Queues.{noInstance, shiftedOf}
 use Rattle.times.specs.Engine.{raisedOf, aboveOf}
 

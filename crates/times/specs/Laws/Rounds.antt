@@ -7,13 +7,15 @@ use Prim.Native.Nat.{ℕ, zero, suc, _+_, _-_, _*_, _≤_, _<_}
 use native.Mathlib.Omega.{arith}
 use native.Mathlib.Decide.{ℕ-discrete}
 use borrow.Author.Tests.{eq-eqb, ne-eqb}
-use lib.ListN.{length, getD, set, length-set, replicate}
+use lib.ListN.{getD, set, length-set, replicate}
 use lib.Dec.{eqb}
 use lib.Seq.{getD-set-other}
 use Rattle.basis.specs.Lists.{Among}
 use Rattle.basis.specs.Parts.{part}
-pub use Rattle.basis.specs.Laws.Flags.{falses-set}
+use Rattle.basis.specs.Laws.Flags.{falses-set}
 use Rattle.basis.specs.Laws.PartsHold.{part-among, length-part}
+use Rattle.basis.specs.Tests.{flag, falses}
+use Rattle.basis.specs.Laws.Parts.{part-step, part-end}
 use Rattle.time.specs.Time.{horizon}
 use Rattle.time.specs.declared.Specified.{Specified}
 use Rattle.plan.specs.Plan.{pastNode, predecessors, nodesOf}
@@ -22,10 +24,9 @@ use Rattle.plan.specs.declared.Kind.{Kind}
 use Rattle.plan.specs.declared.Node.{Node}
 use Rattle.plan.specs.declared.Activity.{Activity}
 use Rattle.times.specs.declared.Schedule.{Schedule}
-use Rattle.times.specs.Times.{specified, at, flag, readyOf, largestOf, startBy, startOf, placedOf, visitOf, roundOf, roundsOf, unscheduled, scheduleOf}
+use Rattle.times.specs.Times.{specified, at, readyOf, largestOf, startBy, startOf, placedOf, visitOf, roundOf, roundsOf, unscheduled, scheduleOf}
 use Rattle.times.specs.Limits.{KindFits, NodeFits}
-use Rattle.times.specs.Inner.Times.{ArrowsFit, Timeable, Sound, falses}
-use Rattle.times.specs.Laws.Loops.{part-step, part-end}
+use Rattle.times.specs.Inner.Times.{ArrowsFit, Timeable, Sound}
 
 -- ---- numbers that name something
 

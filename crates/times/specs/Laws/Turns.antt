@@ -1,22 +1,23 @@
 -- Rounds in one loop: a node's turn, the end of a round, and a round that changes nothing. Assumes nothing.
 use mathlib.Core.Path.{_≡_, refl, sym, ap, _∙_, subst}
-use mathlib.Core.Bool.{Bool, true, false, cond}
-use mathlib.Core.List.{List, [], _∷_, map}
+use mathlib.Core.Bool.{Bool, true, false}
+use mathlib.Core.List.{List, [], _∷_}
 use mathlib.Core.Logic.{_⊎_, inl, inr}
 use Prim.Native.Nat.{ℕ, zero, suc, _+_, _-_, _≤_, _<_}
 use native.Mathlib.Omega.{arith}
 use native.Mathlib.Nat.{sub-zero}
 use lib.ListN.{getD, set}
 use Rattle.basis.specs.Parts.{part}
+use Rattle.basis.specs.Tests.{flag}
 use Rattle.time.specs.declared.Specified.{Specified}
 use Rattle.plan.specs.Plan.{pastNode, predecessors, nodesOf}
 use Rattle.plan.specs.declared.Kind.{Kind}
 use Rattle.plan.specs.declared.Node.{Node}
 use Rattle.plan.specs.declared.Activity.{Activity}
 use Rattle.times.specs.declared.Schedule.{Schedule}
-use Rattle.times.specs.Times.{specified, at, flag, readyOf, largestOf, startBy, startOf, placedOf, visitOf, roundOf, roundsOf, unscheduled, scheduleOf}
+use Rattle.times.specs.Times.{at, readyOf, largestOf, startBy, startOf, placedOf, visitOf, roundOf, roundsOf, unscheduled, scheduleOf}
 use Rattle.times.specs.Limits.{KindFits}
-use Rattle.times.specs.Inner.Times.{Timeable, Sound, numbers, claimOf, eventOf, startOn, Rounding}
+use Rattle.times.specs.Inner.Times.{Sound, numbers, claimOf, eventOf, startOn, Rounding}
 use Rattle.times.specs.Laws.Rounds.{turn, round-end, visit-done, visit-waits, visit-placed, rounds-stop, rounds-on, schedule-begins, unscheduled-sound}
 
 -- ---- what a start looks up

@@ -4,10 +4,6 @@ use Rattle.wire.specs.Laws.Puts.{puts-join}
 use borrow.Author.Needs.{needs}
 use Rattle.timetable_lines.proofs.put_free.Statement.{statement}
 use Rattle.timetable_lines.proofs.put_free.Tie as tie
-use Rattle.timetable_lines.proofs.put_free.Reads as reads
-use Rattle.timetable_lines.proofs.put_free.Lts as lts
-use Rattle.timetable_lines.proofs.put_times.Reads as put-times-reads
-use Rattle.wire.proofs.puts.put_list.Reads as put-list-reads
 
 slice-aggregate-put-list : tie.Need-slice-aggregate-put-list
 slice-aggregate-put-list c = search needs

@@ -3,9 +3,6 @@ use Rattle.timetable_text.specs.Text.{line}
 use borrow.Author.Needs.{needs}
 use Rattle.timetable_lines.proofs.put_header.Statement.{statement}
 use Rattle.timetable_lines.proofs.put_header.Tie as tie
-use Rattle.timetable_lines.proofs.put_header.Reads as reads
-use Rattle.timetable_lines.proofs.put_header.Lts as lts
-use Rattle.wire.proofs.puts.put_list.Reads as put-list-reads
 
 slice-aggregate-put-list : tie.Need-slice-aggregate-put-list
 slice-aggregate-put-list c = search needs

@@ -6,11 +6,6 @@ use native.Mathlib.Omega.{arith}
 use borrow.Author.Needs.{needs}
 use Rattle.timetable_lines.proofs.put_refused.Statement.{statement}
 use Rattle.timetable_lines.proofs.put_refused.Tie as tie
-use Rattle.timetable_lines.proofs.put_refused.Reads as reads
-use Rattle.timetable_lines.proofs.put_refused.Lts as lts
-use Rattle.wire.proofs.puts.put_list.Reads as put-list-reads
-use Rattle.timetable_text.proofs.put_after_space.Reads as put-after-space-reads
-use Rattle.timetable_text.proofs.put_newline.Reads as put-newline-reads
 
 slice-aggregate-put-list : tie.Need-slice-aggregate-put-list
 slice-aggregate-put-list c = search needs

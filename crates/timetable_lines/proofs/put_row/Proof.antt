@@ -6,11 +6,6 @@ use native.Mathlib.Omega.{arith}
 use borrow.Author.Needs.{needs}
 use Rattle.timetable_lines.proofs.put_row.Statement.{statement}
 use Rattle.timetable_lines.proofs.put_row.Tie as tie
-use Rattle.timetable_lines.proofs.put_row.Reads as reads
-use Rattle.timetable_lines.proofs.put_row.Lts as lts
-use Rattle.timetable_text.proofs.put_after_space.Reads as put-after-space-reads
-use Rattle.timetable_text.proofs.put_decimal.Reads as put-decimal-reads
-use Rattle.timetable_text.proofs.put_newline.Reads as put-newline-reads
 
 cast-put-decimal : tie.Need-cast-put-decimal
 cast-put-decimal c = search needs

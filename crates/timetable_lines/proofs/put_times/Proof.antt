@@ -11,10 +11,6 @@ use native.Mathlib.Omega.{arith}
 use borrow.Author.Needs.{needs}
 use Rattle.timetable_lines.proofs.put_times.Statement.{statement}
 use Rattle.timetable_lines.proofs.put_times.Tie as tie
-use Rattle.timetable_lines.proofs.put_times.Reads as reads
-use Rattle.timetable_lines.proofs.put_times.Lts as lts
-use Rattle.timetable_text.proofs.put_after_space.Reads as put-after-space-reads
-use Rattle.timetable_text.proofs.put_newline.Reads as put-newline-reads
 
 abbrev Inv-loop : tie.InvT-loop
 Inv-loop out₀ at count times off₀ i₀ n out off i =

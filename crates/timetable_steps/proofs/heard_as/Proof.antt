@@ -1,7 +1,5 @@
 -- `heard_as` meets its contract. Assumes nothing.
 use borrow.Author.Tests.{lt-ltb, le-ltb}
-use native.Mathlib.Omega.{arith}
-use borrow.Author.Needs.{needs}
 use Rattle.timetable_steps.proofs.heard_as.Statement.{statement}
 use Rattle.timetable_steps.proofs.heard_as.Tie as tie
 

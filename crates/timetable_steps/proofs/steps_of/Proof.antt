@@ -1,6 +1,6 @@
 -- `steps_of` meets its contract. The loop's invariant: the first k places are filled. Assumes nothing.
 use mathlib.Core.Path.{_≡_, refl, ap, _∙_}
-use Prim.Native.Nat.{_+_, _-_, _*_, _/_, _≤_}
+use Prim.Native.Nat.{_-_, _*_, _/_, _≤_}
 use native.Mathlib.Omega.{arith}
 use Rattle.timetable_steps.specs.Inner.Steps.{stepOf}
 use Rattle.timetable_steps.specs.Laws.Steps.{Filled, named, filled-more, looks}

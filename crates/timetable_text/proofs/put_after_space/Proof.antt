@@ -3,10 +3,6 @@ use borrow.Author.Needs.{needs}
 use Rattle.wire.specs.Laws.Puts.{puts-join}
 use Rattle.timetable_text.proofs.put_after_space.Statement.{statement}
 use Rattle.timetable_text.proofs.put_after_space.Tie as tie
-use Rattle.timetable_text.proofs.put_after_space.Reads as reads
-use Rattle.timetable_text.proofs.put_after_space.Lts as lts
-use Rattle.wire.proofs.puts.put_byte.Reads as put-byte-reads
-use Rattle.timetable_text.proofs.put_decimal.Reads as put-decimal-reads
 
 put-byte-requires : tie.Need-put-byte-requires
 put-byte-requires c κs = search needs

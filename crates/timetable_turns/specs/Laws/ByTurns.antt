@@ -7,6 +7,7 @@ use native.Mathlib.Omega.{arith}
 use borrow.Author.Tests.{lt-ltb, le-leb, lt-leb}
 use lib.Dec.{ltb}
 use lib.ListN.{length, take, drop}
+use Rattle.basis.specs.Laws.Bools.{clash}
 use Rattle.plan.specs.Plan.{outcomesOf, emittedBy, move}
 use Rattle.plan.specs.Fault.{numberOf}
 use Rattle.plan.specs.declared.Fault.{Fault}
@@ -114,9 +115,6 @@ by-turn p k read os g = turn-by p g read (tableFrom p k) os (nextOf (p .automato
 
 -- ---- all turns
 
-pub never : {A : Type 0} → true ≡ false → A
-never e = absurd (let z : _≡_ {A = ℕ} 0 1 = cc in omega arith)
-
 module _ (p : Plan) (g : Progress) where
   takes-position : (heard : Bool) (t : ℕ) → takes p g heard t .closed ≡ false → takes p g heard t .progress .position ≡ g .position + 1
   unfolding takes
@@ -126,17 +124,17 @@ module _ (p : Plan) (g : Progress) where
       x b = cond b (closes g (refused 44 (g .position))) (record { text = rows (entriesBy p t g); closed = false; heard = heard; progress = takenBy p t g .progress })
 
       go : (b : Bool) → x b .closed ≡ false → x b .progress .position ≡ g .position + 1
-      go true e = never e
+      go true e = clash e
       go false e = position-on (p .resources) (emittedBy p (move (p .automaton) t .output)) (move (p .automaton) t .input) (move (p .automaton) t .to) g
 
   chooses-position : (e : ℕ) (c : Chosen) → chooses p g e c .closed ≡ false → chooses p g e c .progress .position ≡ g .position + 1
   unfolding chooses
-  chooses-position e Chosen.Nothing h = never h
+  chooses-position e Chosen.Nothing h = clash h
   chooses-position e (Chosen.Move t) h = takes-position true t h
 
   hears-position : (e read : ℕ) (h : Heard) → hears p g e read h .closed ≡ false → hears p g e read h .progress .position ≡ g .position + 1
   unfolding hears
-  hears-position e read Heard.Nothing k = never k
+  hears-position e read Heard.Nothing k = clash k
   hears-position e read (Heard.Outcome o) k = go (ltb o (outcomesOf p e)) k
     where
       x : Bool → OneTurn
@@ -144,11 +142,11 @@ module _ (p : Plan) (g : Progress) where
 
       go : (b : Bool) → x b .closed ≡ false → x b .progress .position ≡ g .position + 1
       go true k = chooses-position e (chosenOf (p .automaton) (g .state) e o) k
-      go false k = never k
+      go false k = clash k
 
   by-position : (read : ℕ) (h : Heard) (n : Next) → turnBy p g read h n .closed ≡ false → turnBy p g read h n .progress .position ≡ g .position + 1
   unfolding turnBy
-  by-position read h Next.Ended k = never k
+  by-position read h Next.Ended k = clash k
   by-position read h (Next.Goes t) k = takes-position false t k
   by-position read h (Next.Waits e) k = hears-position e read h k
 
@@ -248,4 +246,4 @@ unheard p g read h = go (nextOf (p .automaton) (g .state))
     go : (n : Next) → isWaiting n ≡ false → turnBy p g read h n ≡ turnBy p g read Heard.Nothing n
     go Next.Ended e = refl
     go (Next.Goes t) e = refl
-    go (Next.Waits e) k = never k
+    go (Next.Waits e) k = clash k

@@ -5,6 +5,7 @@ use mathlib.Core.Bool.{Bool, true, false, cond}
 use mathlib.Core.List.{List, [], _∷_, _++_}
 use Prim.Native.Nat.{ℕ, suc}
 use lib.Dec.{ltb}
+use Rattle.basis.specs.Laws.Bools.{clash}
 use Rattle.plan.specs.Plan.{outcomesOf}
 use Rattle.plan.specs.declared.Plan.{Plan}
 use Rattle.automaton.specs.Next.{nextOf, chosenOf}
@@ -15,7 +16,7 @@ use Rattle.run_path.specs.Path.{takenBy, entriesBy}
 use Rattle.timetable_lines.specs.Lines.{rows, refused}
 use Rattle.timetable_steps.specs.declared.Heard.{Heard}
 use Rattle.timetable_turns.specs.Inner.Turn.{OneTurn, closes, takes, chooses, hears, turnBy, turnOf, isWaiting, waitsOf, headOf, readAfter, restOf, leftAfter, turnsFrom}
-use Rattle.timetable_turns.specs.Laws.ByTurns.{never, unheard}
+use Rattle.timetable_turns.specs.Laws.ByTurns.{unheard}
 
 -- ---- whether a byte is taken
 
@@ -28,26 +29,26 @@ module _ (p : Plan) (g : Progress) where
   takes-heard heard t = go (takenBy p t g .beyond)
     where
       go : (b : Bool) → Takes heard (cond b (closes g (refused 44 (g .position))) (record { text = rows (entriesBy p t g); closed = false; heard = heard; progress = takenBy p t g .progress }))
-      go true e = never e
+      go true e = clash e
       go false e = refl
 
   chooses-heard : (e : ℕ) (c : Chosen) → Takes true (chooses p g e c)
   unfolding Takes chooses
-  chooses-heard e Chosen.Nothing k = never k
+  chooses-heard e Chosen.Nothing k = clash k
   chooses-heard e (Chosen.Move t) k = takes-heard true t k
 
   hears-heard : (e read : ℕ) (h : Heard) → Takes true (hears p g e read h)
   unfolding Takes hears
-  hears-heard e read Heard.Nothing k = never k
+  hears-heard e read Heard.Nothing k = clash k
   hears-heard e read (Heard.Outcome o) k = go (ltb o (outcomesOf p e)) k
     where
       go : (b : Bool) → Takes true (cond b (chooses p g e (chosenOf (p .automaton) (g .state) e o)) (closes g (refused 55 read)))
       go true = chooses-heard e (chosenOf (p .automaton) (g .state) e o)
-      go false = λ k. never k
+      go false = λ k. clash k
 
   by-heard : (read : ℕ) (h : Heard) (n : Next) → Takes (isWaiting n) (turnBy p g read h n)
   unfolding Takes turnBy
-  by-heard read h Next.Ended k = never k
+  by-heard read h Next.Ended k = clash k
   by-heard read h (Next.Goes t) k = takes-heard false t k
   by-heard read h (Next.Waits e) k = hears-heard e read h k
 
@@ -62,8 +63,8 @@ module _ (p : Plan) (g : Progress) where
   nothing-closes read = go (nextOf (p .automaton) (g .state))
     where
       go : (n : Next) → isWaiting n ≡ true → turnBy p g read Heard.Nothing n .closed ≡ true
-      go Next.Ended k = never (sym k)
-      go (Next.Goes t) k = never (sym k)
+      go Next.Ended k = clash (sym k)
+      go (Next.Goes t) k = clash (sym k)
       go (Next.Waits e) k = refl
 
 -- ---- one byte at a time

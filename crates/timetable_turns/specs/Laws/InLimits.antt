@@ -1,10 +1,11 @@
 -- An open table stays open: what a turn leaves is within the plan's limits. Assumes nothing.
-use mathlib.Core.Path.{_≡_, refl, sym, _∙_, subst}
+use mathlib.Core.Path.{_≡_, refl, sym, _∙_}
 use mathlib.Core.Bool.{Bool, true, false, cond}
 use mathlib.Core.List.{List, []}
 use Prim.Native.Nat.{ℕ, _<_}
 use lib.Dec.{ltb}
 use lib.ListN.{getD}
+use Rattle.basis.specs.Laws.Bools.{clash}
 use Rattle.plan.specs.Plan.{outcomesOf}
 use Rattle.plan.specs.Limits.{InLimits}
 use Rattle.plan.specs.declared.Plan.{Plan}
@@ -25,7 +26,6 @@ use Rattle.timetable_lines.specs.Lines.{rows, refused}
 use Rattle.timetable_steps.specs.Laws.Steps.{chosen-below}
 use Rattle.timetable_steps.specs.declared.Heard.{Heard}
 use Rattle.timetable_turns.specs.Inner.Turn.{OneTurn, closes, takes, chooses, hears, turnBy, turnOf, firstProgress, Open}
-use Rattle.timetable_turns.specs.Laws.ByTurns.{never}
 
 -- ---- before the first turn
 
@@ -50,26 +50,26 @@ module _ (p : Plan) (g : Progress) (within : Open p g) where
   takes-open heard t l = go (takenBy p t g .beyond) refl
     where
       go : (b : Bool) → takenBy p t g .beyond ≡ b → Stays (cond b (closes g (refused 44 (g .position))) (record { text = rows (entriesBy p t g); closed = false; heard = heard; progress = takenBy p t g .progress }))
-      go true d e = never e
+      go true d e = clash e
       go false d e = record { plan = within .plan; progress = taken-kept p t g (within .plan) l (within .progress) d }
 
   chooses-open : (e : ℕ) (c : Chosen) → ((t : ℕ) → c ≡ Chosen.Move t → t < p .automaton .count) → Stays (chooses p g e c)
   unfolding Stays chooses
-  chooses-open e Chosen.Nothing l = λ k. never k
+  chooses-open e Chosen.Nothing l = λ k. clash k
   chooses-open e (Chosen.Move t) l = takes-open true t (l t refl)
 
   hears-open : (e read : ℕ) (h : Heard) → Stays (hears p g e read h)
   unfolding Stays hears
-  hears-open e read Heard.Nothing = λ k. never k
+  hears-open e read Heard.Nothing = λ k. clash k
   hears-open e read (Heard.Outcome o) = go (ltb o (outcomesOf p e))
     where
       go : (b : Bool) → Stays (cond b (chooses p g e (chosenOf (p .automaton) (g .state) e o)) (closes g (refused 55 read)))
       go true = chooses-open e (chosenOf (p .automaton) (g .state) e o) (λ t q. chosen-below (p .automaton) (g .state) e o t q)
-      go false = λ k. never k
+      go false = λ k. clash k
 
   by-open : (read : ℕ) (h : Heard) (n : Next) → Leads (p .automaton .count) n → Stays (turnBy p g read h n)
   unfolding Stays turnBy
-  by-open read h Next.Ended l = λ k. never k
+  by-open read h Next.Ended l = λ k. clash k
   by-open read h (Next.Goes t) l = takes-open false t l
   by-open read h (Next.Waits e) l = hears-open e read h
 

@@ -2,10 +2,11 @@
 use mathlib.Core.Path.{_≡_, refl, sym, ap, _∙_, subst}
 use mathlib.Core.Bool.{Bool, true, false, cond}
 use mathlib.Core.List.{List}
-use Prim.Native.Nat.{ℕ, _≤_, _<_}
+use Prim.Native.Nat.{ℕ, _<_}
 use lib.Dec.{ltb}
+use Rattle.basis.specs.Laws.Bools.{clash}
 use Rattle.plan.specs.Plan.{outcomesOf, emittedBy, nodesOf, move}
-use Rattle.plan.specs.Limits.{InLimits, OutputNames, InputNames}
+use Rattle.plan.specs.Limits.{InLimits, OutputNames}
 use Rattle.plan.specs.declared.Node.{Node}
 use Rattle.plan.specs.declared.Activity.{Activity}
 use Rattle.plan.specs.declared.Transition.{Transition}
@@ -26,7 +27,6 @@ use Rattle.timetable_steps.specs.Inner.Steps.{chosenStep, heardStep, nextStep, 
 use Rattle.timetable_steps.specs.Laws.Steps.{chosen-below}
 use Rattle.timetable_turns.specs.Inner.Turn.{OneTurn, closes, takes, chooses, hears, turnBy, turnOf, isWaiting, waitsOf, Open}
 use Rattle.timetable_turns.specs.Inner.Stepped.{taking, stepped}
-use Rattle.timetable_turns.specs.Laws.ByTurns.{never}
 
 -- ---- the turn
 
@@ -96,7 +96,7 @@ module _ (p : Plan) (m : Transition) (heard : Bool) where
 
   closes-within : (x : Step) → taken-heard x ≡ false → Within x
   unfolding Within taken-heard
-  closes-within x n e = never (sym (ap taken-heard e) ∙ n)
+  closes-within x n e = clash (sym (ap taken-heard e) ∙ n)
 
   move-within : (t : ℕ) (b : Bool) → t < p .automaton .count → Within (Step.Takes (move (p .automaton) t) b)
   unfolding Within taken-move

@@ -3,15 +3,13 @@ use Prim.Native.Nat.{_+_}
 use lib.ListN.{length}
 use Rattle.wire.specs.declared.Byte.{Byte}
 use native.Mathlib.Omega.{arith}
-use borrow.Author.Tests.{lt-ltb, le-ltb, le-leb, lt-leb, leb-true}
-use mathlib.Core.Path.{_≡_, refl, sym, _∙_, ap}
+use borrow.Author.Tests.{le-leb, lt-leb}
+use mathlib.Core.Path.{ap}
 use Rattle.wire.specs.Number.{fieldAt}
 use denote.Ref.{now}
 use borrow.Author.Needs.{needs}
 use Rattle.wire.proofs.byte_at.Statement.{statement}
 use Rattle.wire.proofs.byte_at.Tie as tie
-use Rattle.wire.proofs.byte_at.Reads as reads
-use Rattle.wire.proofs.byte_at.Lts as lts
 
 shared-slice-read-t6 : tie.Need-shared-slice-read-t6
 shared-slice-read-t6 c = search needs

@@ -1,14 +1,10 @@
 -- A number of eight bytes is made of two numbers of four.
 use native.Mathlib.Omega.{arith}
-use mathlib.Core.Path.{_≡_, refl, sym, _∙_, ap}
 use Rattle.wire.specs.Laws.Fields.{little-eight}
 use denote.Ref.{now}
 use borrow.Author.Needs.{needs}
 use Rattle.wire.proofs.eight.Statement.{statement}
 use Rattle.wire.proofs.eight.Tie as tie
-use Rattle.wire.proofs.eight.Reads as reads
-use Rattle.wire.proofs.eight.Lts as lts
-use Rattle.wire.proofs.four.Reads as four-reads
 
 four-requires : tie.Need-four-requires
 four-requires c κs = search needs

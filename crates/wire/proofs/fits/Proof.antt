@@ -4,13 +4,10 @@ use lib.ListN.{length}
 use native.Mathlib.Decide.{decLe}
 use denote.Ref.{now}
 use native.Mathlib.Omega.{arith}
-use borrow.Author.Tests.{lt-ltb, le-ltb, le-leb, lt-leb, leb-true}
-use mathlib.Core.Path.{_≡_, refl, sym, _∙_, ap}
-use borrow.Author.Needs.{needs}
+use borrow.Author.Tests.{le-leb, lt-leb}
+use mathlib.Core.Path.{sym, _∙_}
 use Rattle.wire.proofs.fits.Statement.{statement}
 use Rattle.wire.proofs.fits.Tie as tie
-use Rattle.wire.proofs.fits.Reads as reads
-use Rattle.wire.proofs.fits.Lts as lts
 
 returns : tie.Need-returns
 returns c = let a = c .before .args in

@@ -1,14 +1,10 @@
 -- A number of four bytes is made of two numbers of two.
 use native.Mathlib.Omega.{arith}
-use mathlib.Core.Path.{_≡_, refl, sym, _∙_, ap}
 use Rattle.wire.specs.Laws.Fields.{little-four}
 use denote.Ref.{now}
 use borrow.Author.Needs.{needs}
 use Rattle.wire.proofs.four.Statement.{statement}
 use Rattle.wire.proofs.four.Tie as tie
-use Rattle.wire.proofs.four.Reads as reads
-use Rattle.wire.proofs.four.Lts as lts
-use Rattle.wire.proofs.two.Reads as two-reads
 
 two-requires : tie.Need-two-requires
 two-requires c κs = search needs

@@ -9,10 +9,10 @@ use native.Mathlib.Omega.{arith}
 use native.Mathlib.Decide.{decLe, decLt}
 use lib.ListN.{length, getD, take, drop, length-append}
 use lib.Seq.{drop-cons}
-use lib.Dec.{leb, ltb, eqb}
-use borrow.Author.Tests.{le-ltb, lt-ltb, le-leb, lt-leb, eqb-true, eqb-false, eq-eqb, ne-eqb, not-true, not-false}
+use lib.Dec.{eqb}
+use borrow.Author.Tests.{le-ltb, lt-ltb, le-leb, lt-leb, eqb-true, eqb-false, ne-eqb, not-true, not-false}
 use Rattle.wire.specs.Number.{little, bytesOf, numberBytes, fieldAt, number, optional, present, optionalBytes}
-use Rattle.wire.specs.Laws.Span.{Span, none, within, head-is, tail-is, head-in}
+use Rattle.wire.specs.Laws.Span.{Span, none, within, head-is, tail-is}
 
 pub length-numbers : (xs : List ℕ) (i k : ℕ) → length (numberBytes xs i k) ≡ k
 length-numbers xs i zero = refl

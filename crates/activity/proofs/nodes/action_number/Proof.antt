@@ -1,5 +1,5 @@
 -- `nodes::action_number` meets its contract: at each return, what holds and the first thing that does not. Assumes nothing.
-use Rattle.activity.specs.Laws.Tells.{granted, refuted}
+use Rattle.basis.specs.Laws.Tells.{granted, refuted}
 use Rattle.activity.proofs.Numbering.{action-unordered, action-unheld, action-good}
 use borrow.Author.Needs.{needs}
 use Rattle.activity.proofs.nodes.action_number.Statement.{statement}

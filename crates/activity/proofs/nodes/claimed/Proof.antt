@@ -1,5 +1,5 @@
 -- `nodes::claimed` meets its contract: the words of the claims and of the nodes before n have a common bit. Assumes nothing.
-use Rattle.activity.specs.Laws.Tells.{tells-iff}
+use Rattle.basis.specs.Laws.Tells.{tells-iff}
 use Rattle.activity.proofs.Seeing.{seen-claimed}
 use borrow.Author.Needs.{needs}
 use Rattle.activity.proofs.nodes.claimed.Statement.{statement}

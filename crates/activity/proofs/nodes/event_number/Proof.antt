@@ -1,7 +1,7 @@
 -- `nodes::event_number` meets its contract: at each return, what holds and the first thing that does not. Assumes nothing.
 use Prim.Native.Nat.{ℕ}
+use Rattle.basis.specs.Laws.Tells.{granted, refuted}
 use Rattle.activity.specs.Rules.{Before}
-use Rattle.activity.specs.Laws.Tells.{granted, refuted}
 use Rattle.activity.proofs.Numbering.{event-first, event-unordered, event-good}
 use borrow.Author.Needs.{needs}
 use Rattle.activity.proofs.nodes.event_number.Statement.{statement}

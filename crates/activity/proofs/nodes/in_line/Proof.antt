@@ -1,5 +1,5 @@
 -- `nodes::in_line` meets its contract: what the words say of the other nodes like n. Assumes nothing.
-use Rattle.activity.specs.Laws.Tells.{tells-iff}
+use Rattle.basis.specs.Laws.Tells.{tells-iff}
 use Rattle.activity.proofs.Seeing.{seen-in-line}
 use borrow.Author.Needs.{needs}
 use Rattle.activity.proofs.nodes.in_line.Statement.{statement}

@@ -4,8 +4,8 @@ use mathlib.Core.Path.{_≡_}
 use native.Mathlib.Omega.{arith}
 use denote.Ref.{now}
 use lib.ListN.{getD}
+use Rattle.basis.specs.Laws.Tells.{tells-eqb}
 use Rattle.activity.specs.Inner.Sight.{Marks}
-use Rattle.activity.specs.Laws.Tells.{tells-eqb}
 use Rattle.activity.proofs.Marking.{nothing-marked, one-more-marked}
 use borrow.Author.Needs.{needs}
 use Rattle.activity.proofs.nodes.like.Statement.{statement}

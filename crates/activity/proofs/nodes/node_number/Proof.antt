@@ -2,10 +2,10 @@
 use mathlib.Core.Path.{subst}
 use mathlib.Core.List.{List}
 use Prim.Native.Nat.{ℕ}
+use Rattle.basis.specs.Laws.Tells.{told-true, told-false}
 use Rattle.plan.specs.declared.Node.{Node}
 use Rattle.activity.specs.Rules.{Is, Before}
 use Rattle.activity.specs.Inner.Sight.{Seen}
-use Rattle.activity.specs.Laws.Tells.{told-true, told-false}
 use Rattle.activity.proofs.Numbering.{on-cycle}
 use borrow.Author.Needs.{needs}
 use Rattle.activity.proofs.nodes.node_number.Statement.{statement}

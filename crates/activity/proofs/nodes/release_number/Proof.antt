@@ -1,5 +1,5 @@
 -- `nodes::release_number` meets its contract: at each return, what holds and the first thing that does not. Assumes nothing.
-use Rattle.activity.specs.Laws.Tells.{granted, refuted, told-true, told-false}
+use Rattle.basis.specs.Laws.Tells.{granted, refuted, told-true, told-false}
 use Rattle.activity.proofs.Numbering.{release-end, end-twice, end-unpaired, end-passed, end-good}
 use borrow.Author.Needs.{needs}
 use Rattle.activity.proofs.nodes.release_number.Statement.{statement}

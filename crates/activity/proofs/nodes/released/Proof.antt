@@ -1,5 +1,5 @@
 -- `nodes::released` meets its contract: the words of the releases and of the nodes after n have a common bit. Assumes nothing.
-use Rattle.activity.specs.Laws.Tells.{tells-iff}
+use Rattle.basis.specs.Laws.Tells.{tells-iff}
 use Rattle.activity.proofs.Seeing.{seen-released}
 use borrow.Author.Needs.{needs}
 use Rattle.activity.proofs.nodes.released.Statement.{statement}

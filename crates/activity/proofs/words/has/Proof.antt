@@ -1,7 +1,7 @@
 -- `words::has` meets its contract: the machine's shift and remainder read bit m. Assumes nothing.
 use borrow.Author.Needs.{needs}
 use Prim.Native.Nat.{_/_, _^_, _%_}
-use Rattle.activity.specs.Laws.Tells.{tells-eqb}
+use Rattle.basis.specs.Laws.Tells.{tells-eqb}
 use Rattle.activity.proofs.words.has.Statement.{statement}
 use Rattle.activity.proofs.words.has.Tie as tie
 

@@ -1,7 +1,7 @@
 -- `words::step` meets its contract: one word of a pass through node k. Assumes nothing.
 use borrow.Author.Needs.{needs}
 use mathlib.Core.Logic.{inl, inr, ⊎-elim}
-use Rattle.activity.specs.Laws.Tells.{told-true, told-false}
+use Rattle.basis.specs.Laws.Tells.{told-true, told-false}
 use Rattle.activity.specs.Laws.Bits.{or-iff}
 use Rattle.activity.proofs.words.step.Statement.{statement}
 use Rattle.activity.proofs.words.step.Tie as tie

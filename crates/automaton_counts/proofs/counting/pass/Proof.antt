@@ -1,6 +1,7 @@
 -- `pass` keeps what `Going` says of the reached states and their counts, one transition after the other.
+use Rattle.basis.specs.Laws.Bools.{clash}
+use Rattle.basis.specs.Laws.Tells.{told-true, told-false}
 use Rattle.automaton_counts.specs.Inner.Emits.{gives}
-use Rattle.automaton.specs.Tests.{true-false, told-true, told-false}
 use Rattle.automaton.specs.Laws.Counts.{ready-takes}
 use Rattle.automaton.specs.Laws.Passes.{going-stays, going-stores}
 use Rattle.automaton.specs.Inner.Passes.{Going}
@@ -50,7 +51,7 @@ loop-less c = search needs
 loop-again : tie.Need-loop-again Inv-loop μ-loop
 loop-again c =
     let l = c .before .before .before .before .before .before .loop in
-    (omega arith, going-stays _ _ (c .before .before .before .before .before .before .before .before .pre .0) _ _ _ _ _ (l .inv .1) (λ h r. absurd (true-false (sym h ∙ moved (l .reached) (c .before .before .before .wide .ensures) (not-true _ (c .if1 .taken))))))
+    (omega arith, going-stays _ _ (c .before .before .before .before .before .before .before .before .pre .0) _ _ _ _ _ (l .inv .1) (λ h r. absurd (clash (sym h ∙ moved (l .reached) (c .before .before .before .wide .ensures) (not-true _ (c .if1 .taken))))))
 
 element-copy-out-if2 : tie.Need-element-copy-out-if2 Inv-loop μ-loop
 element-copy-out-if2 c = omega (arith, c .before .before .wide2 .ensures, move-ok _ (c .before .before .before .before .before .before .before .before .pre .0) (c .before .before .before .before .before .before .loop .i) (omega arith) .to)

@@ -1,6 +1,7 @@
 -- `ready` answers by the case of the input.
-use Rattle.basis.specs.Inner.Tells.{holds}
-use Rattle.automaton.specs.Tests.{tells-ltb, at, Tells}
+use Rattle.basis.specs.Inner.Tells.{holds, Tells}
+use Rattle.basis.specs.Laws.Tells.{tells-ltb}
+use Rattle.automaton.specs.Tests.{at}
 use Rattle.automaton.specs.Inner.Counts.{Ready, InputOk}
 use Prim.Native.Nat.{_<_}
 use lib.Dec.{ltb}

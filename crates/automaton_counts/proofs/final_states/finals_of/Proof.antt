@@ -1,5 +1,5 @@
 -- `finals_of` copies the bits one by one.
-use Rattle.automaton.specs.Tests.{flag}
+use Rattle.basis.specs.Tests.{flag}
 use Rattle.automaton_counts.specs.Inner.Emits.{finalBit}
 use lib.Seq.{getD-set-same, getD-set-other}
 use lib.ListN.{length, length-set}

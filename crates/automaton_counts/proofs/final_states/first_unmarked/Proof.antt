@@ -3,7 +3,7 @@ use mathlib.Core.Path.{_≡_, sym, _∙_}
 use Prim.Native.Nat.{_-_, _≤_}
 use native.Mathlib.Omega.{arith}
 use borrow.Author.Tests.{not-true, not-false}
-use Rattle.automaton.specs.Tests.{flag}
+use Rattle.basis.specs.Tests.{flag}
 use Rattle.automaton.specs.Number.{lowest}
 use Rattle.automaton.specs.Laws.Lowest.{scan-starts, scan-passes, scan-stops, scan-ends}
 use borrow.Author.Needs.{needs}

@@ -1,10 +1,9 @@
 -- `mark_back` keeps what `Backing` says of the marked states, one transition after the other.
-use Rattle.automaton.specs.Tests.{true-false}
+use Rattle.basis.specs.Laws.Bools.{clash}
 use Rattle.automaton.specs.Laws.Passes.{back-stay, back-store}
 use Rattle.automaton.specs.Inner.Passes.{Backing}
 use Rattle.automaton_counts.proofs.Tools.{moved, move-ok}
 use borrow.Author.Tests.{not-true, not-false}
-use mathlib.Core.Bool.{false}
 use Prim.Native.Nat.{_-_, _≤_}
 use mathlib.Core.Path.{_≡_, sym, _∙_}
 use native.Mathlib.Omega.{arith}
@@ -59,7 +58,7 @@ loop-less-2 c = search needs
 loop-again-2 : tie.Need-loop-again-2 Inv-loop μ-loop
 loop-again-2 c =
     let l = c .before .before .before .before .before .before .loop in
-    (omega arith, back-stay _ (c .before .before .before .before .before .before .before .before .pre .0) _ _ _ _ (l .inv .1) (λ h. absurd (true-false (sym h ∙ moved (l .marked) (c .before .before .wide2 .ensures) (not-true _ (c .if2 .taken))))))
+    (omega arith, back-stay _ (c .before .before .before .before .before .before .before .before .pre .0) _ _ _ _ (l .inv .1) (λ h. absurd (clash (sym h ∙ moved (l .marked) (c .before .before .wide2 .ensures) (not-true _ (c .if2 .taken))))))
 
 array-write-marked : tie.Need-array-write-marked Inv-loop μ-loop
 array-write-marked c = omega (arith, c .before .before .before .wide .ensures, move-ok _ (c .before .before .before .before .before .before .before .before .pre .0) (c .before .before .before .before .before .before .loop .i) (omega arith) .from)

@@ -1,12 +1,11 @@
 -- Each pass of `to_final` that marks a state leaves fewer; the flags are determined by what they tell.
+use Rattle.basis.specs.Tests.{falses}
 use Rattle.automaton.specs.Laws.Works.{back-done}
-use Rattle.automaton.specs.Number.{falses}
 use Rattle.automaton.specs.Laws.Passes.{same-back, back-starts, back-round, back-ends}
 use Rattle.automaton.specs.Inner.Passes.{Backing}
 use borrow.Author.Tests.{not-true, not-false}
 use mathlib.Core.Bool.{false}
-use mathlib.Core.Path.{_≡_, sym, _∙_}
-use native.Mathlib.Omega.{arith}
+use mathlib.Core.Path.{_≡_}
 use borrow.Author.Needs.{needs}
 use Rattle.automaton_counts.proofs.final_states.to_final.Statement.{statement}
 use Rattle.automaton_counts.proofs.final_states.to_final.Tie as tie

@@ -3,12 +3,6 @@ use Rattle.made.specs.Parts.{automatonOf}
 use borrow.Author.Needs.{needs}
 use Rattle.made.proofs.automata.automaton_of.Statement.{statement}
 use Rattle.made.proofs.automata.automaton_of.Tie as tie
-use Rattle.made.proofs.automata.automaton_of.Reads as reads
-use Rattle.made.proofs.automata.automaton_of.Lts as lts
-use Rattle.made.proofs.automata.moves_of.Reads as moves-of-reads
-use Rattle.made.proofs.numbers.byte.Reads as byte-reads
-use Rattle.made.proofs.numbers.eight.Reads as eight-reads
-use Rattle.made.proofs.numbers.two.Reads as two-reads
 
 byte-requires : tie.Need-byte-requires
 byte-requires c κs = search needs

@@ -1,11 +1,8 @@
 -- Each tag gives its input.
 use borrow.Author.Tests.{eq-eqb, ne-eqb}
 use Rattle.made.specs.Values.{inputOf}
-use borrow.Author.Needs.{needs}
 use Rattle.made.proofs.automata.input_of.Statement.{statement}
 use Rattle.made.proofs.automata.input_of.Tie as tie
-use Rattle.made.proofs.automata.input_of.Reads as reads
-use Rattle.made.proofs.automata.input_of.Lts as lts
 
 returns : tie.Need-returns
 unfolding inputOf

@@ -3,11 +3,6 @@ use Rattle.made.specs.Values.{moveAt}
 use borrow.Author.Needs.{needs}
 use Rattle.made.proofs.automata.move_at.Statement.{statement}
 use Rattle.made.proofs.automata.move_at.Tie as tie
-use Rattle.made.proofs.automata.move_at.Reads as reads
-use Rattle.made.proofs.automata.move_at.Lts as lts
-use Rattle.made.proofs.automata.input_of.Reads as input-of-reads
-use Rattle.made.proofs.automata.output_of.Reads as output-of-reads
-use Rattle.made.proofs.numbers.byte.Reads as byte-reads
 
 add-byte : tie.Need-add-byte
 add-byte c = search needs

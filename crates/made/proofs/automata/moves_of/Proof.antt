@@ -11,9 +11,6 @@ use Rattle.made.proofs.Filled.{Fills, fills-none, fills-more, fills-all
 use borrow.Author.Needs.{needs}
 use Rattle.made.proofs.automata.moves_of.Statement.{statement}
 use Rattle.made.proofs.automata.moves_of.Tie as tie
-use Rattle.made.proofs.automata.moves_of.Reads as reads
-use Rattle.made.proofs.automata.moves_of.Lts as lts
-use Rattle.made.proofs.automata.move_at.Reads as move-at-reads
 
 abbrev Inv-loop : tie.InvT-loop
 Inv-loop bytes moves₀ i₀ off₀ moves i off =

@@ -1,11 +1,8 @@
 -- Each tag gives its output.
 use borrow.Author.Tests.{eq-eqb, ne-eqb}
 use Rattle.made.specs.Values.{outputOf}
-use borrow.Author.Needs.{needs}
 use Rattle.made.proofs.automata.output_of.Statement.{statement}
 use Rattle.made.proofs.automata.output_of.Tie as tie
-use Rattle.made.proofs.automata.output_of.Reads as reads
-use Rattle.made.proofs.automata.output_of.Lts as lts
 
 returns : tie.Need-returns
 unfolding outputOf

@@ -3,12 +3,6 @@ use Rattle.made.specs.Values.{entryAt}
 use borrow.Author.Needs.{needs}
 use Rattle.made.proofs.entries.entry_at.Statement.{statement}
 use Rattle.made.proofs.entries.entry_at.Tie as tie
-use Rattle.made.proofs.entries.entry_at.Reads as reads
-use Rattle.made.proofs.entries.entry_at.Lts as lts
-use Rattle.made.proofs.entries.phase_of.Reads as phase-of-reads
-use Rattle.made.proofs.numbers.byte.Reads as byte-reads
-use Rattle.made.proofs.numbers.four.Reads as four-reads
-use Rattle.made.proofs.numbers.time.Reads as time-reads
 
 byte-requires : tie.Need-byte-requires
 byte-requires c κs = search needs

@@ -1,11 +1,8 @@
 -- Each tag gives its phase.
 use borrow.Author.Tests.{eq-eqb, ne-eqb}
 use Rattle.made.specs.Values.{phaseOf}
-use borrow.Author.Needs.{needs}
 use Rattle.made.proofs.entries.phase_of.Statement.{statement}
 use Rattle.made.proofs.entries.phase_of.Tie as tie
-use Rattle.made.proofs.entries.phase_of.Reads as reads
-use Rattle.made.proofs.entries.phase_of.Lts as lts
 
 returns : tie.Need-returns
 unfolding phaseOf

@@ -12,9 +12,6 @@ use Rattle.made.proofs.Filled.{Fills, fills-none, fills-more, fills-all
 use borrow.Author.Needs.{needs}
 use Rattle.made.proofs.entries.window_of.Statement.{statement}
 use Rattle.made.proofs.entries.window_of.Tie as tie
-use Rattle.made.proofs.entries.window_of.Reads as reads
-use Rattle.made.proofs.entries.window_of.Lts as lts
-use Rattle.made.proofs.entries.entry_at.Reads as entry-at-reads
 
 abbrev Inv-loop : tie.InvT-loop
 Inv-loop bytes window₀ i₀ off₀ window i off =

@@ -3,12 +3,6 @@ use Rattle.made.specs.Values.{instanceAt}
 use borrow.Author.Needs.{needs}
 use Rattle.made.proofs.moments.instance_at.Statement.{statement}
 use Rattle.made.proofs.moments.instance_at.Tie as tie
-use Rattle.made.proofs.moments.instance_at.Reads as reads
-use Rattle.made.proofs.moments.instance_at.Lts as lts
-use Rattle.made.proofs.moments.told_of.Reads as told-of-reads
-use Rattle.made.proofs.numbers.byte.Reads as byte-reads
-use Rattle.made.proofs.numbers.four.Reads as four-reads
-use Rattle.made.proofs.numbers.time.Reads as time-reads
 
 add-time : tie.Need-add-time
 add-time c = search needs

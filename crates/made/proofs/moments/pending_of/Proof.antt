@@ -11,9 +11,6 @@ use Rattle.made.proofs.Filled.{Fills, fills-none, fills-more, fills-all
 use borrow.Author.Needs.{needs}
 use Rattle.made.proofs.moments.pending_of.Statement.{statement}
 use Rattle.made.proofs.moments.pending_of.Tie as tie
-use Rattle.made.proofs.moments.pending_of.Reads as reads
-use Rattle.made.proofs.moments.pending_of.Lts as lts
-use Rattle.made.proofs.moments.instance_at.Reads as instance-at-reads
 
 abbrev Inv-loop : tie.InvT-loop
 Inv-loop bytes pending₀ i₀ off₀ pending i off =

@@ -3,13 +3,6 @@ use Rattle.made.specs.Parts.{progressOf}
 use borrow.Author.Needs.{needs}
 use Rattle.made.proofs.moments.progress_of.Statement.{statement}
 use Rattle.made.proofs.moments.progress_of.Tie as tie
-use Rattle.made.proofs.moments.progress_of.Reads as reads
-use Rattle.made.proofs.moments.progress_of.Lts as lts
-use Rattle.made.proofs.moments.pending_of.Reads as pending-of-reads
-use Rattle.made.proofs.moments.times_at.Reads as times-at-reads
-use Rattle.made.proofs.numbers.byte.Reads as byte-reads
-use Rattle.made.proofs.numbers.fill.Reads as fill-reads
-use Rattle.made.proofs.numbers.four.Reads as four-reads
 
 slice-aggregate-fill : tie.Need-slice-aggregate-fill
 slice-aggregate-fill c = search needs

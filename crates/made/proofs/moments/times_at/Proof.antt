@@ -11,9 +11,6 @@ use Rattle.made.proofs.Filled.{Fills, fills-none, fills-more, fills-all
 use borrow.Author.Needs.{needs}
 use Rattle.made.proofs.moments.times_at.Statement.{statement}
 use Rattle.made.proofs.moments.times_at.Tie as tie
-use Rattle.made.proofs.moments.times_at.Reads as reads
-use Rattle.made.proofs.moments.times_at.Lts as lts
-use Rattle.made.proofs.numbers.time.Reads as time-reads
 
 abbrev Inv-loop : tie.InvT-loop
 Inv-loop bytes at times₀ i₀ off₀ times i off =

@@ -1,11 +1,8 @@
 -- Each tag gives what was told.
 use borrow.Author.Tests.{eq-eqb, ne-eqb}
 use Rattle.made.specs.Values.{toldOf}
-use borrow.Author.Needs.{needs}
 use Rattle.made.proofs.moments.told_of.Statement.{statement}
 use Rattle.made.proofs.moments.told_of.Tie as tie
-use Rattle.made.proofs.moments.told_of.Reads as reads
-use Rattle.made.proofs.moments.told_of.Lts as lts
 
 returns : tie.Need-returns
 unfolding toldOf

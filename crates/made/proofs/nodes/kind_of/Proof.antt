@@ -1,11 +1,8 @@
 -- Each tag gives its kind.
 use borrow.Author.Tests.{eq-eqb, ne-eqb}
 use Rattle.made.specs.Values.{kindOf}
-use borrow.Author.Needs.{needs}
 use Rattle.made.proofs.nodes.kind_of.Statement.{statement}
 use Rattle.made.proofs.nodes.kind_of.Tie as tie
-use Rattle.made.proofs.nodes.kind_of.Reads as reads
-use Rattle.made.proofs.nodes.kind_of.Lts as lts
 
 returns : tie.Need-returns
 unfolding kindOf

@@ -3,12 +3,6 @@ use Rattle.made.specs.Values.{nodeAt}
 use borrow.Author.Needs.{needs}
 use Rattle.made.proofs.nodes.node_at.Statement.{statement}
 use Rattle.made.proofs.nodes.node_at.Tie as tie
-use Rattle.made.proofs.nodes.node_at.Reads as reads
-use Rattle.made.proofs.nodes.node_at.Lts as lts
-use Rattle.made.proofs.nodes.kind_of.Reads as kind-of-reads
-use Rattle.made.proofs.nodes.preds_at.Reads as preds-at-reads
-use Rattle.made.proofs.numbers.byte.Reads as byte-reads
-use Rattle.made.proofs.numbers.four.Reads as four-reads
 
 byte-requires : tie.Need-byte-requires
 byte-requires c κs = search needs

@@ -11,9 +11,6 @@ use Rattle.made.proofs.Filled.{Fills, fills-none, fills-more, fills-all
 use borrow.Author.Needs.{needs}
 use Rattle.made.proofs.nodes.nodes_of.Statement.{statement}
 use Rattle.made.proofs.nodes.nodes_of.Tie as tie
-use Rattle.made.proofs.nodes.nodes_of.Reads as reads
-use Rattle.made.proofs.nodes.nodes_of.Lts as lts
-use Rattle.made.proofs.nodes.node_at.Reads as node-at-reads
 
 abbrev Inv-loop : tie.InvT-loop
 Inv-loop bytes nodes₀ i₀ off₀ nodes i off =

@@ -6,8 +6,6 @@ use lib.ListN.{List·getD-eq-default}
 use borrow.Author.Needs.{needs}
 use Rattle.made.proofs.numbers.byte.Statement.{statement}
 use Rattle.made.proofs.numbers.byte.Tie as tie
-use Rattle.made.proofs.numbers.byte.Reads as reads
-use Rattle.made.proofs.numbers.byte.Lts as lts
 
 shared-slice-read-result : tie.Need-shared-slice-read-result
 shared-slice-read-result c = search needs

@@ -5,9 +5,6 @@ use Rattle.wire.specs.Laws.Fields.{little-eight}
 use borrow.Author.Needs.{needs}
 use Rattle.made.proofs.numbers.eight.Statement.{statement}
 use Rattle.made.proofs.numbers.eight.Tie as tie
-use Rattle.made.proofs.numbers.eight.Reads as reads
-use Rattle.made.proofs.numbers.eight.Lts as lts
-use Rattle.made.proofs.numbers.four.Reads as four-reads
 
 four-requires : tie.Need-four-requires
 four-requires c κs = search needs

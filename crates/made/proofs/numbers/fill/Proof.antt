@@ -10,9 +10,6 @@ use Rattle.made.proofs.Filled.{Fills, fills-none, fills-more, fills-all
 use borrow.Author.Needs.{needs}
 use Rattle.made.proofs.numbers.fill.Statement.{statement}
 use Rattle.made.proofs.numbers.fill.Tie as tie
-use Rattle.made.proofs.numbers.fill.Reads as reads
-use Rattle.made.proofs.numbers.fill.Lts as lts
-use Rattle.made.proofs.numbers.byte.Reads as byte-reads
 
 abbrev Inv-loop : tie.InvT-loop
 Inv-loop bytes at part₀ i₀ off₀ n part i off =

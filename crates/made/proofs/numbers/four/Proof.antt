@@ -5,9 +5,6 @@ use Rattle.wire.specs.Laws.Fields.{little-four}
 use borrow.Author.Needs.{needs}
 use Rattle.made.proofs.numbers.four.Statement.{statement}
 use Rattle.made.proofs.numbers.four.Tie as tie
-use Rattle.made.proofs.numbers.four.Reads as reads
-use Rattle.made.proofs.numbers.four.Lts as lts
-use Rattle.made.proofs.numbers.two.Reads as two-reads
 
 two-requires : tie.Need-two-requires
 two-requires c κs = search needs

@@ -1,13 +1,9 @@
 -- A time is a number of eight bytes.
 use mathlib.Core.Path.{ap}
 use Prim.Native.Nat.{ℕ}
-use Rattle.time.specs.declared.Specified.{Specified}
 use borrow.Author.Needs.{needs}
 use Rattle.made.proofs.numbers.time.Statement.{statement}
 use Rattle.made.proofs.numbers.time.Tie as tie
-use Rattle.made.proofs.numbers.time.Reads as reads
-use Rattle.made.proofs.numbers.time.Lts as lts
-use Rattle.made.proofs.numbers.eight.Reads as eight-reads
 
 eight-requires : tie.Need-eight-requires
 eight-requires c κs = search needs

@@ -3,12 +3,6 @@ use Rattle.made.specs.Parts.{planOf}
 use borrow.Author.Needs.{needs}
 use Rattle.made.proofs.plans.plan_of.Statement.{statement}
 use Rattle.made.proofs.plans.plan_of.Tie as tie
-use Rattle.made.proofs.plans.plan_of.Reads as reads
-use Rattle.made.proofs.plans.plan_of.Lts as lts
-use Rattle.made.proofs.automata.automaton_of.Reads as automaton-of-reads
-use Rattle.made.proofs.nodes.nodes_of.Reads as nodes-of-reads
-use Rattle.made.proofs.numbers.byte.Reads as byte-reads
-use Rattle.made.proofs.numbers.fill.Reads as fill-reads
 
 slice-aggregate-fill : tie.Need-slice-aggregate-fill
 slice-aggregate-fill c = search needs

@@ -1,17 +1,10 @@
 -- An input is present iff bit 0 stands.
-use native.Mathlib.Omega.{arith}
-use mathlib.Core.Path.{_≡_, refl, sym, _∙_, ap}
 use borrow.Author.Tests.{eq-eqb, ne-eqb}
-use Prim.Native.Nat.{ℕ, _+_, _-_, _%_, _/_, _≤_, _<_}
 use Rattle.plan.specs.Moves.{inputAt}
-use native.Mathlib.Nat.{div-one}
 use Rattle.wire.specs.Laws.Maps.{bit-zero}
 use borrow.Author.Needs.{needs}
 use Rattle.plan_automaton.proofs.transitions.input_at.Statement.{statement}
 use Rattle.plan_automaton.proofs.transitions.input_at.Tie as tie
-use Rattle.plan_automaton.proofs.transitions.input_at.Reads as reads
-use Rattle.plan_automaton.proofs.transitions.input_at.Lts as lts
-use Rattle.plan_automaton.proofs.transitions.outcome_at.Reads as outcome-at-reads
 
 outcome-at-requires : tie.Need-outcome-at-requires
 outcome-at-requires c κs = search needs

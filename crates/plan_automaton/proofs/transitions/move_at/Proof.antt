@@ -1,13 +1,8 @@
 -- A transition: its map, and what follows.
-use mathlib.Core.Path.{_≡_, refl, sym, _∙_, ap}
 use Rattle.plan.specs.Moves.{moveAt}
 use borrow.Author.Needs.{needs}
 use Rattle.plan_automaton.proofs.transitions.move_at.Statement.{statement}
 use Rattle.plan_automaton.proofs.transitions.move_at.Tie as tie
-use Rattle.plan_automaton.proofs.transitions.move_at.Reads as reads
-use Rattle.plan_automaton.proofs.transitions.move_at.Lts as lts
-use Rattle.plan_fields.proofs.byte_in.Reads as byte-in-reads
-use Rattle.plan_automaton.proofs.transitions.move_from.Reads as move-from-reads
 
 byte-in-requires : tie.Need-byte-in-requires
 byte-in-requires c κs = search needs

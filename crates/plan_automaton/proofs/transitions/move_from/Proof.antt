@@ -1,13 +1,8 @@
 -- A transition's states, and what follows.
-use mathlib.Core.Path.{_≡_, refl, sym, _∙_, ap}
 use Rattle.plan.specs.Moves.{moveFrom}
 use borrow.Author.Needs.{needs}
 use Rattle.plan_automaton.proofs.transitions.move_from.Statement.{statement}
 use Rattle.plan_automaton.proofs.transitions.move_from.Tie as tie
-use Rattle.plan_automaton.proofs.transitions.move_from.Reads as reads
-use Rattle.plan_automaton.proofs.transitions.move_from.Lts as lts
-use Rattle.plan_fields.proofs.name_at.Reads as name-at-reads
-use Rattle.plan_automaton.proofs.transitions.move_with.Reads as move-with-reads
 
 name-at-requires : tie.Need-name-at-requires
 name-at-requires c κs = search needs

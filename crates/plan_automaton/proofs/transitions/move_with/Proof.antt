@@ -1,13 +1,8 @@
 -- A transition's input and output.
-use mathlib.Core.Path.{_≡_, refl, sym, _∙_, ap}
 use Rattle.plan.specs.Moves.{moveWith}
 use borrow.Author.Needs.{needs}
 use Rattle.plan_automaton.proofs.transitions.move_with.Statement.{statement}
 use Rattle.plan_automaton.proofs.transitions.move_with.Tie as tie
-use Rattle.plan_automaton.proofs.transitions.move_with.Reads as reads
-use Rattle.plan_automaton.proofs.transitions.move_with.Lts as lts
-use Rattle.plan_automaton.proofs.transitions.input_at.Reads as input-at-reads
-use Rattle.plan_automaton.proofs.transitions.output_at.Reads as output-at-reads
 
 input-at-requires : tie.Need-input-at-requires
 input-at-requires c κs = search needs

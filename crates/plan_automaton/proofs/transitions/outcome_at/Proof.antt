@@ -1,13 +1,10 @@
 -- The two fields of an input, by their answers.
 use native.Mathlib.Omega.{arith}
-use mathlib.Core.Path.{_≡_, refl, sym, _∙_, ap}
-use Rattle.plan_fields.specs.Laws.Read.{byte-most, move-count-most}
+use mathlib.Core.Path.{sym, _∙_}
+use Rattle.plan_fields.specs.Laws.Read.{byte-most}
 use borrow.Author.Needs.{needs}
 use Rattle.plan_automaton.proofs.transitions.outcome_at.Statement.{statement}
 use Rattle.plan_automaton.proofs.transitions.outcome_at.Tie as tie
-use Rattle.plan_automaton.proofs.transitions.outcome_at.Reads as reads
-use Rattle.plan_automaton.proofs.transitions.outcome_at.Lts as lts
-use Rattle.plan_fields.proofs.name_at.Reads as name-at-reads
 
 name-at-requires : tie.Need-name-at-requires
 name-at-requires c κs = search needs

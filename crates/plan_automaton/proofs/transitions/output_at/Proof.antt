@@ -1,14 +1,9 @@
 -- An output is present iff bit 1 stands.
-use native.Mathlib.Omega.{arith}
-use mathlib.Core.Path.{_≡_, refl, sym, _∙_, ap}
 use borrow.Author.Tests.{eq-eqb, ne-eqb}
 use Rattle.plan.specs.Moves.{outputAt}
 use borrow.Author.Needs.{needs}
 use Rattle.plan_automaton.proofs.transitions.output_at.Statement.{statement}
 use Rattle.plan_automaton.proofs.transitions.output_at.Tie as tie
-use Rattle.plan_automaton.proofs.transitions.output_at.Reads as reads
-use Rattle.plan_automaton.proofs.transitions.output_at.Lts as lts
-use Rattle.plan_fields.proofs.name_at.Reads as name-at-reads
 
 name-at-requires : tie.Need-name-at-requires
 name-at-requires c κs = search needs

@@ -6,9 +6,9 @@ use native.Mathlib.Omega.{arith}
 use borrow.Author.Tests.{not-true, not-false}
 use borrow.Author.Needs.{needs}
 use lib.ListN.{getD}
+use Rattle.basis.specs.Tests.{every}
 use Rattle.plan_limits.specs.Laws.Every.{every-on, every-off, every-end}
 use Rattle.plan_limits.specs.Limits.{moveInLimits, movesInLimits}
-use Rattle.activity.specs.Tests.{every}
 use Rattle.plan.specs.Plan.{pastMove}
 use Rattle.plan_limits.proofs.moves.moves_in_limits.Statement.{statement}
 use Rattle.plan_limits.proofs.moves.moves_in_limits.Tie as tie

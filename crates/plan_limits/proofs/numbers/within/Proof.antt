@@ -5,7 +5,7 @@ use Prim.Native.Nat.{_≤_}
 use native.Mathlib.Omega.{arith}
 use borrow.Author.Tests.{le-leb, lt-leb, lt-ltb, le-ltb}
 use lib.ListN.{getD}
-use Rattle.activity.specs.Tests.{every}
+use Rattle.basis.specs.Tests.{every}
 use Rattle.plan_limits.specs.Limits.{isWithin, within}
 use Rattle.plan_limits.specs.Laws.Every.{every-on, every-off, every-end}
 use borrow.Author.Needs.{needs}

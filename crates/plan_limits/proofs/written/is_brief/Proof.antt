@@ -2,8 +2,6 @@
 use borrow.Author.Needs.{needs}
 use Rattle.plan_limits.proofs.written.is_brief.Statement.{statement}
 use Rattle.plan_limits.proofs.written.is_brief.Tie as tie
-use Rattle.plan_limits.proofs.written.is_brief.Reads as reads
-use Rattle.plan_limits.proofs.written.is_brief.Lts as lts
 
 enum-known-kind : tie.Need-enum-known-kind
 enum-known-kind c = search needs

@@ -7,9 +7,9 @@ use borrow.Author.Tests.{lt-ltb, le-ltb}
 use borrow.Author.Needs.{needs}
 use lib.ListN.{getD, length, List·getD-eq-default}
 use lib.Dec.{ltb}
+use Rattle.basis.specs.Tests.{every}
 use Rattle.plan_limits.specs.Laws.Every.{every-on, every-off, every-end, every-not}
 use Rattle.plan_limits.specs.Limits.{isRising}
-use Rattle.activity.specs.Tests.{every}
 use Rattle.plan_limits.proofs.written.is_rising.Statement.{statement}
 use Rattle.plan_limits.proofs.written.is_rising.Tie as tie
 

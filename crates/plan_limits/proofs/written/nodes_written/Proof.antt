@@ -6,9 +6,9 @@ use native.Mathlib.Omega.{arith}
 use borrow.Author.Tests.{not-true, not-false}
 use borrow.Author.Needs.{needs}
 use lib.ListN.{getD}
+use Rattle.basis.specs.Tests.{every}
 use Rattle.plan_limits.specs.Laws.Every.{every-on, every-off, every-end}
 use Rattle.plan_limits.specs.Limits.{slotWritten, nodesWritten}
-use Rattle.activity.specs.Tests.{every}
 use Rattle.plan.specs.Plan.{pastNode}
 use Rattle.plan_limits.proofs.written.nodes_written.Statement.{statement}
 use Rattle.plan_limits.proofs.written.nodes_written.Tie as tie

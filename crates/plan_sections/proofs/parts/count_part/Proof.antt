@@ -3,11 +3,6 @@ use Rattle.plan_sections.specs.Inner.Parts.{countPart}
 use borrow.Author.Needs.{needs}
 use Rattle.plan_sections.proofs.parts.count_part.Statement.{statement}
 use Rattle.plan_sections.proofs.parts.count_part.Tie as tie
-use Rattle.plan_sections.proofs.parts.count_part.Reads as reads
-use Rattle.plan_sections.proofs.parts.count_part.Lts as lts
-use Rattle.plan_fields.proofs.count_at.Reads as count-at-reads
-use Rattle.plan_nodes.proofs.zero_node.Reads as zero-node-reads
-use Rattle.plan_sections.proofs.parts.no_part.Reads as no-part-reads
 
 count-at-requires : tie.Need-count-at-requires
 count-at-requires c κs = search needs

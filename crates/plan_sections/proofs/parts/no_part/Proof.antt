@@ -2,9 +2,6 @@
 use borrow.Author.Needs.{needs}
 use Rattle.plan_sections.proofs.parts.no_part.Statement.{statement}
 use Rattle.plan_sections.proofs.parts.no_part.Tie as tie
-use Rattle.plan_sections.proofs.parts.no_part.Reads as reads
-use Rattle.plan_sections.proofs.parts.no_part.Lts as lts
-use Rattle.plan_nodes.proofs.zero_node.Reads as zero-node-reads
 
 zero-node-requires : tie.Need-zero-node-requires
 zero-node-requires c κs = search needs

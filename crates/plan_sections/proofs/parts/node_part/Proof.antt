@@ -3,10 +3,6 @@ use Rattle.plan_sections.specs.Inner.Parts.{nodePart}
 use borrow.Author.Needs.{needs}
 use Rattle.plan_sections.proofs.parts.node_part.Statement.{statement}
 use Rattle.plan_sections.proofs.parts.node_part.Tie as tie
-use Rattle.plan_sections.proofs.parts.node_part.Reads as reads
-use Rattle.plan_sections.proofs.parts.node_part.Lts as lts
-use Rattle.plan_nodes.proofs.node_at.Reads as node-at-reads
-use Rattle.plan_sections.proofs.parts.no_part.Reads as no-part-reads
 
 node-at-requires : tie.Need-node-at-requires
 node-at-requires c κs = search needs

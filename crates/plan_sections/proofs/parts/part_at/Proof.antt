@@ -1,16 +1,11 @@
 -- A node while nodes are left, then a node count while activities are left.
 use native.Mathlib.Omega.{arith}
 use mathlib.Core.Path.{_≡_}
-use Prim.Native.Nat.{ℕ, suc, _-_}
+use Prim.Native.Nat.{suc, _-_}
 use Rattle.plan_sections.specs.Inner.Parts.{partAt}
 use borrow.Author.Needs.{needs}
 use Rattle.plan_sections.proofs.parts.part_at.Statement.{statement}
 use Rattle.plan_sections.proofs.parts.part_at.Tie as tie
-use Rattle.plan_sections.proofs.parts.part_at.Reads as reads
-use Rattle.plan_sections.proofs.parts.part_at.Lts as lts
-use Rattle.plan_nodes.proofs.zero_node.Reads as zero-node-reads
-use Rattle.plan_sections.proofs.parts.count_part.Reads as count-part-reads
-use Rattle.plan_sections.proofs.parts.node_part.Reads as node-part-reads
 
 node-part-requires : tie.Need-node-part-requires
 node-part-requires c κs = search needs

@@ -1,5 +1,5 @@
 -- `call` is the call that it is given.
-use mathlib.Core.Path.{_≡_, sym, _∙_, ap}
+use mathlib.Core.Path.{sym, _∙_, ap}
 use Rattle.run.specs.Calls.{callOf}
 use borrow.Author.Needs.{needs}
 use Rattle.run.proofs.Run.call.Statement.{statement}

@@ -1,5 +1,5 @@
 -- `run_in_limits` is what it is defined to be.
-use mathlib.Core.Path.{_≡_, sym, _∙_, ap}
+use mathlib.Core.Path.{sym, _∙_}
 use borrow.Author.Tests.{not-true, not-false, le-leb, lt-leb}
 use Rattle.run.specs.Limits.{runInLimits}
 use Rattle.run.specs.Inner.Checks.{storedInLimits}

@@ -1,5 +1,5 @@
 -- `stored_in_limits` is what it is defined to be.
-use mathlib.Core.Path.{_≡_, sym, _∙_, ap}
+use mathlib.Core.Path.{sym, _∙_}
 use borrow.Author.Tests.{not-true, not-false}
 use Rattle.run.specs.Inner.Checks.{storedInLimits}
 use borrow.Author.Needs.{needs}

@@ -1,5 +1,5 @@
 -- `learnt` stores the outcome, clears the reported place, loads the next paths and answers.
-use mathlib.Core.Path.{_≡_, _∙_, ap}
+use mathlib.Core.Path.{_∙_, ap}
 use native.Mathlib.Omega.{arith}
 use lib.ListN.{set}
 use Rattle.times.specs.declared.Progress.{Progress}

@@ -1,6 +1,5 @@
 -- `node_named` tells whether position and node are within their limits.
 use borrow.Author.Tests.{le-leb, lt-leb}
-use borrow.Author.Needs.{needs}
 use Rattle.run_checks.proofs.bounds.node_named.Statement.{statement}
 use Rattle.run_checks.proofs.bounds.node_named.Tie as tie
 

@@ -1,6 +1,5 @@
 -- `slack_in_limits` is what it is defined to be.
 use borrow.Author.Tests.{le-leb, lt-leb}
-use borrow.Author.Needs.{needs}
 use Rattle.run_checks.proofs.bounds.slack_in_limits.Statement.{statement}
 use Rattle.run_checks.proofs.bounds.slack_in_limits.Tie as tie
 

@@ -6,10 +6,10 @@ use native.Mathlib.Omega.{arith}
 use borrow.Author.Tests.{not-true, not-false}
 use borrow.Author.Needs.{needs}
 use lib.ListN.{getD}
+use Rattle.basis.specs.Tests.{every}
 use Rattle.plan_limits.specs.Laws.Every.{every-on, every-off, every-end}
 use Rattle.run_limits.specs.Progress.{placeInLimits, pendingInLimits}
 use Rattle.times.specs.Queues.{noInstance}
-use Rattle.activity.specs.Tests.{every}
 use Rattle.run_limits.proofs.progress.pending_in_limits.Statement.{statement}
 use Rattle.run_limits.proofs.progress.pending_in_limits.Tie as tie
 

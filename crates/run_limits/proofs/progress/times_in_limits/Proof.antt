@@ -6,11 +6,11 @@ use native.Mathlib.Omega.{arith}
 use borrow.Author.Tests.{le-leb, lt-leb}
 use borrow.Author.Needs.{needs}
 use lib.Dec.{leb}
+use Rattle.basis.specs.Tests.{every}
 use Rattle.plan_limits.specs.Laws.Every.{every-on, every-off, every-end}
 use Rattle.run_limits.specs.Progress.{timesInLimits}
 use Rattle.times.specs.Times.{at}
 use Rattle.time.specs.Time.{horizon}
-use Rattle.activity.specs.Tests.{every}
 use Rattle.run_limits.proofs.progress.times_in_limits.Statement.{statement}
 use Rattle.run_limits.proofs.progress.times_in_limits.Tie as tie
 

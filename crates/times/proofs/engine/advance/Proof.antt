@@ -1,7 +1,6 @@
 -- `advance` meets its contract: each callee is given what it asks for, and the answers put together are the definition's. Assumes nothing.
 use mathlib.Core.Path.{_≡_, sym, ap, _∙_, subst}
 use native.Mathlib.Omega.{arith}
-use borrow.Author.Needs.{needs}
 use Rattle.plan.specs.Plan.{nodesOf}
 use Rattle.times.specs.Laws.Fits.{input-fits, left-position, timeable, position-le, leaving, held-as, withAvailable, held-parts, closed-parts, assembled}
 use Rattle.times.specs.Inner.Times.{Timeable, Leaving}

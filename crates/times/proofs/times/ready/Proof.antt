@@ -7,7 +7,8 @@ use borrow.Author.Tests.{not-true, not-false}
 use borrow.Author.Needs.{needs}
 use denote.Ref.{now}
 use Rattle.basis.specs.Parts.{part}
-use Rattle.times.specs.Times.{flag, readyOf}
+use Rattle.basis.specs.Tests.{flag}
+use Rattle.times.specs.Times.{readyOf}
 use Rattle.times.specs.Laws.Loops.{ready-not, ready-on, ready-end}
 use Rattle.times.proofs.times.ready.Statement.{statement}
 use Rattle.times.proofs.times.ready.Tie as tie

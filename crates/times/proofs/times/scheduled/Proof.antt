@@ -8,7 +8,7 @@ use lib.ListN.{getD, set}
 use Rattle.time.specs.declared.Specified.{Specified}
 use Rattle.plan.specs.Plan.{pastNode}
 use Rattle.times.specs.declared.Schedule.{Schedule}
-use Rattle.times.specs.Times.{specified, startOf}
+use Rattle.times.specs.Times.{specified}
 use Rattle.times.specs.Inner.Times.{Sound, numbers, Rounding}
 use Rattle.times.specs.Laws.Rounds.{stored-placed, arrows-fit, kind-fits, visit-done, visit-waits, visit-placed, start-small, room, placed-sound}
 use Rattle.times.specs.Laws.Turns.{start-found, claim-low, event-low, number-set, rounding-starts, rounding-turn, rounding-stops, rounding-next, rounding-done}

@@ -1,6 +1,6 @@
 -- `ask` meets its contract. Assumes nothing.
 use mathlib.Core.Path.{sym, ap, _∙_}
-use Rattle.timetable_turns.specs.Laws.ByTurns.{never}
+use Rattle.basis.specs.Laws.Bools.{clash}
 use Rattle.timetable_turns.specs.Laws.Stepping.{asks}
 use borrow.Author.Needs.{needs}
 use Rattle.timetable_output.proofs.descriptors.ask.Statement.{statement}
@@ -16,7 +16,7 @@ same-length : tie.Need-same-length
 same-length c = search needs
 
 returns : tie.Need-returns
-returns c = record { listens = c .before .before .listen .ensures; unasked = λ k. never (sym (ap asks (c .before .before .before .before .enum-told .given .1)) ∙ k) }
+returns c = record { listens = c .before .before .listen .ensures; unasked = λ k. clash (sym (ap asks (c .before .before .before .before .enum-told .given .1)) ∙ k) }
 
 enum-told-2 : tie.Need-enum-told-2
 enum-told-2 c = search needs

@@ -1,9 +1,9 @@
 -- The loop over the numbers: what is left is put after what was put.
 use native.Mathlib.Omega.{arith}
-use mathlib.Core.Path.{_≡_, refl, sym, _∙_, ap}
+use mathlib.Core.Path.{_≡_, refl, _∙_}
 use denote.Ref.{now}
-use Prim.Native.Nat.{ℕ, _+_, _-_, _%_, _/_, _≤_, _<_}
-use lib.ListN.{length, length-set}
+use Prim.Native.Nat.{_+_, _-_, _≤_, _<_}
+use lib.ListN.{length}
 use lib.Seq.{sets}
 use native.Mathlib.Nat.{sub-zero}
 use Rattle.wire.specs.Number.{numberBytes}
@@ -11,9 +11,6 @@ use Rattle.wire.proofs.Turns.{list-next, list-done}
 use borrow.Author.Needs.{needs}
 use Rattle.wire.proofs.puts.put_list.Statement.{statement}
 use Rattle.wire.proofs.puts.put_list.Tie as tie
-use Rattle.wire.proofs.puts.put_list.Reads as reads
-use Rattle.wire.proofs.puts.put_list.Lts as lts
-use Rattle.wire.proofs.put.Reads as put-reads
 
 abbrev Inv-loop : tie.InvT-loop
 Inv-loop out₀ at xs k off₀ i₀ n out off i =

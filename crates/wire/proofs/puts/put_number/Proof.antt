@@ -1,19 +1,15 @@
 -- The loop over the bytes of a number: what is left is put after what was put.
 use native.Mathlib.Omega.{arith}
-use mathlib.Core.Path.{_≡_, refl, sym, _∙_, ap}
+use mathlib.Core.Path.{_≡_, refl, _∙_}
 use denote.Ref.{now}
-use Prim.Native.Nat.{ℕ, _+_, _-_, _%_, _/_, _≤_, _<_}
-use lib.ListN.{length, length-set}
+use Prim.Native.Nat.{_+_, _-_, _≤_, _<_}
+use lib.ListN.{length}
 use lib.Seq.{sets}
 use Rattle.wire.specs.Number.{bytesOf}
 use Rattle.wire.proofs.Turns.{number-next, number-done}
 use borrow.Author.Needs.{needs}
 use Rattle.wire.proofs.puts.put_number.Statement.{statement}
 use Rattle.wire.proofs.puts.put_number.Tie as tie
-use Rattle.wire.proofs.puts.put_number.Reads as reads
-use Rattle.wire.proofs.puts.put_number.Lts as lts
-use Rattle.wire.proofs.puts.low_byte.Reads as low-byte-reads
-use Rattle.wire.proofs.put.Reads as put-reads
 
 abbrev Inv-loop : tie.InvT-loop
 Inv-loop out₀ at x w rest₀ off₀ left₀ out rest off left =

@@ -1,18 +1,13 @@
 -- A number that is absent where it is 0.
 use native.Mathlib.Omega.{arith}
-use mathlib.Core.Path.{_≡_, refl, sym, _∙_, ap}
+use mathlib.Core.Path.{_≡_}
 use borrow.Author.Tests.{eq-eqb, ne-eqb}
-use denote.Ref.{now}
-use Rattle.wire.specs.Puts.{Puts}
 use Rattle.wire.specs.Number.{optionalBytes}
 use Rattle.wire.specs.Laws.Puts.{puts-none}
-use Prim.Native.Nat.{ℕ, _%_, _<_}
+use Prim.Native.Nat.{_%_}
 use borrow.Author.Needs.{needs}
 use Rattle.wire.proofs.puts.put_optional.Statement.{statement}
 use Rattle.wire.proofs.puts.put_optional.Tie as tie
-use Rattle.wire.proofs.puts.put_optional.Reads as reads
-use Rattle.wire.proofs.puts.put_optional.Lts as lts
-use Rattle.wire.proofs.puts.put_byte.Reads as put-byte-reads
 
 returns : tie.Need-returns
 unfolding optionalBytes

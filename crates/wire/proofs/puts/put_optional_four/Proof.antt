@@ -1,18 +1,10 @@
 -- A number that is absent where it is 0.
-use native.Mathlib.Omega.{arith}
-use mathlib.Core.Path.{_≡_, refl, sym, _∙_, ap}
 use borrow.Author.Tests.{eq-eqb, ne-eqb}
-use denote.Ref.{now}
-use Rattle.wire.specs.Puts.{Puts}
 use Rattle.wire.specs.Number.{optionalBytes}
 use Rattle.wire.specs.Laws.Puts.{puts-none}
-use Prim.Native.Nat.{ℕ, _%_, _<_}
 use borrow.Author.Needs.{needs}
 use Rattle.wire.proofs.puts.put_optional_four.Statement.{statement}
 use Rattle.wire.proofs.puts.put_optional_four.Tie as tie
-use Rattle.wire.proofs.puts.put_optional_four.Reads as reads
-use Rattle.wire.proofs.puts.put_optional_four.Lts as lts
-use Rattle.wire.proofs.puts.put_number.Reads as put-number-reads
 
 returns : tie.Need-returns
 unfolding optionalBytes
