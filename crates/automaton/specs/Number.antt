@@ -1,5 +1,5 @@
 -- The verdict on the automaton, worked out: numbers 21 to 26 with their places, each over all states before the next.
-use mathlib.Core.Bool.{Bool, true, false, not}
+use mathlib.Core.Bool.{Bool, true, false, not, cond, _&&_}
 use mathlib.Core.List.{List, [], _∷_}
 use Prim.Native.Nat.{ℕ, zero, suc, _+_, _-_, _*_}
 use lib.Dec.{eqb, leb, ltb}
@@ -17,7 +17,7 @@ use Rattle.plan.specs.Plan.{move, movesOf, isFinal, outcomesOf}
 use Rattle.automaton.specs.declared.Next.{Next}
 use Rattle.automaton.specs.declared.Chosen.{Chosen}
 use Rattle.automaton.specs.declared.Explored.{Explored}
-use Rattle.automaton.specs.Tests.{at, pick, both, all}
+use Rattle.automaton.specs.Tests.{at, all}
 use Rattle.automaton.specs.Rules.{takes, emits}
 use Rattle.automaton.specs.Next.{nextOf, chosenOf}
 
@@ -26,7 +26,7 @@ use Rattle.automaton.specs.Next.{nextOf, chosenOf}
 -- the first of the n states from s on that fails the test; s + n if none does
 unfoldable pub lowest : (ℕ → Bool) → ℕ → ℕ → ℕ
 lowest test s zero = s
-lowest test s (suc n) = pick (test s) (lowest test (s + 1) n) s
+lowest test s (suc n) = cond (test s) (lowest test (s + 1) n) s
 
 abbrev pub isEnded : Next → Bool
 isEnded Next.Ended = true
@@ -35,23 +35,23 @@ isEnded (Next.Waits e) = false
 
 -- 21: a final state has no way out
 unfoldable pub noWayOut : Automaton → ℕ → Bool
-noWayOut a s = pick (isFinal a s) (isEnded (nextOf a s)) true
+noWayOut a s = cond (isFinal a s) (isEnded (nextOf a s)) true
 
 -- two inputs process the same event with different outcomes
 abbrev pub apart : Input → Input → Bool
 apart Input.Nothing n = false
 apart (Input.Outcome e o) Input.Nothing = false
-apart (Input.Outcome e o) (Input.Outcome f q) = both (eqb e f) (not (eqb o q))
+apart (Input.Outcome e o) (Input.Outcome f q) = eqb e f && not (eqb o q)
 
 -- the input m branches from those of all the transitions that leave s
 unfoldable pub apartFrom : Input → List Transition → ℕ → Bool
 apartFrom m [] s = true
-apartFrom m (u ∷ us) s = pick (eqb (u .from) s) (both (apart m (u .input)) (apartFrom m us s)) (apartFrom m us s)
+apartFrom m (u ∷ us) s = cond (eqb (u .from) s) (apart m (u .input) && apartFrom m us s) (apartFrom m us s)
 
 -- any two of the transitions that leave s branch
 unfoldable pub branchesIn : List Transition → ℕ → Bool
 branchesIn [] s = true
-branchesIn (t ∷ ts) s = pick (eqb (t .from) s) (both (apartFrom (t .input) ts s) (branchesIn ts s)) (branchesIn ts s)
+branchesIn (t ∷ ts) s = cond (eqb (t .from) s) (apartFrom (t .input) ts s && branchesIn ts s) (branchesIn ts s)
 
 -- 22: two transitions of a state process the same event with different outcomes
 abbrev pub branches : Automaton → ℕ → Bool
@@ -75,7 +75,7 @@ serves a outcomes s = servesNext a outcomes s (nextOf a s)
 -- y is x after a pass; `left` is how much passes can still change
 unfoldable pub again : {X : Type 0} → (X → X) → (X → ℕ) → ℕ → X → X → X
 again pass left zero x y = y
-again pass left (suc n) x y = pick (eqb (left y) (left x)) y (again pass left n y (pass y))
+again pass left (suc n) x y = cond (eqb (left y) (left x)) y (again pass left n y (pass y))
 
 abbrev pub rounds : {X : Type 0} → (X → X) → (X → ℕ) → ℕ → X → X
 rounds pass left n x = again pass left n x (pass x)
@@ -90,7 +90,7 @@ finalsOf a s (suc n) = isFinal a s ∷ finalsOf a (s + 1) n
 -- a transition into a marked state marks the state that it leaves
 unfoldable pub passBack : List Transition → List Bool → List Bool
 passBack [] D = D
-passBack (t ∷ ts) D = passBack ts (pick (flag D (t .to)) (set D (t .from) true) D)
+passBack (t ∷ ts) D = passBack ts (cond (flag D (t .to)) (set D (t .from) true) D)
 
 -- the states with a path to a final one
 abbrev pub toFinal : Automaton → List Bool
@@ -110,11 +110,11 @@ advanced gives C t (suc n) = set (advanced gives C t n) (16 * t .to + n) (at C (
 
 -- a transition that can be taken from a reached state reaches its other end
 abbrev pub isNew : Transition → Explored → Bool
-isNew t x = both (flag (x .reached) (t .from)) (both (not (flag (x .reached) (t .to))) (isReady (x .counts) (t .from) (t .input)))
+isNew t x = flag (x .reached) (t .from) && (not (flag (x .reached) (t .to)) && isReady (x .counts) (t .from) (t .input))
 
 unfoldable pub passOn : (Output → ℕ → ℕ) → List Transition → Explored → Explored
 passOn gives [] x = x
-passOn gives (t ∷ ts) x = passOn gives ts (pick (isNew t x) (record { reached = set (x .reached) (t .to) true; counts = advanced gives (x .counts) t 16 }) x)
+passOn gives (t ∷ ts) x = passOn gives ts (cond (isNew t x) (record { reached = set (x .reached) (t .to) true; counts = advanced gives (x .counts) t 16 }) x)
 
 -- nothing is pending at the initial state
 abbrev pub outset : Automaton → Explored
@@ -126,25 +126,24 @@ explored a gives = rounds (passOn gives (movesOf a)) (λ x. falses (x .reached))
 -- the transition brings the counts of one state to those of the other
 abbrev pub fits : (Output → ℕ → ℕ) → List ℕ → Transition → ℕ → Bool
 fits gives C t e =
-    both (leb (takes (t .input) e) (at C (16 * t .from + e)))
-    (eqb (at C (16 * t .to + e) + takes (t .input) e) (at C (16 * t .from + e) + gives (t .output) e))
+    leb (takes (t .input) e) (at C (16 * t .from + e)) && eqb (at C (16 * t .to + e) + takes (t .input) e) (at C (16 * t .from + e) + gives (t .output) e)
 
 abbrev pub keepsMove : (Output → ℕ → ℕ) → Explored → Transition → Bool
-keepsMove gives x t = pick (flag (x .reached) (t .from)) (all 16 (fits gives (x .counts) t)) true
+keepsMove gives x t = cond (flag (x .reached) (t .from)) (all 16 (fits gives (x .counts) t)) true
 
 abbrev pub keeps : Automaton → (Output → ℕ → ℕ) → Explored → Bool
 keeps a gives x = all (a .count) (λ i. keepsMove gives x (move a i))
 
 abbrev pub clear : Automaton → Explored → Bool
-clear a x = all (a .states) (λ s. pick (both (flag (x .reached) s) (isFinal a s)) (all 16 (λ e. eqb (at (x .counts) (16 * s + e)) 0)) true)
+clear a x = all (a .states) (λ s. cond (flag (x .reached) s && isFinal a s) (all 16 (λ e. eqb (at (x .counts) (16 * s + e)) 0)) true)
 
 abbrev pub few : Automaton → Explored → Bool
-few a x = all (a .states) (λ s. pick (flag (x .reached) s) (all 16 (λ e. leb (at (x .counts) (16 * s + e)) 8)) true)
+few a x = all (a .states) (λ s. cond (flag (x .reached) s) (all 16 (λ e. leb (at (x .counts) (16 * s + e)) 8)) true)
 
 unfoldable pub judgeCounts : Automaton → (Output → ℕ → ℕ) → Explored → Verdict
 judgeCounts a gives x =
-    pick (both (keeps a gives x) (clear a x))
-    (pick (few a x) Verdict.Accepted (Verdict.Refused Fault.TooManyPending 0))
+    cond (keeps a gives x && clear a x)
+    (cond (few a x) Verdict.Accepted (Verdict.Refused Fault.TooManyPending 0))
     (Verdict.Refused Fault.Unbalanced 0)
 
 -- numbers 25 and 26
@@ -155,7 +154,7 @@ pathVerdict a gives = judgeCounts a gives (explored a gives)
 
 -- the fault at the lowest state that fails the test; otherwise what comes after
 abbrev pub orElse : Automaton → Fault → ℕ → Verdict → Verdict
-orElse a f s after = pick (ltb s (a .states)) (Verdict.Refused f s) after
+orElse a f s after = cond (ltb s (a .states)) (Verdict.Refused f s) after
 
 -- numbers 24 to 26
 unfoldable pub wayVerdict : Automaton → (Output → ℕ → ℕ) → Verdict

@@ -1,6 +1,6 @@
 -- What the proofs of numbers 24 to 26 share: answers, scans of all counts, flags at equal places.
 use mathlib.Core.Path.{_≡_, sym, ap, _∙_, subst}
-use mathlib.Core.Bool.{Bool, true, false}
+use mathlib.Core.Bool.{Bool, true, false, cond}
 use mathlib.Core.List.{List}
 use Prim.Native.Nat.{ℕ, _+_, _*_, _/_, _%_, _≤_, _<_}
 use native.Mathlib.Omega.{arith}
@@ -13,7 +13,7 @@ use Rattle.plan.specs.declared.Automaton.{Automaton}
 use Rattle.plan.specs.declared.Fault.{Fault}
 use Rattle.plan.specs.declared.Verdict.{Verdict}
 use Rattle.plan.specs.Plan.{move, isFinal}
-use Rattle.automaton.specs.Tests.{at, pick}
+use Rattle.automaton.specs.Tests.{at}
 use Rattle.automaton.specs.Rules.{ToFinal}
 use Rattle.automaton.specs.Number.{lowest, toFinal, pathVerdict, wayVerdict}
 use Rattle.automaton.specs.Laws.Lowest.{none-found}
@@ -55,14 +55,14 @@ module _ (a : Automaton) (em : List ℕ) (ok : InRange a) (few : Few em) where
   unfolding wayVerdict
   way-stops s e l =
       ap (Verdict.Refused Fault.NoWayToFinal) e ∙
-      sym (ap (λ (b : Bool). pick b (Verdict.Refused Fault.NoWayToFinal low) (pathVerdict a (gives em))) (lt-ltb low (a .states) (subst (λ (q : ℕ). q < a .states) e l)))
+      sym (ap (λ (b : Bool). cond b (Verdict.Refused Fault.NoWayToFinal low) (pathVerdict a (gives em))) (lt-ltb low (a .states) (subst (λ (q : ℕ). q < a .states) e l)))
 
   pub way-goes : (s : ℕ) → s ≡ low → (s < a .states → ⊥) → (v : Verdict) → Judged a em v → v ≡ wayVerdict a (gives em)
   unfolding wayVerdict
   way-goes s e n v j =
       let ways = none-found a (ToFinal a) (flag (toFinal a)) (tells-24 a ok) (λ l. n (omega arith)) in
       same-on-paths (j ways) (path-verdict a (gives em) ok (gives-small a em few) (gives-bounded a em) ways) ∙
-      sym (ap (λ (b : Bool). pick b (Verdict.Refused Fault.NoWayToFinal low) (pathVerdict a (gives em))) (le-ltb low (a .states) (omega (arith, n))))
+      sym (ap (λ (b : Bool). cond b (Verdict.Refused Fault.NoWayToFinal low) (pathVerdict a (gives em))) (le-ltb low (a .states) (omega (arith, n))))
 
 -- ---- scans of all counts
 

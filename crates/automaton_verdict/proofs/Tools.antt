@@ -1,6 +1,6 @@
 -- Scans of the transitions of a state, and the verdict by the lowest state at fault.
 use mathlib.Core.Path.{_≡_, refl, sym, ap, _∙_, subst}
-use mathlib.Core.Bool.{Bool, true, false}
+use mathlib.Core.Bool.{Bool, true, false, cond, _&&_}
 use mathlib.Core.List.{List, [], _∷_}
 use Prim.Native.Nat.{ℕ, suc, _+_, _<_}
 use native.Mathlib.Omega.{arith}
@@ -14,7 +14,7 @@ use Rattle.plan.specs.declared.Automaton.{Automaton}
 use Rattle.plan.specs.declared.Fault.{Fault}
 use Rattle.plan.specs.declared.Verdict.{Verdict}
 use Rattle.plan.specs.Plan.{pastMove}
-use Rattle.automaton.specs.Tests.{pick, both, all}
+use Rattle.automaton.specs.Tests.{all}
 use Rattle.automaton.specs.declared.Next.{Next}
 use Rattle.automaton.specs.Next.{nextOf}
 use Rattle.automaton.specs.Laws.States.{NextIs, waits, next-is}
@@ -28,7 +28,7 @@ use Rattle.automaton.specs.Laws.Scan.{rest-more, rest-none}
 
 pub record Scans (s : ℕ) (f : List Transition → Bool) (g : Transition → List Transition → Bool) : Type 0 where
   pub end : f [] ≡ true
-  pub step : (t : Transition) (ts : List Transition) → f (t ∷ ts) ≡ pick (eqb (t .from) s) (both (g t ts) (f ts)) (f ts)
+  pub step : (t : Transition) (ts : List Transition) → f (t ∷ ts) ≡ cond (eqb (t .from) s) (g t ts && f ts) (f ts)
 
 pub apart-scans : (m : Input) (s : ℕ) → Scans s (λ ts. apartFrom m ts s) (λ t ts. apart m (t .input))
 unfolding apartFrom
@@ -42,20 +42,18 @@ module _ {s : ℕ} {f : List Transition → Bool} {g : Transition → List Trans
   pub scan-other : j < n → (getD l j pastMove .from ≡ s → ⊥) → f (rest l j n) ≡ f (rest l (j + 1) n)
   scan-other h e =
       ap f (rest-more l j n h) ∙ x .step (getD l j pastMove) (rest l (j + 1) n) ∙
-      ap (λ (b : Bool). pick b (both (g (getD l j pastMove) (rest l (j + 1) n)) (f (rest l (j + 1) n))) (f (rest l (j + 1) n))) (ne-eqb (getD l j pastMove .from) s e)
+      ap (λ (b : Bool). cond b (g (getD l j pastMove) (rest l (j + 1) n) && f (rest l (j + 1) n)) (f (rest l (j + 1) n))) (ne-eqb (getD l j pastMove .from) s e)
 
-  own : j < n → getD l j pastMove .from ≡ s → f (rest l j n) ≡ both (g (getD l j pastMove) (rest l (j + 1) n)) (f (rest l (j + 1) n))
+  own : j < n → getD l j pastMove .from ≡ s → f (rest l j n) ≡ (g (getD l j pastMove) (rest l (j + 1) n) && f (rest l (j + 1) n))
   own h e =
       ap f (rest-more l j n h) ∙ x .step (getD l j pastMove) (rest l (j + 1) n) ∙
-      ap (λ (b : Bool). pick b (both (g (getD l j pastMove) (rest l (j + 1) n)) (f (rest l (j + 1) n))) (f (rest l (j + 1) n))) (eq-eqb (getD l j pastMove .from) s e)
+      ap (λ (b : Bool). cond b (g (getD l j pastMove) (rest l (j + 1) n) && f (rest l (j + 1) n)) (f (rest l (j + 1) n))) (eq-eqb (getD l j pastMove .from) s e)
 
   pub scan-good : j < n → getD l j pastMove .from ≡ s → g (getD l j pastMove) (rest l (j + 1) n) ≡ true → f (rest l j n) ≡ f (rest l (j + 1) n)
-  unfolding both
-  scan-good h e t = own h e ∙ ap (λ (b : Bool). both b (f (rest l (j + 1) n))) t
+  scan-good h e t = own h e ∙ ap (λ (b : Bool). (b && f (rest l (j + 1) n))) t
 
   pub scan-bad : j < n → getD l j pastMove .from ≡ s → g (getD l j pastMove) (rest l (j + 1) n) ≡ false → f (rest l j n) ≡ false
-  unfolding both
-  scan-bad h e t = own h e ∙ ap (λ (b : Bool). both b (f (rest l (j + 1) n))) t
+  scan-bad h e t = own h e ∙ ap (λ (b : Bool). (b && f (rest l (j + 1) n))) t
 
   pub scan-done : (j < n → ⊥) → f (rest l j n) ≡ true
   scan-done h = ap f (rest-none l j n h) ∙ x .end
@@ -63,8 +61,8 @@ module _ {s : ℕ} {f : List Transition → Bool} {g : Transition → List Trans
 -- ---- all of n
 
 pub all-more : (f : ℕ → Bool) (q : ℕ) → all q f ≡ true → f q ≡ true → all (q + 1) f ≡ true
-unfolding all both
-all-more f q a b = let z : q + 1 ≡ suc q = omega arith in ap (λ (n : ℕ). all n f) z ∙ ap (λ (c : Bool). both c (f q)) a ∙ b
+unfolding all
+all-more f q a b = let z : q + 1 ≡ suc q = omega arith in ap (λ (n : ℕ). all n f) z ∙ ap (λ (c : Bool). (c && f q)) a ∙ b
 
 pub all-stops : (f : ℕ → Bool) (q n : ℕ) → q < n → f q ≡ false → all n f ≡ false
 all-stops f q n l e = go (all n f) refl
@@ -86,11 +84,11 @@ awaited-low a ok s e h = go (subst (NextIs a s) h (next-is a s))
 module _ (a : Automaton) (f : Fault) (low x : ℕ) (same : x ≡ low) (after : Verdict) where
   pub or-stops : x < a .states → orElse a f low after ≡ Verdict.Refused f x
   or-stops l =
-      ap (λ (b : Bool). pick b (Verdict.Refused f low) after) (lt-ltb low (a .states) (subst (λ (q : ℕ). q < a .states) same l)) ∙
+      ap (λ (b : Bool). cond b (Verdict.Refused f low) after) (lt-ltb low (a .states) (subst (λ (q : ℕ). q < a .states) same l)) ∙
       ap (Verdict.Refused f) (sym same)
 
   pub or-goes : (x < a .states → ⊥) → orElse a f low after ≡ after
-  or-goes n = ap (λ (b : Bool). pick b (Verdict.Refused f low) after) (le-ltb low (a .states) (omega (arith, n)))
+  or-goes n = ap (λ (b : Bool). cond b (Verdict.Refused f low) after) (le-ltb low (a .states) (omega (arith, n)))
 
 -- numbers 21 to 23, by the three lowest states at fault
 module _ (a : Automaton) (outcomes : ℕ → ℕ) (after : Verdict) (x : ℕ) (same : x ≡ lowest (noWayOut a) 0 (a .states)) where
@@ -120,7 +118,7 @@ andThen (Verdict.Refused f s) after = Verdict.Refused f s
 or-then : (a : Automaton) (f : Fault) (s : ℕ) (v after : Verdict) → orElse a f s (andThen v after) ≡ andThen (orElse a f s v) after
 or-then a f s v after = go (ltb s (a .states))
   where
-    go : (b : Bool) → pick b (Verdict.Refused f s) (andThen v after) ≡ andThen (pick b (Verdict.Refused f s) v) after
+    go : (b : Bool) → cond b (Verdict.Refused f s) (andThen v after) ≡ andThen (cond b (Verdict.Refused f s) v) after
     go true = refl
     go false = refl
 

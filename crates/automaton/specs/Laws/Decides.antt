@@ -1,6 +1,6 @@
 -- The verdict that specs/Number.antt computes is the one that the rules give, for every plan within the limits; and the rules give no other.
 use mathlib.Core.Path.{_≡_, refl, ap, _∙_, subst}
-use mathlib.Core.Bool.{Bool, true, false}
+use mathlib.Core.Bool.{Bool, true, false, cond}
 use Prim.Native.Nat.{ℕ, _+_, _<_}
 use native.Mathlib.Omega.{arith}
 use native.Mathlib.Decide.{decLt}
@@ -15,7 +15,6 @@ use Rattle.plan.specs.declared.Fault.{Fault}
 use Rattle.plan.specs.declared.Verdict.{Verdict}
 use Rattle.plan.specs.Plan.{outcomesOf, move}
 use Rattle.plan.specs.Limits.{InLimits}
-use Rattle.automaton.specs.Tests.{pick}
 use Rattle.automaton.specs.Rules.{Rule21, Rule22, Rule23, Rule24, NoWayOut, Branches, Serves, ToFinal, EveryState, EmittedFirst, NoneLeft, AtMostEight, processed, emitted, emits, MeetsAutomaton, LowestAtFault, Breaks25, unemitted, leftover, Breaks26, Judges, number21, number22, number23, number24, number25, number26, accepted}
 use Rattle.automaton.specs.Number.{lowest, noWayOut, branches, serves, toFinal, pathVerdict, orElse, wayVerdict, stateVerdict, automatonVerdict}
 use Rattle.automaton.specs.Laws.Bounds.{in-range, emits-bounded, emits-small}
@@ -37,7 +36,7 @@ module _ (a : Automaton) (P : ℕ → Type 0) (test : ℕ → Bool) (t : (q : �
   stage : (Q : Verdict → Type 0) → ((s : ℕ) → LowestAtFault a P s → Q (Verdict.Refused f s)) → (EveryState a P → Q after) → Q here
   stage Q found passed = go (ltb (lowest test 0 (a .states)) (a .states)) refl
     where
-      go : (b : Bool) → ltb (lowest test 0 (a .states)) (a .states) ≡ b → Q (pick b (Verdict.Refused f (lowest test 0 (a .states))) after)
+      go : (b : Bool) → ltb (lowest test 0 (a .states)) (a .states) ≡ b → Q (cond b (Verdict.Refused f (lowest test 0 (a .states))) after)
       go true e = found (lowest test 0 (a .states)) (fault-found a P test t (ltb-true (lowest test 0 (a .states)) (a .states) e))
       go false e = passed (none-found a P test t (λ l. omega (arith, ltb-false (lowest test 0 (a .states)) (a .states) e)))
 
@@ -47,14 +46,14 @@ module _ (a : Automaton) (P : ℕ → Type 0) (test : ℕ → Bool) (t : (q : �
       same : lowest test 0 (a .states) ≡ s
       same = fault-there a P test t s x
 
-      go : (b : Bool) → ltb (lowest test 0 (a .states)) (a .states) ≡ b → pick b (Verdict.Refused f (lowest test 0 (a .states))) after ≡ Verdict.Refused f s
+      go : (b : Bool) → ltb (lowest test 0 (a .states)) (a .states) ≡ b → cond b (Verdict.Refused f (lowest test 0 (a .states))) after ≡ Verdict.Refused f s
       go true e = ap (Verdict.Refused f) same
       go false e = absurd (omega (arith, same, x .low, ltb-false (lowest test 0 (a .states)) (a .states) e))
 
   passes : EveryState a P → here ≡ after
   passes h = go (ltb (lowest test 0 (a .states)) (a .states)) refl
     where
-      go : (b : Bool) → ltb (lowest test 0 (a .states)) (a .states) ≡ b → pick b (Verdict.Refused f (lowest test 0 (a .states))) after ≡ after
+      go : (b : Bool) → ltb (lowest test 0 (a .states)) (a .states) ≡ b → cond b (Verdict.Refused f (lowest test 0 (a .states))) after ≡ after
       go true e = absurd (none-there a P test t h (ltb-true (lowest test 0 (a .states)) (a .states) e))
       go false e = refl
 
@@ -73,7 +72,7 @@ way-same a f g ok sf bf sg bg same = go (ltb low (a .states)) refl
     low = lowest (flag (toFinal a)) 0 (a .states)
 
     go : (b : Bool) → ltb low (a .states) ≡ b
-        → pick b (Verdict.Refused Fault.NoWayToFinal low) (pathVerdict a f) ≡ pick b (Verdict.Refused Fault.NoWayToFinal low) (pathVerdict a g)
+        → cond b (Verdict.Refused Fault.NoWayToFinal low) (pathVerdict a f) ≡ cond b (Verdict.Refused Fault.NoWayToFinal low) (pathVerdict a g)
     go true e = refl
     go false e =
         let ways = none-found a (ToFinal a) (flag (toFinal a)) (tells-24 a ok) (λ l. omega (arith, ltb-false low (a .states) e)) in

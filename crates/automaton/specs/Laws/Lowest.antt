@@ -1,13 +1,12 @@
 -- The lowest state that fails a test: what it is, and a scan for it, one state on.
 use mathlib.Core.Path.{_≡_, refl, ap, _∙_}
-use mathlib.Core.Bool.{Bool, true, false}
+use mathlib.Core.Bool.{Bool, true, false, cond}
 use Prim.Native.Nat.{ℕ, zero, suc, _+_, _-_, _≤_, _<_}
 use native.Mathlib.Omega.{arith}
 use native.Mathlib.Decide.{ℕ-discrete, decLt}
 use Rattle.basis.specs.Inner.Tells.{Tells}
 use Rattle.basis.specs.Laws.Tells.{told-true, told-false}
 use Rattle.plan.specs.declared.Automaton.{Automaton}
-use Rattle.automaton.specs.Tests.{pick}
 use Rattle.automaton.specs.Rules.{EveryState, LowestAtFault}
 use Rattle.automaton.specs.Number.{lowest}
 
@@ -22,7 +21,7 @@ unfolding lowest
 lowest-is test s zero = record { low = omega arith; high = omega arith; below = λ q l m. absurd (omega arith); here = λ l. absurd (omega arith) }
 lowest-is test s (suc n) = go (test s) refl (lowest-is test (s + 1) n)
   where
-    go : (b : Bool) → test s ≡ b → LowestIs test (s + 1) n (lowest test (s + 1) n) → LowestIs test s (suc n) (pick b (lowest test (s + 1) n) s)
+    go : (b : Bool) → test s ≡ b → LowestIs test (s + 1) n (lowest test (s + 1) n) → LowestIs test s (suc n) (cond b (lowest test (s + 1) n) s)
     go true e x = record {
       low = omega (arith, x .low);
       high = omega (arith, x .high);
@@ -61,15 +60,15 @@ module _ (test : ℕ → Bool) (s n : ℕ) where
   pub scan-starts : lowest test 0 n ≡ lowest test 0 (n - 0)
   scan-starts = let z : n ≡ n - 0 = omega arith in ap (lowest test 0) z
 
-  on : s < n → lowest test s (n - s) ≡ pick (test s) (lowest test (s + 1) (n - (s + 1))) s
+  on : s < n → lowest test s (n - s) ≡ cond (test s) (lowest test (s + 1) (n - (s + 1))) s
   unfolding lowest
   on l = let z : n - s ≡ suc (n - (s + 1)) = omega arith in ap (lowest test s) z
 
   pub scan-passes : s < n → test s ≡ true → lowest test s (n - s) ≡ lowest test (s + 1) (n - (s + 1))
-  scan-passes l t = on l ∙ ap (λ (b : Bool). pick b (lowest test (s + 1) (n - (s + 1))) s) t
+  scan-passes l t = on l ∙ ap (λ (b : Bool). cond b (lowest test (s + 1) (n - (s + 1))) s) t
 
   pub scan-stops : s < n → test s ≡ false → lowest test s (n - s) ≡ s
-  scan-stops l t = on l ∙ ap (λ (b : Bool). pick b (lowest test (s + 1) (n - (s + 1))) s) t
+  scan-stops l t = on l ∙ ap (λ (b : Bool). cond b (lowest test (s + 1) (n - (s + 1))) s) t
 
   pub scan-ends : (s < n → ⊥) → lowest test s (n - s) ≡ s
   unfolding lowest

@@ -1,14 +1,14 @@
 -- The counts that the passes end with decide numbers 25 and 26 for all paths from the initial state.
 use mathlib.Core.Path.{_≡_, refl, sym}
-use mathlib.Core.Bool.{Bool, true, false}
+use mathlib.Core.Bool.{Bool, true, false, cond, _&&_}
 use mathlib.Core.List.{List}
 use Prim.Native.Nat.{ℕ, _+_, _*_, _≤_, _<_}
 use native.Mathlib.Omega.{arith}
 use lib.Dec.{eqb, leb}
 use Rattle.basis.specs.Tests.{flag}
 use Rattle.basis.specs.Inner.Tells.{Tells}
-use Rattle.basis.specs.Laws.Tells.{told-true, told-false, tells, tells-eqb, tells-leb}
-use Rattle.basis.specs.Laws.Bools.{clash as true-false}
+use Rattle.basis.specs.Laws.Tells.{told-true, told-false, tells, tells-eqb, tells-leb, tells-and}
+use Rattle.basis.specs.Laws.Bools.{clash as true-false, and-left, and-right}
 use Rattle.plan.specs.declared.Output.{Output}
 use Rattle.plan.specs.declared.Transition.{Transition}
 use Rattle.plan.specs.declared.Automaton.{Automaton}
@@ -16,12 +16,12 @@ use Rattle.plan.specs.declared.Fault.{Fault}
 use Rattle.plan.specs.declared.Verdict.{Verdict}
 use Rattle.plan.specs.Plan.{move, isFinal}
 use Rattle.automaton.specs.declared.Explored.{Explored}
-use Rattle.automaton.specs.Tests.{at, pick, both, all}
+use Rattle.automaton.specs.Tests.{at, all}
 use Rattle.automaton.specs.Rules.{Path, none, more, ToFinal, EveryState, takes, emitted, Breaks25, unemitted, leftover, Breaks26}
 use Rattle.automaton.specs.Number.{explored, fits, keepsMove, keeps, clear, few, judgeCounts, pathVerdict}
 use Rattle.automaton.specs.Laws.Works.{Small, explored-known}
 use Rattle.automaton.specs.Inner.OnPaths.{OnPaths, broken25, broken26, neither}
-use Rattle.automaton.specs.Laws.Tests.{both-tells, both-left, both-right, all-true, all-false}
+use Rattle.automaton.specs.Laws.Tests.{all-true, all-false}
 use Rattle.automaton.specs.Inner.Counts.{InRange, Known, Keeps, Kept, Clash, Left, Crowd}
 use Rattle.automaton.specs.Laws.Counts.{Bounded, not-25, crowd-of, crowd-26, left-25, clash-25}
 
@@ -49,23 +49,22 @@ module _ (a : Automaton) (gives : Output → ℕ → ℕ) (ok : InRange a) where
       same : Bool
       same = eqb (at C (16 * t .to + e) + takes (t .input) e) (at C (16 * t .from + e) + gives (t .output) e)
 
-      test : Tells (both enough same) ((takes (t .input) e ≤ at C (16 * t .from + e)) × (at C (16 * t .to + e) + takes (t .input) e ≡ at C (16 * t .from + e) + gives (t .output) e))
+      test : Tells (enough && same) ((takes (t .input) e ≤ at C (16 * t .from + e)) × (at C (16 * t .to + e) + takes (t .input) e ≡ at C (16 * t .from + e) + gives (t .output) e))
       test =
-          both-tells enough same (takes (t .input) e ≤ at C (16 * t .from + e)) (at C (16 * t .to + e) + takes (t .input) e ≡ at C (16 * t .from + e) + gives (t .output) e)
+          tells-and
           (tells-leb (takes (t .input) e) (at C (16 * t .from + e)))
           (tells-eqb (at C (16 * t .to + e) + takes (t .input) e) (at C (16 * t .from + e) + gives (t .output) e))
 
   -- a test that is made only where a flag stands
-  only-if : (b c : Bool) → pick b c true ≡ true → b ≡ true → c ≡ true
+  only-if : (b c : Bool) → cond b c true ≡ true → b ≡ true → c ≡ true
   only-if true c h z = h
   only-if false c h z = absurd (true-false (sym z))
 
-  only-fails : (b c : Bool) → pick b c true ≡ false → (b ≡ true) × (c ≡ false)
+  only-fails : (b c : Bool) → cond b c true ≡ false → (b ≡ true) × (c ≡ false)
   only-fails true c h = (refl, h)
   only-fails false c h = absurd (true-false h)
 
-  both-yes : (b c : Bool) → b ≡ true → c ≡ true → both b c ≡ true
-  unfolding both
+  both-yes : (b c : Bool) → b ≡ true → c ≡ true → (b && c) ≡ true
   both-yes true c e f = f
   both-yes false c e f = e
 
@@ -83,7 +82,7 @@ module _ (a : Automaton) (gives : Output → ℕ → ℕ) (ok : InRange a) where
         record { index = i .0; event = e .0; low = i .1; named = e .1; reached = c .0; clash = told-false (tells-fits (x .counts) (move a (i .0)) (e .0)) (e .2) }
 
     clearAt : ℕ → Bool
-    clearAt s = pick (both (flag (x .reached) s) (isFinal a s)) (all 16 (λ e. eqb (at (x .counts) (16 * s + e)) 0)) true
+    clearAt s = cond (flag (x .reached) s && isFinal a s) (all 16 (λ e. eqb (at (x .counts) (16 * s + e)) 0)) true
 
     none-left : clear a x ≡ true → Left a (x .reached) (x .counts) → ⊥
     unfolding clearAt
@@ -97,13 +96,13 @@ module _ (a : Automaton) (gives : Output → ℕ → ℕ) (ok : InRange a) where
     unfolding clearAt
     one-left h =
         let s = all-false (a .states) clearAt h in
-        let c = only-fails (both (flag (x .reached) (s .0)) (isFinal a (s .0))) _ (s .2) in
+        let c = only-fails (flag (x .reached) (s .0) && isFinal a (s .0)) _ (s .2) in
         let e = all-false 16 (λ e. eqb (at (x .counts) (16 * s .0 + e)) 0) (c .1) in
         let z = told-false (tells-eqb (at (x .counts) (16 * s .0 + e .0)) 0) (e .2) in
-        record { state = s .0; low = omega (arith, s .1, ok .states); event = e .0; named = e .1; reached = both-left _ _ (c .0); final = both-right _ _ (c .0); some = omega (arith, z) }
+        record { state = s .0; low = omega (arith, s .1, ok .states); event = e .0; named = e .1; reached = and-left (flag (x .reached) (s .0)) (isFinal a (s .0)) (c .0); final = and-right (flag (x .reached) (s .0)) (isFinal a (s .0)) (c .0); some = omega (arith, z) }
 
     fewAt : ℕ → Bool
-    fewAt s = pick (flag (x .reached) s) (all 16 (λ e. leb (at (x .counts) (16 * s + e)) 8)) true
+    fewAt s = cond (flag (x .reached) s) (all 16 (λ e. leb (at (x .counts) (16 * s + e)) 8)) true
 
     none-crowded : few a x ≡ true → Crowd (x .reached) (x .counts) → ⊥
     unfolding fewAt
@@ -123,11 +122,11 @@ module _ (a : Automaton) (gives : Output → ℕ → ℕ) (ok : InRange a) where
 
     -- the counts decide 25 and 26 for all paths
     judge-counts : Bounded a gives → EveryState a (ToFinal a) → OnPaths a gives (judgeCounts a gives x)
-    unfolding judgeCounts both
+    unfolding judgeCounts
     judge-counts bound ways = go (keeps a gives x) refl (clear a x) refl (few a x) refl
       where
         go : (u : Bool) → keeps a gives x ≡ u → (v : Bool) → clear a x ≡ v → (w : Bool) → few a x ≡ w
-            → OnPaths a gives (pick (both u v) (pick w Verdict.Accepted (Verdict.Refused Fault.TooManyPending 0)) (Verdict.Refused Fault.Unbalanced 0))
+            → OnPaths a gives (cond (u && v) (cond w Verdict.Accepted (Verdict.Refused Fault.TooManyPending 0)) (Verdict.Refused Fault.Unbalanced 0))
         go false e v f w g = broken25 (clash-25 a gives (x .reached) (x .counts) ok known ways (one-clash e))
         go true e false f w g = broken25 (left-25 a gives (x .reached) (x .counts) ok known (one-left f))
         go true e true f false g =

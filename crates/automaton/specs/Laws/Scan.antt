@@ -1,6 +1,6 @@
 -- A scan of the transitions in file order, one transition on.
 use mathlib.Core.Path.{_≡_, ap, _∙_}
-use mathlib.Core.Bool.{Bool, true, false}
+use mathlib.Core.Bool.{Bool, true, false, cond, _&&_}
 use mathlib.Core.List.{List, [], _∷_}
 use Prim.Native.Nat.{ℕ, suc, _+_, _-_, _<_}
 use native.Mathlib.Omega.{arith}
@@ -11,7 +11,6 @@ use Rattle.plan.specs.declared.Transition.{Transition}
 use Rattle.plan.specs.Plan.{pastMove}
 use Rattle.automaton.specs.declared.Next.{Next}
 use Rattle.automaton.specs.declared.Chosen.{Chosen}
-use Rattle.automaton.specs.Tests.{pick, both}
 use Rattle.automaton.specs.Next.{onInput, nextFrom, carries, chosenFrom}
 use Rattle.automaton.specs.Inner.Scan.{rest}
 
@@ -29,13 +28,13 @@ module _ (l : List Transition) (s i n : ℕ) where
   unfolding nextFrom
   next-here h e =
       ap (λ (ts : List Transition). nextFrom ts s i) (rest-more l i n h) ∙
-      ap (λ (b : Bool). pick b (onInput (getD l i pastMove .input) i) (nextFrom (rest l (i + 1) n) s (i + 1))) (eq-eqb (getD l i pastMove .from) s e)
+      ap (λ (b : Bool). cond b (onInput (getD l i pastMove .input) i) (nextFrom (rest l (i + 1) n) s (i + 1))) (eq-eqb (getD l i pastMove .from) s e)
 
   pub next-past : i < n → (getD l i pastMove .from ≡ s → ⊥) → nextFrom (rest l i n) s i ≡ nextFrom (rest l (i + 1) n) s (i + 1)
   unfolding nextFrom
   next-past h e =
       ap (λ (ts : List Transition). nextFrom ts s i) (rest-more l i n h) ∙
-      ap (λ (b : Bool). pick b (onInput (getD l i pastMove .input) i) (nextFrom (rest l (i + 1) n) s (i + 1))) (ne-eqb (getD l i pastMove .from) s e)
+      ap (λ (b : Bool). cond b (onInput (getD l i pastMove .input) i) (nextFrom (rest l (i + 1) n) s (i + 1))) (ne-eqb (getD l i pastMove .from) s e)
 
   pub next-none : (i < n → ⊥) → nextFrom (rest l i n) s i ≡ Next.Ended
   unfolding nextFrom
@@ -43,24 +42,24 @@ module _ (l : List Transition) (s i n : ℕ) where
 
   module _ (e o : ℕ) where
     pub chosen-here : i < n → getD l i pastMove .from ≡ s → carries (getD l i pastMove .input) e o ≡ true → chosenFrom (rest l i n) s e o i ≡ Chosen.Move i
-    unfolding chosenFrom both
+    unfolding chosenFrom
     chosen-here h f c =
         ap (λ (ts : List Transition). chosenFrom ts s e o i) (rest-more l i n h) ∙
-        ap (λ (b : Bool). pick (both b (carries (getD l i pastMove .input) e o)) (Chosen.Move i) (chosenFrom (rest l (i + 1) n) s e o (i + 1))) (eq-eqb (getD l i pastMove .from) s f) ∙
-        ap (λ (b : Bool). pick b (Chosen.Move i) (chosenFrom (rest l (i + 1) n) s e o (i + 1))) c
+        ap (λ (b : Bool). cond (b && carries (getD l i pastMove .input) e o) (Chosen.Move i) (chosenFrom (rest l (i + 1) n) s e o (i + 1))) (eq-eqb (getD l i pastMove .from) s f) ∙
+        ap (λ (b : Bool). cond b (Chosen.Move i) (chosenFrom (rest l (i + 1) n) s e o (i + 1))) c
 
     pub chosen-other : i < n → (getD l i pastMove .from ≡ s → ⊥) → chosenFrom (rest l i n) s e o i ≡ chosenFrom (rest l (i + 1) n) s e o (i + 1)
-    unfolding chosenFrom both
+    unfolding chosenFrom
     chosen-other h f =
         ap (λ (ts : List Transition). chosenFrom ts s e o i) (rest-more l i n h) ∙
-        ap (λ (b : Bool). pick (both b (carries (getD l i pastMove .input) e o)) (Chosen.Move i) (chosenFrom (rest l (i + 1) n) s e o (i + 1))) (ne-eqb (getD l i pastMove .from) s f)
+        ap (λ (b : Bool). cond (b && carries (getD l i pastMove .input) e o) (Chosen.Move i) (chosenFrom (rest l (i + 1) n) s e o (i + 1))) (ne-eqb (getD l i pastMove .from) s f)
 
     pub chosen-past : i < n → getD l i pastMove .from ≡ s → carries (getD l i pastMove .input) e o ≡ false → chosenFrom (rest l i n) s e o i ≡ chosenFrom (rest l (i + 1) n) s e o (i + 1)
-    unfolding chosenFrom both
+    unfolding chosenFrom
     chosen-past h f c =
         ap (λ (ts : List Transition). chosenFrom ts s e o i) (rest-more l i n h) ∙
-        ap (λ (b : Bool). pick (both b (carries (getD l i pastMove .input) e o)) (Chosen.Move i) (chosenFrom (rest l (i + 1) n) s e o (i + 1))) (eq-eqb (getD l i pastMove .from) s f) ∙
-        ap (λ (b : Bool). pick b (Chosen.Move i) (chosenFrom (rest l (i + 1) n) s e o (i + 1))) c
+        ap (λ (b : Bool). cond (b && carries (getD l i pastMove .input) e o) (Chosen.Move i) (chosenFrom (rest l (i + 1) n) s e o (i + 1))) (eq-eqb (getD l i pastMove .from) s f) ∙
+        ap (λ (b : Bool). cond b (Chosen.Move i) (chosenFrom (rest l (i + 1) n) s e o (i + 1))) c
 
     pub chosen-none : (i < n → ⊥) → chosenFrom (rest l i n) s e o i ≡ Chosen.Nothing
     unfolding chosenFrom

@@ -1,26 +1,26 @@
 -- The tests of one state tell what the rules say: numbers 21, 22 and 23, and what a state does next.
 use mathlib.Core.Path.{_≡_, refl, sym, ap, _∙_, subst}
-use mathlib.Core.Bool.{Bool, true, false, not}
+use mathlib.Core.Bool.{Bool, true, false, not, cond, _&&_}
 use Prim.Native.Nat.{ℕ, zero, suc, _+_, _≤_, _<_}
 use native.Mathlib.Omega.{arith}
 use native.Mathlib.Decide.{ℕ-discrete, decLt}
 use borrow.Author.Tests.{eqb-true, eqb-false}
 use lib.Dec.{eqb}
 use Rattle.basis.specs.Parts.{part}
-use Rattle.basis.specs.Laws.Tells.{tells-not, told-true, told-false, tells, tells-eqb}
+use Rattle.basis.specs.Laws.Tells.{tells-not, told-true, told-false, tells, tells-eqb, tells-and}
 use Rattle.basis.specs.Inner.Tells.{Tells, holds, fails}
-use Rattle.basis.specs.Laws.Bools.{clash}
+use Rattle.basis.specs.Laws.Bools.{clash, and-left, and-right}
 use Rattle.plan.specs.declared.Input.{Input}
 use Rattle.plan.specs.declared.Automaton.{Automaton}
 use Rattle.plan.specs.Plan.{pastMove, move, isFinal}
 use Rattle.automaton.specs.declared.Next.{Next}
 use Rattle.automaton.specs.declared.Chosen.{Chosen}
-use Rattle.automaton.specs.Tests.{pick, both, all}
+use Rattle.automaton.specs.Tests.{all}
 use Rattle.automaton.specs.Rules.{Leaves, Processes, NoWayOut, Branch, Branches, Serves}
 use Rattle.automaton.specs.Next.{onInput, nextFrom, nextOf, carries, chosenFrom, chosenOf}
 use Rattle.automaton.specs.Number.{isEnded, noWayOut, apart, apartFrom, branchesIn, branches, isMove, servesNext, serves}
 use Rattle.automaton.specs.Laws.Cases.{unlike, same-event, same-outcome}
-use Rattle.automaton.specs.Laws.Tests.{both-tells, both-left, both-right, all-tells}
+use Rattle.automaton.specs.Laws.Tests.{all-tells}
 
 -- ---- what a state does next
 
@@ -47,7 +47,7 @@ module _ (a : Automaton) (s : ℕ) where
       rest : Next
       rest = nextFrom (part pastMove (a .moves) (i + 1) k) s (i + 1)
 
-      go : (b : Bool) → eqb (move a i .from) s ≡ b → ((move a i .from ≡ s → ⊥) → NextIs a s rest) → NextIs a s (pick b (onInput (move a i .input) i) rest)
+      go : (b : Bool) → eqb (move a i .from) s ≡ b → ((move a i .from ≡ s → ⊥) → NextIs a s rest) → NextIs a s (cond b (onInput (move a i .input) i) rest)
       go true e rec = on-input i (move a i .input) (record { low = omega arith; from = eqb-true (move a i .from) s e }) refl
       go false e rec = rec (eqb-false (move a i .from) s e)
 
@@ -63,22 +63,22 @@ pub data ChosenIs (a : Automaton) (s e o : ℕ) : Chosen → Type 0 where
 pub tells-carries : (n : Input) (e o : ℕ) → Tells (carries n e o) (n ≡ Input.Outcome e o)
 tells-carries Input.Nothing e o = fails unlike
 tells-carries (Input.Outcome f q) e o =
-    tells (both (eqb f e) (eqb q o))
-    (λ h. let x = eqb-true f e (both-left (eqb f e) (eqb q o) h) in let y = eqb-true q o (both-right (eqb f e) (eqb q o) h) in cc)
-    (λ h k. told-false (both-tells (eqb f e) (eqb q o) (f ≡ e) (q ≡ o) (tells-eqb f e) (tells-eqb q o)) h (same-event k, same-outcome k))
+    tells (eqb f e && eqb q o)
+    (λ h. let x = eqb-true f e (and-left (eqb f e) (eqb q o) h) in let y = eqb-true q o (and-right (eqb f e) (eqb q o) h) in cc)
+    (λ h k. told-false (tells-and (tells-eqb f e) (tells-eqb q o)) h (same-event k, same-outcome k))
 
 module _ (a : Automaton) (s e o : ℕ) where
   chosen-from : (k i : ℕ) → i + k ≡ a .count → ((j : ℕ) → j < i → Leaves a s j → move a j .input ≡ Input.Outcome e o → ⊥)
       → ChosenIs a s e o (chosenFrom (part pastMove (a .moves) i k) s e o i)
   unfolding chosenFrom
   chosen-from zero i h old = nothing (λ x. old (x .index) (omega (arith, x .leaves .low)) (x .leaves) (x .input))
-  chosen-from (suc k) i h old = go (both (eqb (move a i .from) s) (carries (move a i .input) e o)) refl (λ ne. chosen-from k (i + 1) (omega arith) (further ne))
+  chosen-from (suc k) i h old = go (eqb (move a i .from) s && carries (move a i .input) e o) refl (λ ne. chosen-from k (i + 1) (omega arith) (further ne))
     where
       rest : Chosen
       rest = chosenFrom (part pastMove (a .moves) (i + 1) k) s e o (i + 1)
 
-      test : Tells (both (eqb (move a i .from) s) (carries (move a i .input) e o)) ((move a i .from ≡ s) × (move a i .input ≡ Input.Outcome e o))
-      test = both-tells (eqb (move a i .from) s) (carries (move a i .input) e o) (move a i .from ≡ s) (move a i .input ≡ Input.Outcome e o) (tells-eqb (move a i .from) s) (tells-carries (move a i .input) e o)
+      test : Tells (eqb (move a i .from) s && carries (move a i .input) e o) ((move a i .from ≡ s) × (move a i .input ≡ Input.Outcome e o))
+      test = tells-and (tells-eqb (move a i .from) s) (tells-carries (move a i .input) e o)
 
       further : ((move a i .from ≡ s) × (move a i .input ≡ Input.Outcome e o) → ⊥) → (j : ℕ) → j < i + 1 → Leaves a s j → move a j .input ≡ Input.Outcome e o → ⊥
       further ne j l x y = elim (ℕ-discrete j i) [
@@ -86,8 +86,8 @@ module _ (a : Automaton) (s e o : ℕ) where
         | no z ↦ old j (omega (arith, z)) x y
       ]
 
-      go : (b : Bool) → both (eqb (move a i .from) s) (carries (move a i .input) e o) ≡ b
-          → (((move a i .from ≡ s) × (move a i .input ≡ Input.Outcome e o) → ⊥) → ChosenIs a s e o rest) → ChosenIs a s e o (pick b (Chosen.Move i) rest)
+      go : (b : Bool) → (eqb (move a i .from) s && carries (move a i .input) e o) ≡ b
+          → (((move a i .from ≡ s) × (move a i .input ≡ Input.Outcome e o) → ⊥) → ChosenIs a s e o rest) → ChosenIs a s e o (cond b (Chosen.Move i) rest)
       go true y rec = let x = told-true test y in moves {i = i} (record { low = omega (arith, h); from = x .0 }) (x .1)
       go false y rec = rec (told-false test y)
 
@@ -107,7 +107,7 @@ pub tells-21 : (a : Automaton) (s : ℕ) → Tells (noWayOut a s) (NoWayOut a s)
 unfolding noWayOut
 tells-21 a s = go (isFinal a s) refl (nextOf a s) (next-is a s)
   where
-    go : (b : Bool) → isFinal a s ≡ b → (n : Next) → NextIs a s n → Tells (pick b (isEnded n) true) (NoWayOut a s)
+    go : (b : Bool) → isFinal a s ≡ b → (n : Next) → NextIs a s n → Tells (cond b (isEnded n) true) (NoWayOut a s)
     go true f Next.Ended (ended h) = holds (λ z. h)
     go true f (Next.Goes i) (goes l h) = fails (λ z. z f i l)
     go true f (Next.Waits e) (waits o x) = fails (λ z. z f (x .index) (x .leaves))
@@ -119,12 +119,12 @@ pub tells-apart : (m n : Input) → Tells (apart m n) (Branch m n)
 tells-apart Input.Nothing n = fails (λ b. unlike (b .first))
 tells-apart (Input.Outcome e o) Input.Nothing = fails (λ b. unlike (b .second))
 tells-apart (Input.Outcome e o) (Input.Outcome f q) =
-    tells (both (eqb e f) (not (eqb o q)))
+    tells (eqb e f && not (eqb o q))
     (λ h. let x = told-true test h in record { event = e; one = o; other = q; first = refl; second = ap (λ (g : ℕ). Input.Outcome g q) (sym (x .0)); differ = x .1 })
     (λ h b. told-false test h (same-event (b .first) ∙ sym (same-event (b .second)), λ z. b .differ (sym (same-outcome (b .first)) ∙ z ∙ same-outcome (b .second))))
   where
-    test : Tells (both (eqb e f) (not (eqb o q))) ((e ≡ f) × (o ≡ q → ⊥))
-    test = both-tells (eqb e f) (not (eqb o q)) (e ≡ f) (o ≡ q → ⊥) (tells-eqb e f) (tells-not (tells-eqb o q))
+    test : Tells (eqb e f && not (eqb o q)) ((e ≡ f) × (o ≡ q → ⊥))
+    test = tells-and (tells-eqb e f) (tells-not (tells-eqb o q))
 
 swapped : {m n : Input} → Branch m n → Branch n m
 swapped b = record { event = b .event; one = b .other; other = b .one; first = b .second; second = b .first; differ = λ z. b .differ (sym z) }
@@ -145,10 +145,10 @@ module _ (a : Automaton) (s : ℕ) where
       rest : Bool
       rest = apartFrom m (part pastMove (a .moves) (i + 1) k) s
 
-      go : (b : Bool) → eqb (move a i .from) s ≡ b → Tells rest (ApartFrom m (i + 1)) → Tells (pick b (both (apart m (move a i .input)) rest) rest) (ApartFrom m i)
+      go : (b : Bool) → eqb (move a i .from) s ≡ b → Tells rest (ApartFrom m (i + 1)) → Tells (cond b (apart m (move a i .input) && rest) rest) (ApartFrom m i)
       go true e t =
-          let test = both-tells (apart m (move a i .input)) rest (Branch m (move a i .input)) (ApartFrom m (i + 1)) (tells-apart m (move a i .input)) t in
-          tells (both (apart m (move a i .input)) rest)
+          let test = tells-and (tells-apart m (move a i .input)) t in
+          tells (apart m (move a i .input) && rest)
           (λ x. let y = told-true test x in from-here (λ v. Branch m (move a v .input)) i (λ l. y .0) (y .1))
           (λ x y. told-false test x (y i (omega arith) (record { low = omega arith; from = eqb-true (move a i .from) s e }), λ v l. y v (omega arith)))
       go false e t =
@@ -170,10 +170,10 @@ module _ (a : Automaton) (s : ℕ) where
       mine : Bool
       mine = apartFrom (move a i .input) (part pastMove (a .moves) (i + 1) k) s
 
-      go : (b : Bool) → eqb (move a i .from) s ≡ b → Tells rest (BranchesFrom (i + 1)) → Tells (pick b (both mine rest) rest) (BranchesFrom i)
+      go : (b : Bool) → eqb (move a i .from) s ≡ b → Tells rest (BranchesFrom (i + 1)) → Tells (cond b (mine && rest) rest) (BranchesFrom i)
       go true e t =
-          let test = both-tells mine rest (ApartFrom (move a i .input) (i + 1)) (BranchesFrom (i + 1)) (apart-from (move a i .input) k (i + 1) (omega arith)) t in
-          tells (both mine rest)
+          let test = tells-and (apart-from (move a i .input) k (i + 1) (omega arith)) t in
+          tells (mine && rest)
           (λ x. let y = told-true test x in from-here (λ u. ApartFrom (move a u .input) (u + 1)) i (λ l. y .0) (y .1))
           (λ x y. told-false test x (y i (omega arith) (record { low = omega arith; from = eqb-true (move a i .from) s e }), λ v l. y v (omega arith)))
       go false e t =

@@ -1,46 +1,28 @@
 -- Tests by Bool and what they tell; numbers and flags in a list.
 use mathlib.Core.Path.{_≡_, refl, sym, subst}
-use mathlib.Core.Bool.{Bool, true, false}
+use mathlib.Core.Bool.{Bool, true, false, _&&_}
 use Prim.Native.Nat.{ℕ, zero, suc, _<_}
 use native.Mathlib.Omega.{arith}
 use native.Mathlib.Decide.{ℕ-discrete}
-use Rattle.basis.specs.Inner.Tells.{Tells, fails}
-use Rattle.basis.specs.Laws.Bools.{clash}
-use Rattle.basis.specs.Laws.Tells.{told, denied, tells, told-true, told-false}
-use Rattle.automaton.specs.Tests.{both, all}
+use Rattle.basis.specs.Inner.Tells.{Tells}
+use Rattle.basis.specs.Laws.Bools.{clash, and-left, and-right}
+use Rattle.basis.specs.Laws.Tells.{tells, told-true, told-false}
+use Rattle.automaton.specs.Tests.{all}
 
 -- ---- laws
-
-pub both-left : (b c : Bool) → both b c ≡ true → b ≡ true
-unfolding both
-both-left true c h = refl
-both-left false c h = clash (sym h)
-
-pub both-right : (b c : Bool) → both b c ≡ true → c ≡ true
-unfolding both
-both-right true c h = h
-both-right false c h = clash (sym h)
-
-pub both-tells : (b c : Bool) (P Q : Type 0) → Tells b P → Tells c Q → Tells (both b c) (P × Q)
-unfolding both
-both-tells b c P Q t u = go b t
-  where
-    go : (x : Bool) → Tells x P → Tells (both x c) (P × Q)
-    go true t = tells c (λ e. (told t, told-true u e)) (λ e h. told-false u e (h .1))
-    go false t = fails (λ h. denied t (h .0))
 
 pub all-true : (n : ℕ) (f : ℕ → Bool) → all n f ≡ true → (k : ℕ) → k < n → f k ≡ true
 unfolding all
 all-true zero f h k l = absurd (omega arith)
-all-true (suc n) f h k l = elim (ℕ-discrete k n) [ yes e ↦ subst (λ (j : ℕ). f j ≡ true) (sym e) (both-right (all n f) (f n) h) | no ne ↦ all-true n f (both-left (all n f) (f n) h) k (omega (arith, ne)) ]
+all-true (suc n) f h k l = elim (ℕ-discrete k n) [ yes e ↦ subst (λ (j : ℕ). f j ≡ true) (sym e) (and-right (all n f) (f n) h) | no ne ↦ all-true n f (and-left (all n f) (f n) h) k (omega (arith, ne)) ]
 
 -- where not all pass, one does not
 pub all-false : (n : ℕ) (f : ℕ → Bool) → all n f ≡ false → (k : ℕ) × (k < n) × (f k ≡ false)
-unfolding all both
+unfolding all
 all-false zero f h = clash h
 all-false (suc n) f h = go (all n f) refl h (λ e. all-false n f e)
   where
-    go : (b : Bool) → all n f ≡ b → both b (f n) ≡ false → (all n f ≡ false → (k : ℕ) × (k < n) × (f k ≡ false)) → (k : ℕ) × (k < suc n) × (f k ≡ false)
+    go : (b : Bool) → all n f ≡ b → (b && f n) ≡ false → (all n f ≡ false → (k : ℕ) × (k < n) × (f k ≡ false)) → (k : ℕ) × (k < suc n) × (f k ≡ false)
     go true e h rec = (n, omega arith, h)
     go false e h rec = let x = rec e in (x .0, omega (arith, x .1), x .2)
 

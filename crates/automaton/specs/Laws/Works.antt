@@ -1,6 +1,6 @@
 -- The passes that specs/Number.antt computes end with all states that have a path to a final one, and with one count of each event at each reached state.
 use mathlib.Core.Path.{_≡_, refl, sym, ap, _∙_, subst}
-use mathlib.Core.Bool.{Bool, true, false, not}
+use mathlib.Core.Bool.{Bool, true, false, not, cond, _&&_}
 use mathlib.Core.List.{List}
 use Prim.Native.Nat.{ℕ, zero, suc, _+_, _*_, _≤_, _<_}
 use native.Mathlib.Omega.{arith}
@@ -20,7 +20,7 @@ use Rattle.plan.specs.declared.Output.{Output}
 use Rattle.plan.specs.declared.Automaton.{Automaton}
 use Rattle.plan.specs.Plan.{pastMove, move, movesOf, isFinal}
 use Rattle.automaton.specs.declared.Explored.{Explored}
-use Rattle.automaton.specs.Tests.{at, pick, both}
+use Rattle.automaton.specs.Tests.{at}
 use Rattle.automaton.specs.Number.{again, finalsOf, passBack, toFinal, isReady, advanced, isNew, passOn, outset, explored}
 use Rattle.automaton.specs.Inner.Counts.{InRange, Ready, Known}
 use Rattle.automaton.specs.Laws.Counts.{ready-takes}
@@ -40,7 +40,7 @@ rounds-done pass left P Q down on done zero x y l p = done x y p (omega (arith, 
 rounds-done {X} pass left P Q down on done (suc n) x y l p =
     go (eqb (left y) (left x)) refl (λ m. rounds-done pass left P Q down on done n y (pass y) m (on x y p))
   where
-    go : (b : Bool) → eqb (left y) (left x) ≡ b → (left y ≤ n → Q (again pass left n y (pass y))) → Q (pick b y (again pass left n y (pass y)))
+    go : (b : Bool) → eqb (left y) (left x) ≡ b → (left y ≤ n → Q (again pass left n y (pass y))) → Q (cond b y (again pass left n y (pass y)))
     go true e rec = done x y p (eqb-true (left y) (left x) e)
     go false e rec = rec (omega (arith, down x y p, eqb-false (left y) (left x) e))
 
@@ -61,10 +61,10 @@ module _ (a : Automaton) (ok : InRange a) where
   abbrev Backed : List Bool → ℕ → List Bool → Type 0
   Backed D i E = (ch : Bool) × Backing a D i E ch
 
-  back-step : (D : List Bool) (i : ℕ) (E : List Bool) → i < a .count → Backed D i E → Backed D (i + 1) (pick (flag E (move a i .to)) (set E (move a i .from) true) E)
+  back-step : (D : List Bool) (i : ℕ) (E : List Bool) → i < a .count → Backed D i E → Backed D (i + 1) (cond (flag E (move a i .to)) (set E (move a i .from) true) E)
   back-step D i E l (ch, b) = go (flag E (move a i .to)) refl (flag E (move a i .from)) refl
     where
-      go : (x : Bool) → flag E (move a i .to) ≡ x → (y : Bool) → flag E (move a i .from) ≡ y → Backed D (i + 1) (pick x (set E (move a i .from) true) E)
+      go : (x : Bool) → flag E (move a i .to) ≡ x → (y : Bool) → flag E (move a i .from) ≡ y → Backed D (i + 1) (cond x (set E (move a i .from) true) E)
       go false t y f = (ch, back-stay a ok D i E ch b (λ h. absurd (clash (sym h ∙ t))))
       go true t true f =
           let same : E ≡ set E (move a i .from) true = sym (set-getD E (move a i .from) false) ∙ ap (set E (move a i .from)) f in
@@ -118,15 +118,14 @@ module _ (a : Automaton) (gives : Output → ℕ → ℕ) (ok : InRange a) (smal
   abbrev reach : ℕ → Explored → Explored
   reach i x = record { reached = set (x .reached) (move a i .to) true; counts = advanced gives (x .counts) (move a i) 16 }
 
-  going-step : (D : List Bool) (i : ℕ) (x : Explored) → i < a .count → Went D i x → Went D (i + 1) (pick (isNew (move a i) x) (reach i x) x)
-  unfolding both
+  going-step : (D : List Bool) (i : ℕ) (x : Explored) → i < a .count → Went D i x → Went D (i + 1) (cond (isNew (move a i) x) (reach i x) x)
   going-step D i x l (ch, g) = go (flag (x .reached) (move a i .from)) refl (flag (x .reached) (move a i .to)) refl (isReady (x .counts) (move a i .from) (move a i .input)) refl
     where
       stay : (flag (x .reached) (move a i .from) ≡ true → Ready (x .counts) (move a i .from) (move a i .input) → flag (x .reached) (move a i .to) ≡ true) → Went D (i + 1) x
       stay h = (ch, going-stays a gives ok D i (x .reached) (x .counts) ch g h)
 
       go : (u : Bool) → flag (x .reached) (move a i .from) ≡ u → (v : Bool) → flag (x .reached) (move a i .to) ≡ v → (w : Bool) → isReady (x .counts) (move a i .from) (move a i .input) ≡ w
-          → Went D (i + 1) (pick (both u (both (not v) w)) (reach i x) x)
+          → Went D (i + 1) (cond (u && (not v && w)) (reach i x) x)
       go false f v t w r = stay (λ h k. absurd (clash (sym h ∙ f)))
       go true f true t w r = stay (λ h k. t)
       go true f false t false r = stay (λ h k. absurd (told-false (tells-ready (x .counts) (move a i .from) (move a i .input)) r k))

@@ -1,6 +1,6 @@
 -- What the contracts behind `Laws/Emits` cite.
 use mathlib.Core.Path.{_≡_}
-use mathlib.Core.Bool.{Bool, true, false}
+use mathlib.Core.Bool.{Bool, true, false, cond}
 use mathlib.Core.List.{List}
 use Prim.Native.Nat.{ℕ, _+_, _*_, _/_, _%_, _^_, _≤_, _<_}
 use lib.Dec.{eqb, ltb}
@@ -10,7 +10,7 @@ use Rattle.plan.specs.declared.Output.{Output}
 use Rattle.plan.specs.declared.Transition.{Transition}
 use Rattle.plan.specs.declared.Automaton.{Automaton}
 use Rattle.plan.specs.declared.Verdict.{Verdict}
-use Rattle.automaton.specs.Tests.{at, pick}
+use Rattle.automaton.specs.Tests.{at}
 use Rattle.automaton.specs.Rules.{ToFinal, EveryState}
 use Rattle.automaton.specs.Inner.Counts.{Kept}
 use Rattle.automaton.specs.Inner.OnPaths.{OnPaths}
@@ -18,7 +18,7 @@ use Rattle.automaton.specs.Inner.OnPaths.{OnPaths}
 -- how many of event e the output emits, by the table
 abbrev pub gives : List ℕ → Output → ℕ → ℕ
 gives em Output.Empty e = 0
-gives em (Output.Activity k) e = pick (ltb e 16) (at em (16 * k + e)) 0
+gives em (Output.Activity k) e = cond (ltb e 16) (at em (16 * k + e)) 0
 
 -- no activity has more than 64 nodes
 abbrev pub Few : List ℕ → Type 0

@@ -1,9 +1,8 @@
 -- `no_way_out` looks at a final state alone.
 use mathlib.Core.Path.{sym, ap, _∙_}
-use mathlib.Core.Bool.{Bool, true}
+use mathlib.Core.Bool.{Bool, true, cond}
 use borrow.Author.Tests.{not-true, not-false}
 use Rattle.plan.specs.Plan.{isFinal}
-use Rattle.automaton.specs.Tests.{pick}
 use Rattle.automaton.specs.Next.{nextOf}
 use Rattle.automaton.specs.Number.{isEnded, noWayOut}
 use borrow.Author.Needs.{needs}
@@ -21,7 +20,7 @@ unfolding noWayOut
 returns c =
     let x = c .before .before .before .args in
     let f = ap (isFinal (x .a)) (sym (c .before .before .wide .ensures)) ∙ sym (c .before .is-final .ensures) ∙ not-true _ (c .if1 .taken) in
-    sym (ap (λ (b : Bool). pick b (isEnded (nextOf (x .a) (x .s))) true) f)
+    sym (ap (λ (b : Bool). cond b (isEnded (nextOf (x .a) (x .s))) true) f)
 
 next-of-requires : tie.Need-next-of-requires
 next-of-requires c κs = search needs
@@ -34,7 +33,7 @@ unfolding noWayOut
 returns-2 c =
     let x = c .before .before .before .before .before .args in
     let f = ap (isFinal (x .a)) (sym (c .before .before .before .before .wide .ensures)) ∙ sym (c .before .before .before .is-final .ensures) ∙ not-false _ (c .before .before .if1 .left) in
-    c .is-ended .ensures ∙ ap isEnded (c .before .next-of .ensures) ∙ sym (ap (λ (b : Bool). pick b (isEnded (nextOf (x .a) (x .s))) true) f)
+    c .is-ended .ensures ∙ ap isEnded (c .before .next-of .ensures) ∙ sym (ap (λ (b : Bool). cond b (isEnded (nextOf (x .a) (x .s))) true) f)
 
 pub no-way-out-spec : {M : Type 1} → statement M
 no-way-out-spec =

@@ -18,7 +18,6 @@ use Rattle.plan.specs.declared.Automaton.{Automaton}
 use Rattle.plan.specs.declared.Transition.{Transition}
 use Rattle.plan.specs.declared.Plan.{Plan}
 use Rattle.automaton.specs.Next.{onInput, nextFrom, nextOf, chosenOf}
-use Rattle.automaton.specs.Tests.{pick}
 use Rattle.automaton.specs.Rules.{MeetsAutomaton}
 use Rattle.automaton.specs.declared.Next.{Next}
 use Rattle.automaton.specs.declared.Chosen.{Chosen}
@@ -65,7 +64,7 @@ next-awaits ts s i (suc k) = go (eqb (getD ts i pastMove .from) s) refl (next-aw
     here Input.Nothing e f = tt
     here (Input.Outcome ev o) e f = (i, o, record { from-i = omega arith; below = omega arith; from = f; input = e })
 
-    go : (b : Bool) → eqb (getD ts i pastMove .from) s ≡ b → Awaits ts s (i + 1) k (nextFrom (part pastMove ts (i + 1) k) s (i + 1)) → Awaits ts s i (suc k) (pick b (onInput (getD ts i pastMove .input) i) (nextFrom (part pastMove ts (i + 1) k) s (i + 1)))
+    go : (b : Bool) → eqb (getD ts i pastMove .from) s ≡ b → Awaits ts s (i + 1) k (nextFrom (part pastMove ts (i + 1) k) s (i + 1)) → Awaits ts s i (suc k) (cond b (onInput (getD ts i pastMove .input) i) (nextFrom (part pastMove ts (i + 1) k) s (i + 1)))
     go true e h = here (getD ts i pastMove .input) refl (eqb-true (getD ts i pastMove .from) s e)
     go false e h = awaits-later ts s i k (nextFrom (part pastMove ts (i + 1) k) s (i + 1)) h
 

@@ -1,7 +1,7 @@
 -- The automaton's next transition and its choice by an outcome are transitions of the state; and along its paths an event is
 -- processed as often, and emitted as often, as in the word of the path.
 use mathlib.Core.Path.{_≡_, refl, sym, ap₂, subst}
-use mathlib.Core.Bool.{Bool, true, false, cond}
+use mathlib.Core.Bool.{Bool, true, false, cond, _&&_}
 use mathlib.Core.List.{List, [], _∷_}
 use Prim.Native.Nat.{ℕ, zero, suc, _+_, _≤_, _<_}
 use native.Mathlib.Omega.{arith}
@@ -9,7 +9,7 @@ use lib.ListN.{getD}
 use lib.Dec.{eqb}
 use borrow.Author.Tests.{eqb-true}
 use Rattle.basis.specs.Parts.{part}
-use Rattle.basis.specs.Laws.Bools.{clash}
+use Rattle.basis.specs.Laws.Bools.{clash, and-left, and-right}
 use Rattle.plan.specs.Plan.{pastMove, move, emittedBy, activityOf, resourceOf}
 use Rattle.plan.specs.Limits.{FileRules}
 use Rattle.plan.specs.declared.Kind.{Kind}
@@ -20,12 +20,10 @@ use Rattle.plan.specs.declared.Automaton.{Automaton}
 use Rattle.plan.specs.declared.Plan.{Plan}
 use Rattle.activity.specs.Rules.{Meets}
 use Rattle.automaton.specs.Next.{onInput, nextFrom, nextOf, carries, chosenFrom, chosenOf}
-use Rattle.automaton.specs.Tests.{pick, both}
 use Rattle.automaton.specs.Rules.{Path, none, more, takes, ofEvent, eventsIn, emits, processed, emitted, EmittedFirst}
 use Rattle.automaton.specs.Rules as Rules
 use Rattle.automaton.specs.declared.Next.{Next}
 use Rattle.automaton.specs.declared.Chosen.{Chosen}
-use Rattle.automaton.specs.Laws.Tests.{both-left, both-right}
 use Rattle.times_combined.specs.Word.{once, times, isEvent, emittedIn, emissions}
 use Rattle.times_combined.specs.Paths.{wordOf, Follows, OnlyEmitted, Lawful}
 
@@ -60,7 +58,7 @@ next-goes ts s i (suc k) = go (eqb (getD ts i pastMove .from) s) refl (next-goes
     here Input.Nothing e f = record { from-i = omega arith; below = omega arith; from = f; input = e }
     here (Input.Outcome ev o) e f = tt
 
-    go : (b : Bool) → eqb (getD ts i pastMove .from) s ≡ b → Goes ts s (i + 1) k (nextFrom (part pastMove ts (i + 1) k) s (i + 1)) → Goes ts s i (suc k) (pick b (onInput (getD ts i pastMove .input) i) (nextFrom (part pastMove ts (i + 1) k) s (i + 1)))
+    go : (b : Bool) → eqb (getD ts i pastMove .from) s ≡ b → Goes ts s (i + 1) k (nextFrom (part pastMove ts (i + 1) k) s (i + 1)) → Goes ts s i (suc k) (cond b (onInput (getD ts i pastMove .input) i) (nextFrom (part pastMove ts (i + 1) k) s (i + 1)))
     go true e h = here (getD ts i pastMove .input) refl (eqb-true (getD ts i pastMove .from) s e)
     go false e h = goes-later ts s i k (nextFrom (part pastMove ts (i + 1) k) s (i + 1)) h
 
@@ -80,21 +78,21 @@ chooses-later ts s e o i k (Chosen.Move t) h = found-later ts s i k t (Input.Out
 
 carried : (x : Input) (e o : ℕ) → carries x e o ≡ true → x ≡ Input.Outcome e o
 carried Input.Nothing e o h = clash (sym h)
-carried (Input.Outcome f q) e o h = ap₂ Input.Outcome (eqb-true f e (both-left (eqb f e) (eqb q o) h)) (eqb-true q o (both-right (eqb f e) (eqb q o) h))
+carried (Input.Outcome f q) e o h = ap₂ Input.Outcome (eqb-true f e (and-left (eqb f e) (eqb q o) h)) (eqb-true q o (and-right (eqb f e) (eqb q o) h))
 
 chosen-chooses : (ts : List Transition) (s e o i k : ℕ) → Chooses ts s e o i k (chosenFrom (part pastMove ts i k) s e o i)
 unfolding chosenFrom
 chosen-chooses ts s e o i zero = tt
-chosen-chooses ts s e o i (suc k) = go (both (eqb (getD ts i pastMove .from) s) (carries (getD ts i pastMove .input) e o)) refl (chosen-chooses ts s e o (i + 1) k)
+chosen-chooses ts s e o i (suc k) = go (eqb (getD ts i pastMove .from) s && carries (getD ts i pastMove .input) e o) refl (chosen-chooses ts s e o (i + 1) k)
   where
-    go : (b : Bool) → both (eqb (getD ts i pastMove .from) s) (carries (getD ts i pastMove .input) e o) ≡ b
+    go : (b : Bool) → (eqb (getD ts i pastMove .from) s && carries (getD ts i pastMove .input) e o) ≡ b
         → Chooses ts s e o (i + 1) k (chosenFrom (part pastMove ts (i + 1) k) s e o (i + 1))
-        → Chooses ts s e o i (suc k) (pick b (Chosen.Move i) (chosenFrom (part pastMove ts (i + 1) k) s e o (i + 1)))
+        → Chooses ts s e o i (suc k) (cond b (Chosen.Move i) (chosenFrom (part pastMove ts (i + 1) k) s e o (i + 1)))
     go true h c = record {
       from-i = omega arith;
       below = omega arith;
-      from = eqb-true (getD ts i pastMove .from) s (both-left (eqb (getD ts i pastMove .from) s) (carries (getD ts i pastMove .input) e o) h);
-      input = carried (getD ts i pastMove .input) e o (both-right (eqb (getD ts i pastMove .from) s) (carries (getD ts i pastMove .input) e o) h);
+      from = eqb-true (getD ts i pastMove .from) s (and-left (eqb (getD ts i pastMove .from) s) (carries (getD ts i pastMove .input) e o) h);
+      input = carried (getD ts i pastMove .input) e o (and-right (eqb (getD ts i pastMove .from) s) (carries (getD ts i pastMove .input) e o) h);
     }
     go false h c = chooses-later ts s e o i k (chosenFrom (part pastMove ts (i + 1) k) s e o (i + 1)) c
 

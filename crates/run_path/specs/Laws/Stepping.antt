@@ -15,7 +15,6 @@ use Rattle.plan.specs.declared.Transition.{Transition}
 use Rattle.plan.specs.declared.Activity.{Activity}
 use Rattle.plan.specs.declared.Automaton.{Automaton}
 use Rattle.plan.specs.declared.Plan.{Plan}
-use Rattle.automaton.specs.Tests.{pick}
 use Rattle.automaton.specs.Next.{onInput, nextFrom, nextOf}
 use Rattle.automaton.specs.declared.Next.{Next}
 use Rattle.times.specs.Engine.{advanceOf}
@@ -43,7 +42,7 @@ next-leads a s =
     by-input Input.Nothing i n h = h
     by-input (Input.Outcome e o) i n h = tt
 
-    choose : (n : ℕ) (b : Bool) (x y : Next) → Leads n x → Leads n y → Leads n (pick b x y)
+    choose : (n : ℕ) (b : Bool) (x y : Next) → Leads n x → Leads n y → Leads n (cond b x y)
     choose n true x y h k = h
     choose n false x y h k = k
 
