@@ -17,7 +17,7 @@ processed-requires : tie.Need-processed-requires
 processed-requires c κs = input-fits {E = c .before .pre .events} (c .before .args .input) (c .before .pre .few-events) (c .before .pre .input)
 
 raised-requires : tie.Need-raised-requires
-raised-requires c κs = c .before .before .before .pre .few-resources
+raised-requires c κs = search needs
 
 -- every resource is held back
 held : (c : tie.After-raised) → withAvailable (c .before .before .processed .result) (c .raised .result) ≡ heldOf (c .before .before .before .before .args .resources) (floorOf (c .before .before .before .before .args .input) (c .before .before .before .before .args .progress)) (processedOf (c .before .before .before .before .args .input) (c .before .before .before .before .args .progress))
