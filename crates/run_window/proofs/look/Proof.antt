@@ -7,7 +7,8 @@ use Rattle.run_window.specs.declared.Found.{Found}
 use Rattle.run_window.specs.declared.Sought.{Sought}
 use Rattle.run_window.specs.Window.{first}
 use Rattle.run_window.specs.Inner.Search.{isSought, sooner}
-use Rattle.run_window.proofs.Scans.{unmapped, first-none, first-turn}
+use Rattle.basis.specs.Laws.Lists.{unmapped}
+use Rattle.run_window.proofs.Scans.{first-none, first-turn}
 use borrow.Author.Needs.{needs}
 use Rattle.run_window.proofs.look.Statement.{statement}
 use Rattle.run_window.proofs.look.Tie as tie

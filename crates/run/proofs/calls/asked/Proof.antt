@@ -2,7 +2,8 @@
 use mathlib.Core.Path.{_≡_, sym, _∙_}
 use lib.ListN.{length}
 use Rattle.run_window.specs.Window.{isDue}
-use Rattle.run.proofs.Checking.{unmapped, state-below, found-within, asked-idle, asked-starts}
+use Rattle.basis.specs.Laws.Lists.{unmapped}
+use Rattle.run.proofs.Checking.{state-below, found-within, asked-idle, asked-starts}
 use borrow.Author.Needs.{needs}
 use Rattle.run.proofs.calls.asked.Statement.{statement}
 use Rattle.run.proofs.calls.asked.Tie as tie

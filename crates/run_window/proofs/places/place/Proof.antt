@@ -5,7 +5,7 @@ use Prim.Native.Nat.{_≤_, _-_}
 use native.Mathlib.Omega.{arith}
 use lib.ListN.{length, take, drop, length-set}
 use Rattle.run_window.specs.Window.{vacant, placed}
-use Rattle.run_window.proofs.Scans.{unmapped}
+use Rattle.basis.specs.Laws.Lists.{unmapped}
 use Rattle.run_window.proofs.Placing.{placedFrom, from-start, from-spent, from-end, from-held, from-free, next-entry, no-entry}
 use borrow.Author.Needs.{needs}
 use Rattle.run_window.proofs.places.place.Statement.{statement}
