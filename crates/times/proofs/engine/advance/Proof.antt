@@ -7,6 +7,7 @@ use Rattle.times.specs.Inner.Times.{Timeable, Leaving}
 use Rattle.times.specs.Engine.{heldOf}
 use Rattle.times.specs.Queues.{processedOf, floorOf}
 use Rattle.times.specs.declared.Progress.{Progress}
+use borrow.Author.Needs.{needs}
 use Rattle.times.proofs.engine.advance.Statement.{statement}
 use Rattle.times.proofs.engine.advance.Tie as tie
 
