@@ -37,7 +37,7 @@ impl Run {
     // the most nodes that the window holds
     pub const WINDOW: usize = run_window::WINDOW;
     // the largest time that an opening or a path may have
-    pub const HORIZON: u64 = 1_000_000_000_000_000;
+    pub const HORIZON: u64 = time::HORIZON;
     // the least and the largest slack
     pub const SLACK_LEAST: u64 = run_checks::bounds::SLACK_LEAST;
 

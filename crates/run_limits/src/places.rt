@@ -1,9 +1,9 @@
 // The limits of the window of a run.
 ghost use mathlib.Core.Path.{_≡_};
 ghost use Rattle.run_limits.specs.Window.{namesNode, entryInLimits, windowInLimits};
-use crate::progress::HORIZON;
 use crate::progress::LAST_POSITION;
 use run_window::Entry;
+use time::HORIZON;
 
 // Node n of activity a is one of the plan's.
 fn names_node(activities: u8, sizes: [u8; 32], a: u8, n: u8) -> bool

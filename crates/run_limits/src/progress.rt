@@ -3,13 +3,11 @@ ghost use mathlib.Core.Path.{_≡_};
 ghost use Prim.Native.Nat.{_≤_};
 ghost use Rattle.run_limits.specs.Progress.{timesInLimits, toldNames, instanceInLimits, placeInLimits, pendingInLimits, progressFits};
 use plan_limits::numbers;
+use time::HORIZON;
 use time::Specified;
 use times::Instance;
 use times::Progress;
 use times::Told;
-
-// the largest time, 10^15
-pub const HORIZON: u64 = 1_000_000_000_000_000;
 
 pub const LAST_POSITION: u32 = 1_000_000_000;
 

@@ -1,6 +1,7 @@
 // What an opening gives beside the plan and Ψ: availabilities and a slack. Document 01, section "A run".
 use plan::Node;
 use plan::Plan;
+use time::HORIZON;
 use time::Specified;
 use times::Instance;
 use times::Progress;
@@ -25,7 +26,7 @@ pub fn any_above(ts: &[u64]) -> bool
 {
     let mut i: usize = 0;
     while i < ts.len() {
-        if ts[i] > 1_000_000_000_000_000 {
+        if ts[i] > HORIZON {
             return true;
         }
         i += 1;

@@ -3,6 +3,9 @@ ghost use mathlib.Core.Path.{_≡_};
 ghost use Prim.Native.Nat.{_≤_};
 ghost use Rattle.time.specs.Time.{toClock, horizon};
 
+// The largest time that an opening gives or a path reaches: 10^15.
+pub const HORIZON: u64 = 1_000_000_000_000_000;
+
 // Specified time: counts from zero.
 pub struct Specified(pub u64);
 

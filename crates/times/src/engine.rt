@@ -6,12 +6,13 @@ use super::Schedule;
 use super::Told;
 use super::queues::floor;
 use super::queues::processed;
-use super::times::later;
-use super::times::scheduled;
-use super::times::wide;
+use super::starts::later;
+use super::starts::scheduled;
+use super::starts::wide;
 use plan::Activity;
 use plan::Input;
 use plan::Kind;
+use time::HORIZON;
 use time::Specified;
 ghost use mathlib.Core.Path.{_≡_};
 ghost use Prim.Native.Nat.{_≤_, _<_};
@@ -78,8 +79,6 @@ fn left(a: Activity, t: Schedule, g: Progress) -> Progress
     }
     h
 }
-
-const HORIZON: u64 = 1_000_000_000_000_000;
 
 // Whether one of the first `count` completions is above 10^15.
 fn ends_above(times: [Specified; 64], count: u8) -> bool

@@ -3,7 +3,7 @@ use time::Specified;
 
 pub mod engine; // one transition
 pub mod queues; // the pending instances
-pub mod times; // the nodes of one activity
+pub mod starts; // the nodes of one activity
 
 // What was reported of an emitted instance of an event.
 pub enum Told {

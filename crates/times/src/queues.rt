@@ -2,7 +2,7 @@
 use super::Instance;
 use super::Progress;
 use super::Told;
-use super::times::wide;
+use super::starts::wide;
 use plan::Input;
 use time::Specified;
 ghost use mathlib.Core.Path.{_≡_};

@@ -13,8 +13,8 @@ use Rattle.times.specs.Inner.Times.{Sound, numbers, Rounding}
 use Rattle.times.specs.Laws.Rounds.{stored-placed, arrows-fit, kind-fits, visit-done, visit-waits, visit-placed, start-small, room, placed-sound}
 use Rattle.times.specs.Laws.Turns.{start-found, claim-low, event-low, number-set, rounding-starts, rounding-turn, rounding-stops, rounding-next, rounding-done}
 use borrow.Author.Needs.{needs}
-use Rattle.times.proofs.times.scheduled.Statement.{statement}
-use Rattle.times.proofs.times.scheduled.Tie as tie
+use Rattle.times.proofs.starts.scheduled.Statement.{statement}
+use Rattle.times.proofs.starts.scheduled.Tie as tie
 
 abbrev Inv-loop : tie.InvT-loop
 Inv-loop a available latest count u₀ ends₀ rounds₀ from₀ n₀ u ends rounds from n =

@@ -13,8 +13,8 @@ use Rattle.times.specs.Times.{largestOf}
 use Rattle.times.specs.Inner.Times.{numbers}
 use Rattle.times.specs.Laws.Loops.{largest-on, largest-end}
 use Rattle.times.specs.Laws.Turns.{number-at}
-use Rattle.times.proofs.times.largest.Statement.{statement}
-use Rattle.times.proofs.times.largest.Tie as tie
+use Rattle.times.proofs.starts.largest.Statement.{statement}
+use Rattle.times.proofs.starts.largest.Tie as tie
 
 abbrev Inv-loop : tie.InvT-loop
 Inv-loop ends x count best₀ j₀ best j =

@@ -4,8 +4,8 @@ use Rattle.plan.specs.declared.Kind.{Kind}
 use Rattle.times.specs.Times.{specified}
 use Rattle.times.specs.Inner.Times.{startOn}
 use borrow.Author.Needs.{needs}
-use Rattle.times.proofs.times.starting.Statement.{statement}
-use Rattle.times.proofs.times.starting.Tie as tie
+use Rattle.times.proofs.starts.starting.Statement.{statement}
+use Rattle.times.proofs.starts.starting.Tie as tie
 
 enum-told : tie.Need-enum-told
 enum-told c = search needs

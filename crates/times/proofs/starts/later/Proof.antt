@@ -2,8 +2,8 @@
 use mathlib.Core.Path.{ap}
 use native.Mathlib.Omega.{arith}
 use Rattle.times.specs.Times.{specified}
-use Rattle.times.proofs.times.later.Statement.{statement}
-use Rattle.times.proofs.times.later.Tie as tie
+use Rattle.times.proofs.starts.later.Statement.{statement}
+use Rattle.times.proofs.starts.later.Tie as tie
 
 returns : tie.Need-returns
 returns c = ap specified (omega arith)

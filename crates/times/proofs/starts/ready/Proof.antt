@@ -10,8 +10,8 @@ use Rattle.basis.specs.Parts.{part}
 use Rattle.basis.specs.Tests.{flag}
 use Rattle.times.specs.Times.{readyOf}
 use Rattle.times.specs.Laws.Loops.{ready-not, ready-on, ready-end}
-use Rattle.times.proofs.times.ready.Statement.{statement}
-use Rattle.times.proofs.times.ready.Tie as tie
+use Rattle.times.proofs.starts.ready.Statement.{statement}
+use Rattle.times.proofs.starts.ready.Tie as tie
 
 abbrev Inv-loop : tie.InvT-loop
 Inv-loop done x count j₀ j = (j ≤ x .count) × (count ≡ x .count) × (readyOf done (part 0 (x .preds) 0 (x .count)) ≡ readyOf done (part 0 (x .preds) j (x .count - j)))
