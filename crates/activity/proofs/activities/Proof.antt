@@ -18,31 +18,16 @@ Inv-loop plan belongs count x₀ a₀ n₀ x a n =
 abbrev μ-loop : tie.MeasureT-loop
 μ-loop plan belongs count x₀ a₀ n₀ x a n = 65 * (count - a) - n
 
-empty-node-requires : tie.Need-empty-node-requires Inv-loop μ-loop
-empty-node-requires c κs = search needs
-
 loop-holds : tie.Need-loop-holds Inv-loop μ-loop
 loop-holds c =
     let p = c .before .before .args .t1 in
     (search needs, omega arith, λ l. omega arith, gathers-none p 0 _ refl, verdict-start p)
-
-cast-i : tie.Need-cast-i Inv-loop μ-loop
-cast-i c = search needs
 
 element-copy-out-size : tie.Need-element-copy-out-size Inv-loop μ-loop
 element-copy-out-size c = omega (arith, c .before .before .before .before .pre .activities)
 
 cast-m : tie.Need-cast-m Inv-loop μ-loop
 cast-m c = omega arith
-
-mul-node : tie.Need-mul-node Inv-loop μ-loop
-mul-node c = search needs
-
-add-node : tie.Need-add-node Inv-loop μ-loop
-add-node c = search needs
-
-mul-node-2 : tie.Need-mul-node-2 Inv-loop μ-loop
-mul-node-2 c = search needs
 
 element-copy-out-node : tie.Need-element-copy-out-node Inv-loop μ-loop
 element-copy-out-node c =
@@ -85,12 +70,6 @@ fault-requires c κs =
     let e : l .n ≡ sizeOf (s .args .t1) (l .a) = omega (arith, l .inv .2 (omega arith)) in
     (gathered-fits (s .args .t1) (l .a) (l .x .nodes) (rw e at (l .inv .3)) (s .pre) (omega arith), search needs)
 
-enum-told : tie.Need-enum-told Inv-loop μ-loop
-enum-told c = search needs
-
-add-a : tie.Need-add-a Inv-loop μ-loop
-add-a c = search needs
-
 loop-less-2 : tie.Need-loop-less-2 Inv-loop μ-loop
 loop-less-2 c =
     let s = c .before .before .before .before .before .before .before .before .before .before in
@@ -111,12 +90,6 @@ loop-again-2 c =
       gathers-none p (l .a + 1) (l .x .nodes) (l .inv .3 .long),
       l .inv .4 ∙ verdict-next p (l .a) (p .activities) (omega arith) (f ∙ c .enum-told .given .1),
     )
-
-enum-known-found : tie.Need-enum-known-found Inv-loop μ-loop
-enum-known-found c = search needs
-
-cast-t31 : tie.Need-cast-t31 Inv-loop μ-loop
-cast-t31 c = search needs
 
 returns : tie.Need-returns Inv-loop μ-loop
 returns c =
@@ -139,14 +112,14 @@ activities-spec =
     (tie.spec
     Inv-loop
     μ-loop
-    empty-node-requires
+    (λ c κs. search needs)
     loop-holds
-    cast-i
+    (λ c. search needs)
     element-copy-out-size
     cast-m
-    mul-node
-    add-node
-    mul-node-2
+    (λ c. search needs)
+    (λ c. search needs)
+    (λ c. search needs)
     element-copy-out-node
     mul-node-3
     element-set-from-node
@@ -154,11 +127,11 @@ activities-spec =
     loop-less
     loop-again
     fault-requires
-    enum-told
-    add-a
+    (λ c. search needs)
+    (λ c. search needs)
     loop-less-2
     loop-again-2
-    enum-known-found
-    cast-t31
+    (λ c. search needs)
+    (λ c. search needs)
     returns
     returns-2)

@@ -21,38 +21,8 @@ Inv-loop belongs before activity count names best₀ n₀ best n =
 abbrev μ-loop : tie.MeasureT-loop
 μ-loop belongs before activity count names best₀ n₀ best n = count - n
 
-cast-count : tie.Need-cast-count Inv-loop μ-loop
-cast-count c = search needs
-
-labels-requires : tie.Need-labels-requires Inv-loop μ-loop
-labels-requires c κs = search needs
-
 loop-holds : tie.Need-loop-holds Inv-loop μ-loop
 loop-holds c = (search needs, λ h. no-nodes _ _)
-
-mul-node : tie.Need-mul-node Inv-loop μ-loop
-mul-node c = search needs
-
-element-copy-out-node : tie.Need-element-copy-out-node Inv-loop μ-loop
-element-copy-out-node c = search needs
-
-held-requires : tie.Need-held-requires Inv-loop μ-loop
-held-requires c κs = search needs
-
-look-requires : tie.Need-look-requires Inv-loop μ-loop
-look-requires c κs = search needs
-
-node-number-requires : tie.Need-node-number-requires Inv-loop μ-loop
-node-number-requires c κs = search needs
-
-smaller-requires : tie.Need-smaller-requires Inv-loop μ-loop
-smaller-requires c κs = search needs
-
-add-n : tie.Need-add-n Inv-loop μ-loop
-add-n c = search needs
-
-loop-less : tie.Need-loop-less Inv-loop μ-loop
-loop-less c = search needs
 
 loop-again : tie.Need-loop-again Inv-loop μ-loop
 loop-again c =
@@ -80,16 +50,16 @@ lowest-spec =
     (tie.spec
     Inv-loop
     μ-loop
-    cast-count
-    labels-requires
+    (λ c. search needs)
+    (λ c κs. search needs)
     loop-holds
-    mul-node
-    element-copy-out-node
-    held-requires
-    look-requires
-    node-number-requires
-    smaller-requires
-    add-n
-    loop-less
+    (λ c. search needs)
+    (λ c. search needs)
+    (λ c κs. search needs)
+    (λ c κs. search needs)
+    (λ c κs. search needs)
+    (λ c κs. search needs)
+    (λ c. search needs)
+    (λ c. search needs)
     loop-again
     returns)

@@ -9,15 +9,6 @@ use borrow.Author.Needs.{needs}
 use Rattle.automaton.proofs.carries.Statement.{statement}
 use Rattle.automaton.proofs.carries.Tie as tie
 
-enum-told : tie.Need-enum-told
-enum-told c = search needs
-
-enum-known-input : tie.Need-enum-known-input
-enum-known-input c = search needs
-
-returns : tie.Need-returns
-returns c = search needs
-
 returns-2 : tie.Need-returns-2
 returns-2 c =
     let x = c .before .before .before .before .args in
@@ -31,4 +22,4 @@ returns-3 c =
     sym (ap (λ (n : Input). carries n (x .e) (x .o)) (n .1) ∙ ap (λ (b : Bool). (b && eqb (n .0 .1 .0) (x .o))) (ne-eqb (n .0 .0) (x .e) (c .if1 .left)))
 
 pub carries-spec : {M : Type 1} → statement M
-carries-spec = tie.close (tie.spec enum-told enum-known-input returns returns-2 returns-3)
+carries-spec = tie.close (tie.spec (λ c. search needs) (λ c. search needs) (λ c. search needs) returns-2 returns-3)

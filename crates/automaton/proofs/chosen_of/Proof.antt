@@ -19,25 +19,10 @@ Inv-loop s e o a count i₀ i = (i ≤ count) × (count ≤ 256) × (chosenOf a 
 abbrev μ-loop : tie.MeasureT-loop
 μ-loop s e o a count i₀ i = count - i
 
-long-requires : tie.Need-long-requires Inv-loop μ-loop
-long-requires c κs = search needs
-
 loop-holds : tie.Need-loop-holds Inv-loop μ-loop
 loop-holds c =
     let x = c .before .args in
     (omega arith, omega (arith, c .long .ensures), ap (λ (ts : List Transition). chosenFrom ts (x .s) (x .e) (x .o) 0) (ap (part pastMove (x .t1 .moves) 0) (sym (c .long .ensures)) ∙ rest-all (x .t1 .moves) (c .long .result)))
-
-mul-t : tie.Need-mul-t Inv-loop μ-loop
-mul-t c = search needs
-
-element-copy-out-t : tie.Need-element-copy-out-t Inv-loop μ-loop
-element-copy-out-t c = search needs
-
-add-i : tie.Need-add-i Inv-loop μ-loop
-add-i c = search needs
-
-loop-less : tie.Need-loop-less Inv-loop μ-loop
-loop-less c = search needs
 
 loop-again : tie.Need-loop-again Inv-loop μ-loop
 loop-again c =
@@ -45,20 +30,11 @@ loop-again c =
     let x = b .before .before .args in
     (omega arith, omega arith, b .loop .inv .2 ∙ chosen-other (x .t1 .moves) (x .s) (b .loop .i) (b .before .long .result) (x .e) (x .o) (omega arith) (c .if1 .taken))
 
-carries-requires : tie.Need-carries-requires Inv-loop μ-loop
-carries-requires c κs = search needs
-
-cast-t18 : tie.Need-cast-t18 Inv-loop μ-loop
-cast-t18 c = search needs
-
 returns : tie.Need-returns Inv-loop μ-loop
 returns c =
     let b = c .before .before .before .before .before .before in
     let x = b .before .before .args in
     sym (b .loop .inv .2 ∙ chosen-here (x .t1 .moves) (x .s) (b .loop .i) (b .before .long .result) (x .e) (x .o) (omega arith) (c .before .before .if1 .left) (sym (c .before .carries .ensures) ∙ c .if2 .taken))
-
-loop-less-2 : tie.Need-loop-less-2 Inv-loop μ-loop
-loop-less-2 c = search needs
 
 loop-again-2 : tie.Need-loop-again-2 Inv-loop μ-loop
 loop-again-2 c =
@@ -78,16 +54,16 @@ chosen-of-spec =
     (tie.spec
     Inv-loop
     μ-loop
-    long-requires
+    (λ c κs. search needs)
     loop-holds
-    mul-t
-    element-copy-out-t
-    add-i
-    loop-less
+    (λ c. search needs)
+    (λ c. search needs)
+    (λ c. search needs)
+    (λ c. search needs)
     loop-again
-    carries-requires
-    cast-t18
+    (λ c κs. search needs)
+    (λ c. search needs)
     returns
-    loop-less-2
+    (λ c. search needs)
     loop-again-2
     returns-2)

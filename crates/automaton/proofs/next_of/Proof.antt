@@ -19,37 +19,16 @@ Inv-loop s a count i₀ i = (i ≤ count) × (count ≤ 256) × (nextOf a s ≡ 
 abbrev μ-loop : tie.MeasureT-loop
 μ-loop s a count i₀ i = count - i
 
-long-requires : tie.Need-long-requires Inv-loop μ-loop
-long-requires c κs = search needs
-
 loop-holds : tie.Need-loop-holds Inv-loop μ-loop
 loop-holds c =
     let l = c .before .args .t1 .moves in
     let s = c .before .args .s in
     (omega arith, omega (arith, c .long .ensures), ap (λ (ts : List Transition). nextFrom ts s 0) (ap (part pastMove l 0) (sym (c .long .ensures)) ∙ rest-all l (c .long .result)))
 
-mul-t : tie.Need-mul-t Inv-loop μ-loop
-mul-t c = search needs
-
-element-copy-out-t : tie.Need-element-copy-out-t Inv-loop μ-loop
-element-copy-out-t c = search needs
-
-cast-on-input : tie.Need-cast-on-input Inv-loop μ-loop
-cast-on-input c = search needs
-
-on-input-requires : tie.Need-on-input-requires Inv-loop μ-loop
-on-input-requires c κs = search needs
-
 returns : tie.Need-returns Inv-loop μ-loop
 returns c =
     let b = c .before .before .before .before .before in
     c .on-input .ensures ∙ sym (b .loop .inv .2 ∙ next-here (b .before .before .args .t1 .moves) (b .before .before .args .s) (b .loop .i) (b .before .long .result) (omega arith) (c .before .if1 .taken))
-
-add-i : tie.Need-add-i Inv-loop μ-loop
-add-i c = search needs
-
-loop-less : tie.Need-loop-less Inv-loop μ-loop
-loop-less c = search needs
 
 loop-again : tie.Need-loop-again Inv-loop μ-loop
 loop-again c =
@@ -67,14 +46,14 @@ next-of-spec =
     (tie.spec
     Inv-loop
     μ-loop
-    long-requires
+    (λ c κs. search needs)
     loop-holds
-    mul-t
-    element-copy-out-t
-    cast-on-input
-    on-input-requires
+    (λ c. search needs)
+    (λ c. search needs)
+    (λ c. search needs)
+    (λ c κs. search needs)
     returns
-    add-i
-    loop-less
+    (λ c. search needs)
+    (λ c. search needs)
     loop-again
     returns-2)

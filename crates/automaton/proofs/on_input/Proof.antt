@@ -6,12 +6,6 @@ use borrow.Author.Needs.{needs}
 use Rattle.automaton.proofs.on_input.Statement.{statement}
 use Rattle.automaton.proofs.on_input.Tie as tie
 
-enum-told : tie.Need-enum-told
-enum-told c = search needs
-
-enum-known-input : tie.Need-enum-known-input
-enum-known-input c = search needs
-
 returns : tie.Need-returns
 returns c = sym (ap (λ (n : Input). onInput n (c .before .before .args .i)) (c .enum-told .given .1))
 
@@ -19,4 +13,4 @@ returns-2 : tie.Need-returns-2
 returns-2 c = sym (ap (λ (n : Input). onInput n (c .before .before .before .args .i)) (c .before .input .given .1))
 
 pub on-input-spec : {M : Type 1} → statement M
-on-input-spec = tie.close (tie.spec enum-told enum-known-input returns returns-2)
+on-input-spec = tie.close (tie.spec (λ c. search needs) (λ c. search needs) returns returns-2)

@@ -22,29 +22,11 @@ Inv-loop emits reached counts a count i₀ i = (i ≤ count) × ((j : ℕ) → j
 abbrev μ-loop : tie.MeasureT-loop
 μ-loop emits reached counts a count i₀ i = count - i
 
-long-requires : tie.Need-long-requires Inv-loop μ-loop
-long-requires c κs = search needs
-
 loop-holds : tie.Need-loop-holds Inv-loop μ-loop
 loop-holds c = (omega arith, λ j l. absurd (omega arith))
 
-mul-t : tie.Need-mul-t Inv-loop μ-loop
-mul-t c = search needs
-
-element-copy-out-t : tie.Need-element-copy-out-t Inv-loop μ-loop
-element-copy-out-t c = search needs
-
-add-i : tie.Need-add-i Inv-loop μ-loop
-add-i c = search needs
-
-wide-requires : tie.Need-wide-requires Inv-loop μ-loop
-wide-requires c κs = search needs
-
 element-copy-out-if1 : tie.Need-element-copy-out-if1 Inv-loop μ-loop
 element-copy-out-if1 c = omega (arith, c .wide .ensures, move-ok _ (c .before .before .before .before .before .pre .0) (c .before .before .before .loop .i) (omega arith) .from)
-
-loop-less : tie.Need-loop-less Inv-loop μ-loop
-loop-less c = search needs
 
 loop-again : tie.Need-loop-again Inv-loop μ-loop
 loop-again c = (omega arith, below-more _ _ (c .before .before .before .before .before .loop .inv .1) (λ e n h. absurd (true-false (sym h ∙ moved (now (c .before .before .before .before .before .before .before .args .reached)) (c .before .before .wide .ensures) (not-true _ (c .if1 .taken))))))
@@ -56,9 +38,6 @@ returns : tie.Need-returns Inv-loop μ-loop
 returns c =
     let k = c .before .kept .ensures .nay (not-true _ (c .if2 .taken)) in
     fails record { index = c .before .before .before .before .before .before .before .loop .i; event = k .event; low = omega arith; named = k .named; reached = moved (now (c .before .before .before .before .before .before .before .before .before .args .reached)) (c .before .before .before .before .wide .ensures) (not-false _ (c .before .before .if1 .left)); clash = k .clash }
-
-loop-less-2 : tie.Need-loop-less-2 Inv-loop μ-loop
-loop-less-2 c = search needs
 
 loop-again-2 : tie.Need-loop-again-2 Inv-loop μ-loop
 loop-again-2 c = (omega arith, below-more _ _ (c .before .before .before .before .before .before .before .loop .inv .1) (λ e n h. c .before .kept .ensures .yea (not-false _ (c .if2 .left)) e n))
@@ -72,17 +51,17 @@ keeps-spec =
     (tie.spec
     Inv-loop
     μ-loop
-    long-requires
+    (λ c κs. search needs)
     loop-holds
-    mul-t
-    element-copy-out-t
-    add-i
-    wide-requires
+    (λ c. search needs)
+    (λ c. search needs)
+    (λ c. search needs)
+    (λ c κs. search needs)
     element-copy-out-if1
-    loop-less
+    (λ c. search needs)
     loop-again
     kept-requires
     returns
-    loop-less-2
+    (λ c. search needs)
     loop-again-2
     returns-2)

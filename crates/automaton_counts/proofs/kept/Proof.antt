@@ -18,38 +18,11 @@ Inv-loop emits counts from to input output e₀ e = (e ≤ 16) × ((k : ℕ) →
 abbrev μ-loop : tie.MeasureT-loop
 μ-loop emits counts from to input output e₀ e = 16 - e
 
-wide-requires : tie.Need-wide-requires Inv-loop μ-loop
-wide-requires c κs = search needs
-
-wide-requires-2 : tie.Need-wide-requires-2 Inv-loop μ-loop
-wide-requires-2 c κs = search needs
-
 loop-holds : tie.Need-loop-holds Inv-loop μ-loop
 loop-holds c = (omega arith, λ k l. absurd (omega arith))
 
 given-requires : tie.Need-given-requires Inv-loop μ-loop
 given-requires c κs = (c .before .before .before .before .pre .0 .output, omega arith)
-
-taken-requires : tie.Need-taken-requires Inv-loop μ-loop
-taken-requires c κs = search needs
-
-mul-was : tie.Need-mul-was Inv-loop μ-loop
-mul-was c = search needs
-
-add-was : tie.Need-add-was Inv-loop μ-loop
-add-was c = search needs
-
-mul-place : tie.Need-mul-place Inv-loop μ-loop
-mul-place c = search needs
-
-add-place : tie.Need-add-place Inv-loop μ-loop
-add-place c = search needs
-
-mul-if1 : tie.Need-mul-if1 Inv-loop μ-loop
-mul-if1 c = search needs
-
-element-copy-out-if1 : tie.Need-element-copy-out-if1 Inv-loop μ-loop
-element-copy-out-if1 c = search needs
 
 returns : tie.Need-returns Inv-loop μ-loop
 returns c =
@@ -57,23 +30,11 @@ returns c =
     let l = c .before .before .before .before .before .loop in
     fails record { event = l .e; named = omega arith; clash = λ k. omega (arith, k .enough, ap (λ (x : ℕ). at (s .args .counts .now) (16 * x + l .e)) (c .before .before .before .before .before .before .before .wide .ensures), c .before .before .taken .ensures, c .if1 .taken) }
 
-mul-if2 : tie.Need-mul-if2 Inv-loop μ-loop
-mul-if2 c = search needs
-
-element-copy-out-if2 : tie.Need-element-copy-out-if2 Inv-loop μ-loop
-element-copy-out-if2 c = search needs
-
 add-if2 : tie.Need-add-if2 Inv-loop μ-loop
 add-if2 c =
     let s = c .before .before .before .before .before .before .before .before .before in
     let e = c .before .before .before .before .before .before .loop .e in
     omega (arith, s .pre .1 .0 (16 * c .before .before .before .before .before .before .before .wide2 .result + e), s .pre .1 .0 (16 * c .before .before .before .before .before .before .before .before .wide .result + e), c .before .if1 .left)
-
-mul-if2-2 : tie.Need-mul-if2-2 Inv-loop μ-loop
-mul-if2-2 c = search needs
-
-element-copy-out-if2-2 : tie.Need-element-copy-out-if2-2 Inv-loop μ-loop
-element-copy-out-if2-2 c = search needs
 
 add-if2-2 : tie.Need-add-if2-2 Inv-loop μ-loop
 add-if2-2 c =
@@ -88,12 +49,6 @@ returns-2 c =
     let y = ap (λ (x : ℕ). at (s .args .counts .now) (16 * x + l .e)) (c .before .before .before .before .before .before .before .before .before .before .wide .ensures) in
     let z = ap (λ (x : ℕ). at (s .args .counts .now) (16 * x + l .e)) (c .before .before .before .before .before .before .before .before .before .wide2 .ensures) in
     fails record { event = l .e; named = omega arith; clash = λ k. c .if2 .taken (omega (arith, k .same, c .before .before .before .before .before .taken .ensures, c .before .before .before .before .before .before .given .ensures)) }
-
-add-e : tie.Need-add-e Inv-loop μ-loop
-add-e c = search needs
-
-loop-less : tie.Need-loop-less Inv-loop μ-loop
-loop-less c = search needs
 
 loop-again : tie.Need-loop-again Inv-loop μ-loop
 loop-again c =
@@ -110,26 +65,26 @@ kept-spec =
     (tie.spec
     Inv-loop
     μ-loop
-    wide-requires
-    wide-requires-2
+    (λ c κs. search needs)
+    (λ c κs. search needs)
     loop-holds
     given-requires
-    taken-requires
-    mul-was
-    add-was
-    mul-place
-    add-place
-    mul-if1
-    element-copy-out-if1
+    (λ c κs. search needs)
+    (λ c. search needs)
+    (λ c. search needs)
+    (λ c. search needs)
+    (λ c. search needs)
+    (λ c. search needs)
+    (λ c. search needs)
     returns
-    mul-if2
-    element-copy-out-if2
+    (λ c. search needs)
+    (λ c. search needs)
     add-if2
-    mul-if2-2
-    element-copy-out-if2-2
+    (λ c. search needs)
+    (λ c. search needs)
     add-if2-2
     returns-2
-    add-e
-    loop-less
+    (λ c. search needs)
+    (λ c. search needs)
     loop-again
     returns-3)

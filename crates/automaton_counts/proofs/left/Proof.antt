@@ -21,44 +21,17 @@ Inv-loop finals states reached counts end k₀ k = (k ≤ end) × ((j : ℕ) →
 abbrev μ-loop : tie.MeasureT-loop
 μ-loop finals states reached counts end k₀ k = end - k
 
-mul-end : tie.Need-mul-end Inv-loop μ-loop
-mul-end c = search needs
-
 loop-holds : tie.Need-loop-holds Inv-loop μ-loop
 loop-holds c = (omega arith, λ j l. absurd (omega arith))
-
-add-k : tie.Need-add-k Inv-loop μ-loop
-add-k c = search needs
-
-mul-if1 : tie.Need-mul-if1 Inv-loop μ-loop
-mul-if1 c = search needs
-
-element-copy-out-if1 : tie.Need-element-copy-out-if1 Inv-loop μ-loop
-element-copy-out-if1 c = search needs
-
-loop-less : tie.Need-loop-less Inv-loop μ-loop
-loop-less c = search needs
 
 loop-again : tie.Need-loop-again Inv-loop μ-loop
 loop-again c = (omega arith, below-more _ _ (c .before .before .before .loop .inv .1) (λ _ _. c .if1 .taken))
 
-element-copy-out-if2 : tie.Need-element-copy-out-if2 Inv-loop μ-loop
-element-copy-out-if2 c = search needs
-
-loop-less-2 : tie.Need-loop-less-2 Inv-loop μ-loop
-loop-less-2 c = search needs
-
 loop-again-2 : tie.Need-loop-again-2 Inv-loop μ-loop
 loop-again-2 c = (omega arith, below-more _ _ (c .before .before .before .before .before .loop .inv .1) (λ h. absurd (clash (sym h ∙ not-true _ (c .if2 .taken)))))
 
-is-final-requires : tie.Need-is-final-requires Inv-loop μ-loop
-is-final-requires c κs = search needs
-
 returns : tie.Need-returns Inv-loop μ-loop
 returns c a same = holds (left-at a _ _ (c .before .before .before .before .before .before .before .loop .k) (omega arith) (not-false _ (c .before .before .if2 .left)) (final-same a _ same (c .before .before .before .before .before .before .before .loop .k / 16) ∙ sym (c .before .is-final .ensures) ∙ c .if3 .taken) (c .before .before .before .before .if1 .left))
-
-loop-less-3 : tie.Need-loop-less-3 Inv-loop μ-loop
-loop-less-3 c = search needs
 
 loop-again-3 : tie.Need-loop-again-3 Inv-loop μ-loop
 loop-again-3 c = (omega arith, below-more _ _ (c .before .before .before .before .before .before .before .loop .inv .1) (λ _ h. absurd (clash (sym h ∙ sym (c .before .is-final .ensures) ∙ c .if3 .left))))
@@ -72,18 +45,18 @@ left-spec =
     (tie.spec
     Inv-loop
     μ-loop
-    mul-end
+    (λ c. search needs)
     loop-holds
-    add-k
-    mul-if1
-    element-copy-out-if1
-    loop-less
+    (λ c. search needs)
+    (λ c. search needs)
+    (λ c. search needs)
+    (λ c. search needs)
     loop-again
-    element-copy-out-if2
-    loop-less-2
+    (λ c. search needs)
+    (λ c. search needs)
     loop-again-2
-    is-final-requires
+    (λ c κs. search needs)
     returns
-    loop-less-3
+    (λ c. search needs)
     loop-again-3
     returns-2)

@@ -11,17 +11,8 @@ use borrow.Author.Needs.{needs}
 use Rattle.automaton_counts.proofs.pending.Statement.{statement}
 use Rattle.automaton_counts.proofs.pending.Tie as tie
 
-explore-requires : tie.Need-explore-requires
-explore-requires c κs = search needs
-
-keeps-requires : tie.Need-keeps-requires
-keeps-requires c κs = search needs
-
 returns : tie.Need-returns
 returns c = λ ways. broken25 (clash-25 _ _ _ _ (c .before .before .before .before .before .before .before .pre .0) (c .before .before .before .before .before .before .explore .ensures) ways (c .before .keeps .ensures .nay (not-true _ (c .if1 .taken))))
-
-wide-requires : tie.Need-wide-requires
-wide-requires c κs = search needs
 
 left-requires : tie.Need-left-requires
 left-requires c κs = (omega (arith, c .before .before .wide .ensures, c .before .before .before .before .before .before .before .before .before .before .pre .0 .states), λ s r. omega (arith, c .before .before .wide .ensures, c .before .before .before .before .before .before .before .before .before .explore .ensures .known s r .0))
@@ -51,10 +42,10 @@ pub pending-spec : {M : Type 1} → statement M
 pending-spec =
     tie.close
     (tie.spec
-    explore-requires
-    keeps-requires
+    (λ c κs. search needs)
+    (λ c κs. search needs)
     returns
-    wide-requires
+    (λ c κs. search needs)
     left-requires
     returns-2
     crowded-requires

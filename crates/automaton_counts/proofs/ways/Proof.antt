@@ -11,24 +11,12 @@ use borrow.Author.Needs.{needs}
 use Rattle.automaton_counts.proofs.ways.Statement.{statement}
 use Rattle.automaton_counts.proofs.ways.Tie as tie
 
-wide-requires : tie.Need-wide-requires
-wide-requires c κs = search needs
-
-to-final-requires : tie.Need-to-final-requires
-to-final-requires c κs = search needs
-
-first-unmarked-requires : tie.Need-first-unmarked-requires
-first-unmarked-requires c κs = search needs
-
 returns : tie.Need-returns
 returns c =
     let s = c .before .before .before .before in
     let a = s .args .a in
     let e = c .before .first-unmarked .ensures ∙ ap (λ (D : List Bool). lowest (flag D) 0 (c .before .before .before .wide .result)) (c .before .before .to-final .ensures) ∙ ap (lowest (flag (toFinal a)) 0) (c .before .before .before .wide .ensures) in
     way-stops a (now (s .args .emits)) (s .pre .0) (s .pre .1) (c .before .first-unmarked .result) e (omega arith)
-
-pending-requires : tie.Need-pending-requires
-pending-requires c κs = search needs
 
 returns-2 : tie.Need-returns-2
 returns-2 c =
@@ -42,9 +30,9 @@ pub ways-spec : {M : Type 1} → statement M
 ways-spec =
     tie.close
     (tie.spec
-    wide-requires
-    to-final-requires
-    first-unmarked-requires
+    (λ c κs. search needs)
+    (λ c κs. search needs)
+    (λ c κs. search needs)
     returns
-    pending-requires
+    (λ c κs. search needs)
     returns-2)

@@ -9,24 +9,6 @@ use borrow.Author.Needs.{needs}
 use Rattle.automaton_verdict.proofs.apart.Statement.{statement}
 use Rattle.automaton_verdict.proofs.apart.Tie as tie
 
-enum-known-m : tie.Need-enum-known-m
-enum-known-m c = search needs
-
-enum-told : tie.Need-enum-told
-enum-told c = search needs
-
-returns : tie.Need-returns
-returns c = search needs
-
-enum-known-n : tie.Need-enum-known-n
-enum-known-n c = search needs
-
-enum-told-2 : tie.Need-enum-told-2
-enum-told-2 c = search needs
-
-returns-2 : tie.Need-returns-2
-returns-2 c = search needs
-
 returns-3 : tie.Need-returns-3
 returns-3 c =
     let x = c .before .before .before .before .before .before .before .args in
@@ -45,11 +27,11 @@ pub apart-spec : {M : Type 1} → statement M
 apart-spec =
     tie.close
     (tie.spec
-    enum-known-m
-    enum-told
-    returns
-    enum-known-n
-    enum-told-2
-    returns-2
+    (λ c. search needs)
+    (λ c. search needs)
+    (λ c. search needs)
+    (λ c. search needs)
+    (λ c. search needs)
+    (λ c. search needs)
     returns-3
     returns-4)

@@ -16,25 +16,10 @@ Inv-loop m i s a count j₀ j = (j ≤ count) × (count ≤ 256) × (apartFrom m
 abbrev μ-loop : tie.MeasureT-loop
 μ-loop m i s a count j₀ j = count - j
 
-long-requires : tie.Need-long-requires Inv-loop μ-loop
-long-requires c κs = search needs
-
 loop-holds : tie.Need-loop-holds Inv-loop μ-loop
 loop-holds c =
     let x = c .before .args in
     (omega (arith, c .long .ensures), omega (arith, c .long .ensures), ap (λ (n : ℕ). apartFrom (x .m) (rest (x .t2 .moves) (x .i) n) (x .s)) (sym (c .long .ensures)))
-
-mul-t : tie.Need-mul-t Inv-loop μ-loop
-mul-t c = search needs
-
-element-copy-out-t : tie.Need-element-copy-out-t Inv-loop μ-loop
-element-copy-out-t c = search needs
-
-add-j : tie.Need-add-j Inv-loop μ-loop
-add-j c = search needs
-
-loop-less : tie.Need-loop-less Inv-loop μ-loop
-loop-less c = search needs
 
 loop-again : tie.Need-loop-again Inv-loop μ-loop
 loop-again c =
@@ -42,17 +27,11 @@ loop-again c =
     let x = b .before .before .args in
     (omega arith, omega arith, b .loop .inv .2 ∙ scan-other (apart-scans (x .m) (x .s)) (x .t2 .moves) (b .loop .j) (b .before .long .result) (omega arith) (c .if1 .taken))
 
-apart-requires : tie.Need-apart-requires Inv-loop μ-loop
-apart-requires c κs = search needs
-
 returns : tie.Need-returns Inv-loop μ-loop
 returns c =
     let b = c .before .before .before .before .before .before in
     let x = b .before .before .args in
     sym (b .loop .inv .2 ∙ scan-bad (apart-scans (x .m) (x .s)) (x .t2 .moves) (b .loop .j) (b .before .long .result) (omega arith) (c .before .before .if1 .left) (sym (c .before .apart .ensures) ∙ not-true _ (c .if2 .taken)))
-
-loop-less-2 : tie.Need-loop-less-2 Inv-loop μ-loop
-loop-less-2 c = search needs
 
 loop-again-2 : tie.Need-loop-again-2 Inv-loop μ-loop
 loop-again-2 c =
@@ -72,15 +51,15 @@ apart-from-spec =
     (tie.spec
     Inv-loop
     μ-loop
-    long-requires
+    (λ c κs. search needs)
     loop-holds
-    mul-t
-    element-copy-out-t
-    add-j
-    loop-less
+    (λ c. search needs)
+    (λ c. search needs)
+    (λ c. search needs)
+    (λ c. search needs)
     loop-again
-    apart-requires
+    (λ c κs. search needs)
     returns
-    loop-less-2
+    (λ c. search needs)
     loop-again-2
     returns-2)

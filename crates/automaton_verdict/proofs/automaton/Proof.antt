@@ -10,24 +10,12 @@ use borrow.Author.Needs.{needs}
 use Rattle.automaton_verdict.proofs.automaton.Statement.{statement}
 use Rattle.automaton_verdict.proofs.automaton.Tie as tie
 
-state-verdict-requires : tie.Need-state-verdict-requires
-state-verdict-requires c κs = search needs
-
-enum-told : tie.Need-enum-told
-enum-told c = search needs
-
-enum-told-2 : tie.Need-enum-told-2
-enum-told-2 c = search needs
-
 returns : tie.Need-returns
 returns c =
     let b = c .before .before in
     let s = b .before .args in
     let after = wayVerdict (s .a) (gives (now (s .emits))) in
     c .enum-told2 .given .1 ∙ sym (state-then (s .a) (at (s .outcomes)) after ∙ ap (λ (v : Verdict). andThen v after) (sym (b .state-verdict .ensures) ∙ c .enum-told2 .given .1))
-
-ways-requires : tie.Need-ways-requires
-ways-requires c κs = search needs
 
 returns-2 : tie.Need-returns-2
 returns-2 c =
@@ -40,9 +28,9 @@ pub automaton-spec : {M : Type 1} → statement M
 automaton-spec =
     tie.close
     (tie.spec
-    state-verdict-requires
-    enum-told
-    enum-told-2
+    (λ c κs. search needs)
+    (λ c. search needs)
+    (λ c. search needs)
     returns
-    ways-requires
+    (λ c κs. search needs)
     returns-2)

@@ -22,34 +22,16 @@ Inv-loop s a count i₀ i = (i ≤ count) × (count ≤ 256) × (count ≡ a .co
 abbrev μ-loop : tie.MeasureT-loop
 μ-loop s a count i₀ i = count - i
 
-long-requires : tie.Need-long-requires Inv-loop μ-loop
-long-requires c κs = search needs
-
 loop-holds : tie.Need-loop-holds Inv-loop μ-loop
 loop-holds c =
     let x = c .before .args in
     (omega arith, omega (arith, c .long .ensures), c .long .ensures, ap (λ (ts : List Transition). branchesIn ts (x .s)) (ap (part pastMove (x .t1 .moves) 0) (sym (c .long .ensures)) ∙ rest-all (x .t1 .moves) (c .long .result)))
-
-mul-t : tie.Need-mul-t Inv-loop μ-loop
-mul-t c = search needs
-
-element-copy-out-t : tie.Need-element-copy-out-t Inv-loop μ-loop
-element-copy-out-t c = search needs
-
-add-i : tie.Need-add-i Inv-loop μ-loop
-add-i c = search needs
-
-loop-less : tie.Need-loop-less Inv-loop μ-loop
-loop-less c = search needs
 
 loop-again : tie.Need-loop-again Inv-loop μ-loop
 loop-again c =
     let b = c .before .before .before .before in
     let x = b .before .before .args in
     (omega arith, omega arith, b .loop .inv .2, b .loop .inv .3 ∙ scan-other (branches-scans (x .s)) (x .t1 .moves) (b .loop .i) (b .before .long .result) (omega arith) (c .if1 .taken))
-
-apart-from-requires : tie.Need-apart-from-requires Inv-loop μ-loop
-apart-from-requires c κs = search needs
 
 returns : tie.Need-returns Inv-loop μ-loop
 returns c =
@@ -58,9 +40,6 @@ returns c =
     let m = getD (x .t1 .moves) (b .loop .i) pastMove .input in
     let e = ap (λ (n : ℕ). apartFrom m (rest (x .t1 .moves) (b .loop .i + 1) n) (x .s)) (b .loop .inv .2) ∙ sym (c .before .apart-from .ensures) in
     sym (b .loop .inv .3 ∙ scan-bad (branches-scans (x .s)) (x .t1 .moves) (b .loop .i) (b .before .long .result) (omega arith) (c .before .before .if1 .left) (e ∙ not-true _ (c .if2 .taken)))
-
-loop-less-2 : tie.Need-loop-less-2 Inv-loop μ-loop
-loop-less-2 c = search needs
 
 loop-again-2 : tie.Need-loop-again-2 Inv-loop μ-loop
 loop-again-2 c =
@@ -82,15 +61,15 @@ branches-spec =
     (tie.spec
     Inv-loop
     μ-loop
-    long-requires
+    (λ c κs. search needs)
     loop-holds
-    mul-t
-    element-copy-out-t
-    add-i
-    loop-less
+    (λ c. search needs)
+    (λ c. search needs)
+    (λ c. search needs)
+    (λ c. search needs)
     loop-again
-    apart-from-requires
+    (λ c κs. search needs)
     returns
-    loop-less-2
+    (λ c. search needs)
     loop-again-2
     returns-2)

@@ -21,32 +21,17 @@ loop-holds c =
     let x = c .args in
     (omega arith, scan-starts (serves (x .a) (at (x .outcomes))) 0 (x .a .states))
 
-serves-requires : tie.Need-serves-requires Inv-loop μ-loop
-serves-requires c κs = search needs
-
-wide-requires : tie.Need-wide-requires Inv-loop μ-loop
-wide-requires c κs = search needs
-
 returns : tie.Need-returns Inv-loop μ-loop
 returns c =
     let b = c .before .before .before .before in
     let x = b .before .args in
     c .wide .ensures ∙ sym (b .loop .inv .1 ∙ scan-stops (serves (x .a) (at (x .outcomes))) (b .loop .s) (x .a .states) (omega arith) (sym (c .before .before .serves .ensures) ∙ not-true _ (c .before .if1 .taken)))
 
-add-s : tie.Need-add-s Inv-loop μ-loop
-add-s c = search needs
-
-loop-less : tie.Need-loop-less Inv-loop μ-loop
-loop-less c = search needs
-
 loop-again : tie.Need-loop-again Inv-loop μ-loop
 loop-again c =
     let b = c .before .before .before in
     let x = b .before .args in
     (omega arith, b .loop .inv .1 ∙ scan-passes (serves (x .a) (at (x .outcomes))) (b .loop .s) (x .a .states) (omega arith) (sym (c .before .serves .ensures) ∙ not-false _ (c .if1 .left)))
-
-wide-requires-2 : tie.Need-wide-requires-2 Inv-loop μ-loop
-wide-requires-2 c κs = search needs
 
 returns-2 : tie.Need-returns-2 Inv-loop μ-loop
 returns-2 c =
@@ -61,11 +46,11 @@ lowest-missing-spec =
     Inv-loop
     μ-loop
     loop-holds
-    serves-requires
-    wide-requires
+    (λ c κs. search needs)
+    (λ c κs. search needs)
     returns
-    add-s
-    loop-less
+    (λ c. search needs)
+    (λ c. search needs)
     loop-again
-    wide-requires-2
+    (λ c κs. search needs)
     returns-2)

@@ -20,32 +20,17 @@ loop-holds c =
     let x = c .args in
     (omega arith, scan-starts (noWayOut (x .a)) 0 (x .a .states))
 
-no-way-out-requires : tie.Need-no-way-out-requires Inv-loop μ-loop
-no-way-out-requires c κs = search needs
-
-wide-requires : tie.Need-wide-requires Inv-loop μ-loop
-wide-requires c κs = search needs
-
 returns : tie.Need-returns Inv-loop μ-loop
 returns c =
     let b = c .before .before .before .before in
     let x = b .before .args in
     c .wide .ensures ∙ sym (b .loop .inv .1 ∙ scan-stops (noWayOut (x .a)) (b .loop .s) (x .a .states) (omega arith) (sym (c .before .before .no-way-out .ensures) ∙ not-true _ (c .before .if1 .taken)))
 
-add-s : tie.Need-add-s Inv-loop μ-loop
-add-s c = search needs
-
-loop-less : tie.Need-loop-less Inv-loop μ-loop
-loop-less c = search needs
-
 loop-again : tie.Need-loop-again Inv-loop μ-loop
 loop-again c =
     let b = c .before .before .before in
     let x = b .before .args in
     (omega arith, b .loop .inv .1 ∙ scan-passes (noWayOut (x .a)) (b .loop .s) (x .a .states) (omega arith) (sym (c .before .no-way-out .ensures) ∙ not-false _ (c .if1 .left)))
-
-wide-requires-2 : tie.Need-wide-requires-2 Inv-loop μ-loop
-wide-requires-2 c κs = search needs
 
 returns-2 : tie.Need-returns-2 Inv-loop μ-loop
 returns-2 c =
@@ -60,11 +45,11 @@ lowest-way-out-spec =
     Inv-loop
     μ-loop
     loop-holds
-    no-way-out-requires
-    wide-requires
+    (λ c κs. search needs)
+    (λ c κs. search needs)
     returns
-    add-s
-    loop-less
+    (λ c. search needs)
+    (λ c. search needs)
     loop-again
-    wide-requires-2
+    (λ c κs. search needs)
     returns-2)

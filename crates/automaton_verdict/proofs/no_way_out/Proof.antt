@@ -9,24 +9,12 @@ use borrow.Author.Needs.{needs}
 use Rattle.automaton_verdict.proofs.no_way_out.Statement.{statement}
 use Rattle.automaton_verdict.proofs.no_way_out.Tie as tie
 
-wide-requires : tie.Need-wide-requires
-wide-requires c κs = search needs
-
-is-final-requires : tie.Need-is-final-requires
-is-final-requires c κs = search needs
-
 returns : tie.Need-returns
 unfolding noWayOut
 returns c =
     let x = c .before .before .before .args in
     let f = ap (isFinal (x .a)) (sym (c .before .before .wide .ensures)) ∙ sym (c .before .is-final .ensures) ∙ not-true _ (c .if1 .taken) in
     sym (ap (λ (b : Bool). cond b (isEnded (nextOf (x .a) (x .s))) true) f)
-
-next-of-requires : tie.Need-next-of-requires
-next-of-requires c κs = search needs
-
-is-ended-requires : tie.Need-is-ended-requires
-is-ended-requires c κs = search needs
 
 returns-2 : tie.Need-returns-2
 unfolding noWayOut
@@ -38,4 +26,4 @@ returns-2 c =
 pub no-way-out-spec : {M : Type 1} → statement M
 no-way-out-spec =
     tie.close
-    (tie.spec wide-requires is-final-requires returns next-of-requires is-ended-requires returns-2)
+    (tie.spec (λ c κs. search needs) (λ c κs. search needs) returns (λ c κs. search needs) (λ c κs. search needs) returns-2)

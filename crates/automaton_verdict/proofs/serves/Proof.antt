@@ -10,29 +10,11 @@ use borrow.Author.Needs.{needs}
 use Rattle.automaton_verdict.proofs.serves.Statement.{statement}
 use Rattle.automaton_verdict.proofs.serves.Tie as tie
 
-next-of-requires : tie.Need-next-of-requires
-next-of-requires c κs = search needs
-
-enum-told : tie.Need-enum-told
-enum-told c = search needs
-
-enum-told-2 : tie.Need-enum-told-2
-enum-told-2 c = search needs
-
-enum-known-n : tie.Need-enum-known-n
-enum-known-n c = search needs
-
-wide-requires : tie.Need-wide-requires
-wide-requires c κs = search needs
-
 array-read-serves-all : tie.Need-array-read-serves-all
 array-read-serves-all c =
     let b = c .before .before .before .before in
     let n = c .before .before .n .given in
     omega (arith, c .wide .ensures, awaited-low (b .before .args .a) (b .before .pre) (b .before .args .s) (n .0 .0) (sym (b .next-of .ensures) ∙ n .1))
-
-serves-all-requires : tie.Need-serves-all-requires
-serves-all-requires c κs = search needs
 
 returns : tie.Need-returns
 unfolding serves
@@ -58,13 +40,13 @@ pub serves-spec : {M : Type 1} → statement M
 serves-spec =
     tie.close
     (tie.spec
-    next-of-requires
-    enum-told
-    enum-told-2
-    enum-known-n
-    wide-requires
+    (λ c κs. search needs)
+    (λ c. search needs)
+    (λ c. search needs)
+    (λ c. search needs)
+    (λ c κs. search needs)
     array-read-serves-all
-    serves-all-requires
+    (λ c κs. search needs)
     returns
     returns-2
     returns-3)

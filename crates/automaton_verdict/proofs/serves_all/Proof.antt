@@ -22,23 +22,11 @@ loop-holds : tie.Need-loop-holds Inv-loop μ-loop
 unfolding all
 loop-holds c = (omega arith, refl)
 
-chosen-of-requires : tie.Need-chosen-of-requires Inv-loop μ-loop
-chosen-of-requires c κs = search needs
-
-is-move-requires : tie.Need-is-move-requires Inv-loop μ-loop
-is-move-requires c κs = search needs
-
 returns : tie.Need-returns Inv-loop μ-loop
 returns c =
     let b = c .before .before .before .before in
     let x = b .before .args in
     sym (all-stops (λ u. isMove (chosenOf (x .a) (x .s) (x .e) u)) (b .loop .q) (x .n) (omega arith) (sym (c .before .is-move .ensures ∙ ap isMove (c .before .before .chosen-of .ensures)) ∙ not-true _ (c .if1 .taken)))
-
-add-q : tie.Need-add-q Inv-loop μ-loop
-add-q c = search needs
-
-loop-less : tie.Need-loop-less Inv-loop μ-loop
-loop-less c = search needs
 
 loop-again : tie.Need-loop-again Inv-loop μ-loop
 loop-again c =
@@ -60,10 +48,10 @@ serves-all-spec =
     Inv-loop
     μ-loop
     loop-holds
-    chosen-of-requires
-    is-move-requires
+    (λ c κs. search needs)
+    (λ c κs. search needs)
     returns
-    add-q
-    loop-less
+    (λ c. search needs)
+    (λ c. search needs)
     loop-again
     returns-2)

@@ -8,28 +8,16 @@ use borrow.Author.Needs.{needs}
 use Rattle.automaton_verdict.proofs.state_verdict.Statement.{statement}
 use Rattle.automaton_verdict.proofs.state_verdict.Tie as tie
 
-wide-requires : tie.Need-wide-requires
-wide-requires c κs = search needs
-
-lowest-way-out-requires : tie.Need-lowest-way-out-requires
-lowest-way-out-requires c κs = search needs
-
 returns : tie.Need-returns
 returns c =
     let x = c .before .before .before .args in
     sym (state-21 (x .a) (at (x .outcomes)) Verdict.Accepted (c .before .lowest-way-out .result) (c .before .lowest-way-out .ensures) (omega (arith, c .before .before .wide .ensures)))
-
-lowest-branch-requires : tie.Need-lowest-branch-requires
-lowest-branch-requires c κs = search needs
 
 returns-2 : tie.Need-returns-2
 returns-2 c =
     let w = c .before .before .before in
     let x = w .before .before .args in
     sym (state-22 (x .a) (at (x .outcomes)) Verdict.Accepted (w .lowest-way-out .result) (w .lowest-way-out .ensures) (λ l. omega (arith, w .before .wide .ensures)) (c .before .lowest-branch .result) (c .before .lowest-branch .ensures) (omega (arith, w .before .wide .ensures)))
-
-lowest-missing-requires : tie.Need-lowest-missing-requires
-lowest-missing-requires c κs = search needs
 
 returns-3 : tie.Need-returns-3
 returns-3 c =
@@ -49,11 +37,11 @@ pub state-verdict-spec : {M : Type 1} → statement M
 state-verdict-spec =
     tie.close
     (tie.spec
-    wide-requires
-    lowest-way-out-requires
+    (λ c κs. search needs)
+    (λ c κs. search needs)
     returns
-    lowest-branch-requires
+    (λ c κs. search needs)
     returns-2
-    lowest-missing-requires
+    (λ c κs. search needs)
     returns-3
     returns-4)

@@ -22,41 +22,14 @@ abbrev μ-loop : tie.MeasureT-loop
 loop-holds : tie.Need-loop-holds Inv-loop μ-loop
 loop-holds c = (search needs, search needs, refl, (λ after next p. p))
 
-call-at-requires : tie.Need-call-at-requires Inv-loop μ-loop
-call-at-requires c κs = search needs
-
-enum-told : tie.Need-enum-told Inv-loop μ-loop
-enum-told c = search needs
-
-same-length : tie.Need-same-length Inv-loop μ-loop
-same-length c = search needs
-
 returns : tie.Need-returns Inv-loop μ-loop
 returns c = let l = c .before .before .before .before .loop in let a = c .before .before .before .before .before .before .before .args in l .inv .3 _ _ (turn-ends (now (a .input)) (l .at) (l .run) (l .left) (l .left - 1) (omega arith) (sym (c .before .before .call-at .ensures) ∙ c .enum-told .given .1) _ _)
-
-enum-known-read : tie.Need-enum-known-read Inv-loop μ-loop
-enum-known-read c = search needs
-
-call-requires : tie.Need-call-requires Inv-loop μ-loop
-call-requires c κs = search needs
-
-reply-record-requires : tie.Need-reply-record-requires Inv-loop μ-loop
-reply-record-requires c κs = search needs
 
 put-at-requires : tie.Need-put-at-requires Inv-loop μ-loop
 put-at-requires c κs = omega arith
 
-sub-left : tie.Need-sub-left Inv-loop μ-loop
-sub-left c = search needs
-
-loop-less : tie.Need-loop-less Inv-loop μ-loop
-loop-less c = search needs
-
 loop-again : tie.Need-loop-again Inv-loop μ-loop
 loop-again c = let d = c .before .before .before in let m = d .before .before .before in let g = m .before .before in let l = g .before .before .before .before .loop in let a = g .before .before .before .before .before .before .before .args in let e = sym (g .before .before .call-at .ensures) ∙ g .read .given .1 in (call-ahead (now (a .input)) (l .at) _ _ e .1, omega (arith, record-length (d .before .before .reply-record .result), d .put-at .ensures .past, puts-length (d .put-at .ensures)), puts-length (d .put-at .ensures) ∙ l .inv .2, (λ after next p. l .inv .3 after next (turn-goes (now (a .input)) (l .at) (l .run) (l .left) (l .left - 1) (omega arith) _ _ e _ (m .call .ensures) _ (d .before .before .reply-record .ensures) (d .put-at .ensures) p)))
-
-same-length-2 : tie.Need-same-length-2 Inv-loop μ-loop
-same-length-2 c = search needs
 
 returns-2 : tie.Need-returns-2 Inv-loop μ-loop
 returns-2 c = let l = c .before .loop in let a = c .before .before .before .before .args in l .inv .3 _ _ (turn-over (now (a .input)) (l .at) (l .run) (l .left) (omega arith) _ _)
@@ -68,16 +41,16 @@ calls-from-spec =
     Inv-loop
     μ-loop
     loop-holds
-    call-at-requires
-    enum-told
-    same-length
+    (λ c κs. search needs)
+    (λ c. search needs)
+    (λ c. search needs)
     returns
-    enum-known-read
-    call-requires
-    reply-record-requires
+    (λ c. search needs)
+    (λ c κs. search needs)
+    (λ c κs. search needs)
     put-at-requires
-    sub-left
-    loop-less
+    (λ c. search needs)
+    (λ c. search needs)
     loop-again
-    same-length-2
+    (λ c. search needs)
     returns-2)

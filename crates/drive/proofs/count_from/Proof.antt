@@ -18,29 +18,8 @@ Inv-loop input from at₀ count₀ left₀ at count left =
 abbrev μ-loop : tie.MeasureT-loop
 μ-loop input from at₀ count₀ left₀ at count left = left
 
-loop-holds : tie.Need-loop-holds Inv-loop μ-loop
-loop-holds c = search needs
-
-call-at-requires : tie.Need-call-at-requires Inv-loop μ-loop
-call-at-requires c κs = search needs
-
-enum-told : tie.Need-enum-told Inv-loop μ-loop
-enum-told c = search needs
-
 returns : tie.Need-returns Inv-loop μ-loop
 returns c = let l = c .before .before .before .before .loop in let a = c .before .before .before .before .before .before .args in omega (arith, l .inv .2, count-ends (now (a .input)) (l .at) (l .left) (l .left - 1) (omega arith) (sym (c .before .before .call-at .ensures) ∙ c .enum-told .given .1))
-
-enum-known-read : tie.Need-enum-known-read Inv-loop μ-loop
-enum-known-read c = search needs
-
-add-count : tie.Need-add-count Inv-loop μ-loop
-add-count c = search needs
-
-sub-left : tie.Need-sub-left Inv-loop μ-loop
-sub-left c = search needs
-
-loop-less : tie.Need-loop-less Inv-loop μ-loop
-loop-less c = search needs
 
 loop-again : tie.Need-loop-again Inv-loop μ-loop
 loop-again c = let l = c .before .before .before .before .before .loop in let a = c .before .before .before .before .before .before .before .args in let e = sym (c .before .before .before .call-at .ensures) ∙ c .before .read .given .1 in (call-ahead (now (a .input)) (l .at) _ _ e .1, omega arith, omega (arith, l .inv .2, count-goes (now (a .input)) (l .at) (l .left) (l .left - 1) (omega arith) _ _ e))
@@ -54,13 +33,13 @@ count-from-spec =
     (tie.spec
     Inv-loop
     μ-loop
-    loop-holds
-    call-at-requires
-    enum-told
+    (λ c. search needs)
+    (λ c κs. search needs)
+    (λ c. search needs)
     returns
-    enum-known-read
-    add-count
-    sub-left
-    loop-less
+    (λ c. search needs)
+    (λ c. search needs)
+    (λ c. search needs)
+    (λ c. search needs)
     loop-again
     returns-2)

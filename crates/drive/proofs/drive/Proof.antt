@@ -6,23 +6,11 @@ use borrow.Author.Needs.{needs}
 use Rattle.drive.proofs.drive.Statement.{statement}
 use Rattle.drive.proofs.drive.Tie as tie
 
-head-of-requires : tie.Need-head-of-requires
-head-of-requires c κs = search needs
-
-enum-told : tie.Need-enum-told
-enum-told c = search needs
-
-enum-known-head : tie.Need-enum-known-head
-enum-known-head c = search needs
-
 if-they-fit-requires : tie.Need-if-they-fit-requires
 if-they-fit-requires c κs = sym (c .before .before .before .before .head-of .ensures) ∙ c .before .before .head .given .1
 
 returns : tie.Need-returns
 returns c = let a = c .before .before .before .before .before .args in no-opening (now (a .input)) (now (a .out)) (sym (c .before .before .head-of .ensures) ∙ c .enum-told .given .1)
-
-same-length : tie.Need-same-length
-same-length c = search needs
 
 returns-2 : tie.Need-returns-2
 returns-2 c = c .before .before .if-they-fit .ensures
@@ -30,4 +18,4 @@ returns-2 c = c .before .before .if-they-fit .ensures
 pub drive-spec : {M : Type 1} → statement M
 drive-spec =
     tie.close
-    (tie.spec head-of-requires enum-told enum-known-head if-they-fit-requires returns same-length returns-2)
+    (tie.spec (λ c κs. search needs) (λ c. search needs) (λ c. search needs) if-they-fit-requires returns (λ c. search needs) returns-2)

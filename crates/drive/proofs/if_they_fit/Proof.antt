@@ -16,11 +16,8 @@ returns c = let s = c .before .before .before .before in let a = s .args in too-
 opened-and-called-requires : tie.Need-opened-and-called-requires
 opened-and-called-requires c κs = let s = c .before .before .before .before .before in let a = s .args in (s .pre, all-calls (now (a .input)) (now (a .out)) (a .head) (s .pre) _ (c .before .before .count-from .ensures), omega (arith, c .before .if1 .left))
 
-same-length : tie.Need-same-length
-same-length c = search needs
-
 returns-2 : tie.Need-returns-2
 returns-2 c = let s = c .before .before .before .before .before .before .before .before in let a = s .args in all-written (now (a .input)) (now (a .out)) (a .head) (s .pre) _ (c .before .before .before .before .before .count-from .ensures) (c .before .before .before .before .if1 .left) _ _ (c .before .before .opened-and-called .ensures)
 
 pub if-they-fit-spec : {M : Type 1} → statement M
-if-they-fit-spec = tie.close (tie.spec count-from-requires returns opened-and-called-requires same-length returns-2)
+if-they-fit-spec = tie.close (tie.spec count-from-requires returns opened-and-called-requires (λ c. search needs) returns-2)

@@ -11,35 +11,8 @@ use borrow.Author.Needs.{needs}
 use Rattle.drive.proofs.open.Statement.{statement}
 use Rattle.drive.proofs.open.Tie as tie
 
-add-end : tie.Need-add-end
-add-end c = search needs
-
-wide-requires : tie.Need-wide-requires
-wide-requires c κs = search needs
-
-add-availabilities : tie.Need-add-availabilities
-add-availabilities c = search needs
-
-availabilities-requires : tie.Need-availabilities-requires
-availabilities-requires c κs = search needs
-
-sub-open : tie.Need-sub-open
-sub-open c = search needs
-
-part-open-start : tie.Need-part-open-start
-part-open-start c = search needs
-
-part-open-end : tie.Need-part-open-end
-part-open-end c = search needs
-
-array-share-prefix-times : tie.Need-array-share-prefix-times
-array-share-prefix-times c = search needs
-
 slice-aggregate-open : tie.Need-slice-aggregate-open
 slice-aggregate-open c = let l : length (c .before .before .availabilities .result) ≡ 255 = search needs in sym (length-take-le _ _ (omega arith))
-
-open-requires : tie.Need-open-requires
-open-requires c κs = search needs
 
 returns : tie.Need-returns
 returns c = let v = c .before .before .before in let a = v .before .before .before .before .before .before .args in let e : a .head .length + 2 - 2 ≡ a .head .length = omega arith in c .«open» .ensures ∙ ap₂ (λ (p ts : List ℕ). openOf p (a .head .psi) (a .head .slack) ts) (ap (λ (k : ℕ). take k (drop 2 (now (a .input)))) e) (ap (λ (k : ℕ). take k (v .availabilities .result)) (v .before .before .wide .ensures .0) ∙ v .availabilities .ensures)
@@ -48,14 +21,14 @@ pub open-spec : {M : Type 1} → statement M
 open-spec =
     tie.close
     (tie.spec
-    add-end
-    wide-requires
-    add-availabilities
-    availabilities-requires
-    sub-open
-    part-open-start
-    part-open-end
-    array-share-prefix-times
+    (λ c. search needs)
+    (λ c κs. search needs)
+    (λ c. search needs)
+    (λ c κs. search needs)
+    (λ c. search needs)
+    (λ c. search needs)
+    (λ c. search needs)
+    (λ c. search needs)
     slice-aggregate-open
-    open-requires
+    (λ c κs. search needs)
     returns)

@@ -11,17 +11,8 @@ use Rattle.drive.proofs.opened_and_called.Tie as tie
 open-requires : tie.Need-open-requires
 open-requires c κs = let a = c .before .before .args in whole-fits (now (a .input)) (a .head) (c .before .before .pre .0)
 
-opening-record-requires : tie.Need-opening-record-requires
-opening-record-requires c κs = search needs
-
-put-at-requires : tie.Need-put-at-requires
-put-at-requires c κs = search needs
-
 calls-from-requires : tie.Need-calls-from-requires
 calls-from-requires c κs = let m = c .before .before .before .before in let s = m .before .before .before .before .before .before in let a = s .args in (whole-calls (now (a .input)) (a .head) (s .pre .0), omega (arith, s .pre .2, record-length (m .before .before .opening-record .result), m .put-at .ensures .past, puts-length (m .put-at .ensures)))
-
-same-length : tie.Need-same-length
-same-length c = search needs
 
 returns : tie.Need-returns
 returns c = let m = c .before .before .before .before .before .before .before in let s = m .before .before .before .before .before .before in let a = s .args in opens (now (a .input)) (a .head) (s .pre .0) (a .calls) (s .pre .1) _ (m .before .before .before .«open» .ensures) _ (m .before .before .opening-record .ensures) (m .put-at .ensures) (c .before .before .calls-from .ensures)
@@ -31,8 +22,8 @@ opened-and-called-spec =
     tie.close
     (tie.spec
     open-requires
-    opening-record-requires
-    put-at-requires
+    (λ c κs. search needs)
+    (λ c κs. search needs)
     calls-from-requires
-    same-length
+    (λ c. search needs)
     returns)

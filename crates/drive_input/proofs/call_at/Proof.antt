@@ -10,23 +10,11 @@ use Rattle.drive_input.proofs.call_at.Tie as tie
 returns : tie.Need-returns
 returns c = let a = c .before .before .args in no-call (now (a .input)) (a .at) (omega arith)
 
-shared-slice-read-kind : tie.Need-shared-slice-read-kind
-shared-slice-read-kind c = search needs
-
-ask-at-requires : tie.Need-ask-at-requires
-ask-at-requires c κs = search needs
-
 returns-2 : tie.Need-returns-2
 returns-2 c = let a = c .before .before .before .before .before .args in c .ask-at .ensures ∙ is-ask (now (a .input)) (a .at) (omega arith) (c .before .if2 .taken)
 
-completion-at-requires : tie.Need-completion-at-requires
-completion-at-requires c κs = search needs
-
 returns-3 : tie.Need-returns-3
 returns-3 c = let a = c .before .before .before .before .before .before .args in c .completion-at .ensures ∙ is-completion (now (a .input)) (a .at) (omega arith) (c .before .if3 .taken)
-
-outcome-at-requires : tie.Need-outcome-at-requires
-outcome-at-requires c κs = search needs
 
 returns-4 : tie.Need-returns-4
 returns-4 c = let a = c .before .before .before .before .before .before .before .args in c .outcome-at .ensures ∙ is-outcome (now (a .input)) (a .at) (omega arith) (c .before .if4 .taken)
@@ -39,11 +27,11 @@ call-at-spec =
     tie.close
     (tie.spec
     returns
-    shared-slice-read-kind
-    ask-at-requires
+    (λ c. search needs)
+    (λ c κs. search needs)
     returns-2
-    completion-at-requires
+    (λ c κs. search needs)
     returns-3
-    outcome-at-requires
+    (λ c κs. search needs)
     returns-4
     returns-5)

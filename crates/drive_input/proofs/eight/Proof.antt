@@ -7,15 +7,6 @@ use borrow.Author.Needs.{needs}
 use Rattle.drive_input.proofs.eight.Statement.{statement}
 use Rattle.drive_input.proofs.eight.Tie as tie
 
-wide-at-requires : tie.Need-wide-at-requires
-wide-at-requires c κs = search needs
-
-enum-known-f : tie.Need-enum-known-f
-enum-known-f c = search needs
-
-enum-told : tie.Need-enum-told
-enum-told c = search needs
-
 returns : tie.Need-returns
 returns c = let a = c .before .before .before .before .before .args in eight-is (now (a .input)) (a .at) _ (sym (c .before .before .before .wide-at .ensures) ∙ c .before .f .given .1)
 
@@ -23,4 +14,4 @@ returns-2 : tie.Need-returns-2
 returns-2 c = let a = c .before .before .before .before .args in absurd (eight-there (now (a .input)) (a .at) (sym (c .before .before .wide-at .ensures) ∙ c .enum-told .given .1) (omega arith))
 
 pub eight-spec : {M : Type 1} → statement M
-eight-spec = tie.close (tie.spec wide-at-requires enum-known-f enum-told returns returns-2)
+eight-spec = tie.close (tie.spec (λ c κs. search needs) (λ c. search needs) (λ c. search needs) returns returns-2)

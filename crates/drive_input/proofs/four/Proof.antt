@@ -7,15 +7,6 @@ use borrow.Author.Needs.{needs}
 use Rattle.drive_input.proofs.four.Statement.{statement}
 use Rattle.drive_input.proofs.four.Tie as tie
 
-long-at-requires : tie.Need-long-at-requires
-long-at-requires c κs = search needs
-
-enum-known-f : tie.Need-enum-known-f
-enum-known-f c = search needs
-
-enum-told : tie.Need-enum-told
-enum-told c = search needs
-
 returns : tie.Need-returns
 returns c = let a = c .before .before .before .before .before .args in four-is (now (a .input)) (a .at) _ (sym (c .before .before .before .long-at .ensures) ∙ c .before .f .given .1)
 
@@ -23,4 +14,4 @@ returns-2 : tie.Need-returns-2
 returns-2 c = let a = c .before .before .before .before .args in absurd (four-there (now (a .input)) (a .at) (sym (c .before .before .long-at .ensures) ∙ c .enum-told .given .1) (omega arith))
 
 pub four-spec : {M : Type 1} → statement M
-four-spec = tie.close (tie.spec long-at-requires enum-known-f enum-told returns returns-2)
+four-spec = tie.close (tie.spec (λ c κs. search needs) (λ c. search needs) (λ c. search needs) returns returns-2)

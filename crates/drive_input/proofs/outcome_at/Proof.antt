@@ -6,38 +6,8 @@ use borrow.Author.Needs.{needs}
 use Rattle.drive_input.proofs.outcome_at.Statement.{statement}
 use Rattle.drive_input.proofs.outcome_at.Tie as tie
 
-sub-if1 : tie.Need-sub-if1
-sub-if1 c = search needs
-
 returns : tie.Need-returns
 returns c = let a = c .before .before .args in outcome-cut (now (a .input)) (a .at) (omega arith)
-
-add-eight : tie.Need-add-eight
-add-eight c = search needs
-
-eight-requires : tie.Need-eight-requires
-eight-requires c κs = search needs
-
-add-four : tie.Need-add-four
-add-four c = search needs
-
-four-requires : tie.Need-four-requires
-four-requires c κs = search needs
-
-add-place : tie.Need-add-place
-add-place c = search needs
-
-add-next : tie.Need-add-next
-add-next c = search needs
-
-shared-slice-read-node : tie.Need-shared-slice-read-node
-shared-slice-read-node c = search needs
-
-shared-slice-read-outcome : tie.Need-shared-slice-read-outcome
-shared-slice-read-outcome c = search needs
-
-add-t9 : tie.Need-add-t9
-add-t9 c = search needs
 
 returns-2 : tie.Need-returns-2
 returns-2 c = let a = c .before .before .before .before .before .before .args in outcome-there (now (a .input)) (a .at) _ (c .before .before .before .eight .ensures) _ (c .before .before .four .ensures) (omega arith)
@@ -46,15 +16,15 @@ pub outcome-at-spec : {M : Type 1} → statement M
 outcome-at-spec =
     tie.close
     (tie.spec
-    sub-if1
+    (λ c. search needs)
     returns
-    add-eight
-    eight-requires
-    add-four
-    four-requires
-    add-place
-    add-next
-    shared-slice-read-node
-    shared-slice-read-outcome
-    add-t9
+    (λ c. search needs)
+    (λ c κs. search needs)
+    (λ c. search needs)
+    (λ c κs. search needs)
+    (λ c. search needs)
+    (λ c. search needs)
+    (λ c. search needs)
+    (λ c. search needs)
+    (λ c. search needs)
     returns-2)

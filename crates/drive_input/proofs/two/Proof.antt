@@ -7,18 +7,6 @@ use borrow.Author.Needs.{needs}
 use Rattle.drive_input.proofs.two.Statement.{statement}
 use Rattle.drive_input.proofs.two.Tie as tie
 
-short-at-requires : tie.Need-short-at-requires
-short-at-requires c κs = search needs
-
-enum-known-f : tie.Need-enum-known-f
-enum-known-f c = search needs
-
-cast-result : tie.Need-cast-result
-cast-result c = search needs
-
-enum-told : tie.Need-enum-told
-enum-told c = search needs
-
 returns : tie.Need-returns
 returns c = (let a = c .before .before .before .before .before .args in two-is (now (a .input)) (a .at) _ (sym (c .before .before .before .short-at .ensures) ∙ c .before .f .given .1), search needs)
 
@@ -27,4 +15,4 @@ returns-2 c = let a = c .before .before .before .before .args in absurd (two-the
 
 pub two-spec : {M : Type 1} → statement M
 two-spec =
-    tie.close (tie.spec short-at-requires enum-known-f cast-result enum-told returns returns-2)
+    tie.close (tie.spec (λ c κs. search needs) (λ c. search needs) (λ c. search needs) (λ c. search needs) returns returns-2)

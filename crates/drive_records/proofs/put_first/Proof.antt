@@ -5,30 +5,6 @@ use borrow.Author.Needs.{needs}
 use Rattle.drive_records.proofs.put_first.Statement.{statement}
 use Rattle.drive_records.proofs.put_first.Tie as tie
 
-put-byte-requires : tie.Need-put-byte-requires
-put-byte-requires c κs = search needs
-
-put-byte-requires-2 : tie.Need-put-byte-requires-2
-put-byte-requires-2 c κs = search needs
-
-put-byte-requires-3 : tie.Need-put-byte-requires-3
-put-byte-requires-3 c κs = search needs
-
-put-byte-requires-4 : tie.Need-put-byte-requires-4
-put-byte-requires-4 c κs = search needs
-
-cast-put-number : tie.Need-cast-put-number
-cast-put-number c = search needs
-
-put-number-requires : tie.Need-put-number-requires
-put-number-requires c κs = search needs
-
-put-number-requires-2 : tie.Need-put-number-requires-2
-put-number-requires-2 c κs = search needs
-
-same-length : tie.Need-same-length
-same-length c = search needs
-
 returns : tie.Need-returns
 unfolding recordBytes
 returns c = let p = c .before .before in let q = p .before .before .before .before in let r = q .before .before .before .before .before in let s = r .before .before .before .before in let t = s .before .before .before .before in let u = t .before .before .before .before in puts-join (u .put-byte .ensures) (puts-join (t .put-byte2 .ensures) (puts-join (s .put-byte3 .ensures) (puts-join (r .put-byte4 .ensures) (puts-join (q .put-number .ensures) (p .put-number2 .ensures)))))
@@ -37,12 +13,12 @@ pub put-first-spec : {M : Type 1} → statement M
 put-first-spec =
     tie.close
     (tie.spec
-    put-byte-requires
-    put-byte-requires-2
-    put-byte-requires-3
-    put-byte-requires-4
-    cast-put-number
-    put-number-requires
-    put-number-requires-2
-    same-length
+    (λ c κs. search needs)
+    (λ c κs. search needs)
+    (λ c κs. search needs)
+    (λ c κs. search needs)
+    (λ c. search needs)
+    (λ c κs. search needs)
+    (λ c κs. search needs)
+    (λ c. search needs)
     returns)

@@ -6,42 +6,6 @@ use borrow.Author.Needs.{needs}
 use Rattle.drive_records.proofs.reply_record.Statement.{statement}
 use Rattle.drive_records.proofs.reply_record.Tie as tie
 
-enum-known-reply : tie.Need-enum-known-reply
-enum-known-reply c = search needs
-
-enum-told : tie.Need-enum-told
-enum-told c = search needs
-
-bare-requires : tie.Need-bare-requires
-bare-requires c κs = search needs
-
-enum-told-2 : tie.Need-enum-told-2
-enum-told-2 c = search needs
-
-bare-requires-2 : tie.Need-bare-requires-2
-bare-requires-2 c κs = search needs
-
-enum-told-3 : tie.Need-enum-told-3
-enum-told-3 c = search needs
-
-bare-requires-3 : tie.Need-bare-requires-3
-bare-requires-3 c κs = search needs
-
-enum-known-reply-2 : tie.Need-enum-known-reply-2
-enum-known-reply-2 c = search needs
-
-refusal-number-requires : tie.Need-refusal-number-requires
-refusal-number-requires c κs = search needs
-
-bare-requires-4 : tie.Need-bare-requires-4
-bare-requires-4 c κs = search needs
-
-enum-known-reply-3 : tie.Need-enum-known-reply-3
-enum-known-reply-3 c = search needs
-
-stop-record-requires : tie.Need-stop-record-requires
-stop-record-requires c κs = search needs
-
 returns : tie.Need-returns
 unfolding replyRecord
 returns c = rw (c .before .reply .given .1)
@@ -70,18 +34,18 @@ pub reply-record-spec : {M : Type 1} → statement M
 reply-record-spec =
     tie.close
     (tie.spec
-    enum-known-reply
-    enum-told
-    bare-requires
-    enum-told-2
-    bare-requires-2
-    enum-told-3
-    bare-requires-3
-    enum-known-reply-2
-    refusal-number-requires
-    bare-requires-4
-    enum-known-reply-3
-    stop-record-requires
+    (λ c. search needs)
+    (λ c. search needs)
+    (λ c κs. search needs)
+    (λ c. search needs)
+    (λ c κs. search needs)
+    (λ c. search needs)
+    (λ c κs. search needs)
+    (λ c. search needs)
+    (λ c κs. search needs)
+    (λ c κs. search needs)
+    (λ c. search needs)
+    (λ c κs. search needs)
     returns
     returns-2
     returns-3

@@ -4,24 +4,6 @@ use borrow.Author.Needs.{needs}
 use Rattle.drive_records.proofs.stop_record.Statement.{statement}
 use Rattle.drive_records.proofs.stop_record.Tie as tie
 
-enum-known-s : tie.Need-enum-known-s
-enum-known-s c = search needs
-
-enum-known-s-2 : tie.Need-enum-known-s-2
-enum-known-s-2 c = search needs
-
-enum-told : tie.Need-enum-told
-enum-told c = search needs
-
-bare-requires : tie.Need-bare-requires
-bare-requires c κs = search needs
-
-enum-told-2 : tie.Need-enum-told-2
-enum-told-2 c = search needs
-
-bare-requires-2 : tie.Need-bare-requires-2
-bare-requires-2 c κs = search needs
-
 returns : tie.Need-returns
 unfolding stopRecord
 returns c = rw (c .before .s .given .1)
@@ -42,12 +24,12 @@ pub stop-record-spec : {M : Type 1} → statement M
 stop-record-spec =
     tie.close
     (tie.spec
-    enum-known-s
-    enum-known-s-2
-    enum-told
-    bare-requires
-    enum-told-2
-    bare-requires-2
+    (λ c. search needs)
+    (λ c. search needs)
+    (λ c. search needs)
+    (λ c κs. search needs)
+    (λ c. search needs)
+    (λ c κs. search needs)
     returns
     returns-2
     returns-3

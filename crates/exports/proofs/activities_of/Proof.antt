@@ -4,14 +4,8 @@ use borrow.Author.Needs.{needs}
 use Rattle.exports.proofs.activities_of.Statement.{statement}
 use Rattle.exports.proofs.activities_of.Tie as tie
 
-activities-requires : tie.Need-activities-requires
-activities-requires c κs = search needs
-
-code-requires : tie.Need-code-requires
-code-requires c κs = search needs
-
 returns : tie.Need-returns
 returns c = c .code .ensures ∙ ap codeOf (c .before .activities .ensures)
 
 pub activities-of-spec : {M : Type 1} → statement M
-activities-of-spec = tie.close (tie.spec activities-requires code-requires returns)
+activities-of-spec = tie.close (tie.spec (λ c κs. search needs) (λ c κs. search needs) returns)

@@ -4,20 +4,8 @@ use borrow.Author.Needs.{needs}
 use Rattle.exports.proofs.code.Statement.{statement}
 use Rattle.exports.proofs.code.Tie as tie
 
-enum-told : tie.Need-enum-told
-enum-told c = search needs
-
-enum-known-v : tie.Need-enum-known-v
-enum-known-v c = search needs
-
-number-requires : tie.Need-number-requires
-number-requires c κs = search needs
-
 mul-result : tie.Need-mul-result
 mul-result c = omega (arith, c .number .ensures .1)
-
-short-place-requires : tie.Need-short-place-requires
-short-place-requires c κs = search needs
 
 add-result : tie.Need-add-result
 add-result c = omega (arith, c .before .number .ensures .1, c .short-place .ensures)
@@ -34,11 +22,11 @@ pub code-spec : {M : Type 1} → statement M
 code-spec =
     tie.close
     (tie.spec
-    enum-told
-    enum-known-v
-    number-requires
+    (λ c. search needs)
+    (λ c. search needs)
+    (λ c κs. search needs)
     mul-result
-    short-place-requires
+    (λ c κs. search needs)
     add-result
     returns
     returns-2)

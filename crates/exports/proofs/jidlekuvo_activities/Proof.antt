@@ -6,18 +6,6 @@ use borrow.Author.Needs.{needs}
 use Rattle.exports.proofs.jidlekuvo_activities.Statement.{statement}
 use Rattle.exports.proofs.jidlekuvo_activities.Tie as tie
 
-read-requires : tie.Need-read-requires
-read-requires c κs = search needs
-
-enum-known-v : tie.Need-enum-known-v
-enum-known-v c = search needs
-
-code-requires : tie.Need-code-requires
-code-requires c κs = search needs
-
-enum-told : tie.Need-enum-told
-enum-told c = search needs
-
 activities-of-requires : tie.Need-activities-of-requires
 activities-of-requires c κs =
     read-limits (now (c .before .before .before .before .before .args .bytes))
@@ -36,10 +24,10 @@ pub jidlekuvo-activities-spec : {M : Type 1} → statement M
 jidlekuvo-activities-spec =
     tie.close
     (tie.spec
-    read-requires
-    enum-known-v
-    code-requires
-    enum-told
+    (λ c κs. search needs)
+    (λ c. search needs)
+    (λ c κs. search needs)
+    (λ c. search needs)
     activities-of-requires
     returns
     returns-2)

@@ -4,18 +4,9 @@ use borrow.Author.Needs.{needs}
 use Rattle.exports.proofs.jidlekuvo_drive.Statement.{statement}
 use Rattle.exports.proofs.jidlekuvo_drive.Tie as tie
 
-drive-requires : tie.Need-drive-requires
-drive-requires c κs = search needs
-
-recorded-code-requires : tie.Need-recorded-code-requires
-recorded-code-requires c κs = search needs
-
-same-length : tie.Need-same-length
-same-length c = search needs
-
 returns : tie.Need-returns
 returns c = let d = c .before .before .before .drive in (c .recorded-code .ensures ∙ ap recordedCode (d .ensures .0), d .ensures .1)
 
 pub jidlekuvo-drive-spec : {M : Type 1} → statement M
 jidlekuvo-drive-spec =
-    tie.close (tie.spec drive-requires recorded-code-requires same-length returns)
+    tie.close (tie.spec (λ c κs. search needs) (λ c κs. search needs) (λ c. search needs) returns)

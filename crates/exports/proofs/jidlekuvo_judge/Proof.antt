@@ -4,14 +4,8 @@ use borrow.Author.Needs.{needs}
 use Rattle.exports.proofs.jidlekuvo_judge.Statement.{statement}
 use Rattle.exports.proofs.jidlekuvo_judge.Tie as tie
 
-verdict-requires : tie.Need-verdict-requires
-verdict-requires c κs = search needs
-
-code-requires : tie.Need-code-requires
-code-requires c κs = search needs
-
 returns : tie.Need-returns
 returns c = c .code .ensures ∙ ap codeOf (c .before .verdict .ensures)
 
 pub jidlekuvo-judge-spec : {M : Type 1} → statement M
-jidlekuvo-judge-spec = tie.close (tie.spec verdict-requires code-requires returns)
+jidlekuvo-judge-spec = tie.close (tie.spec (λ c κs. search needs) (λ c κs. search needs) returns)

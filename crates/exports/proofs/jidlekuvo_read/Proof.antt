@@ -5,14 +5,8 @@ use borrow.Author.Needs.{needs}
 use Rattle.exports.proofs.jidlekuvo_read.Statement.{statement}
 use Rattle.exports.proofs.jidlekuvo_read.Tie as tie
 
-read-requires : tie.Need-read-requires
-read-requires c κs = search needs
-
-code-requires : tie.Need-code-requires
-code-requires c κs = search needs
-
 returns : tie.Need-returns
 returns c = c .code .ensures ∙ ap (λ (r : PlanRead). codeOf (r .verdict)) (c .before .read .ensures)
 
 pub jidlekuvo-read-spec : {M : Type 1} → statement M
-jidlekuvo-read-spec = tie.close (tie.spec read-requires code-requires returns)
+jidlekuvo-read-spec = tie.close (tie.spec (λ c κs. search needs) (λ c κs. search needs) returns)

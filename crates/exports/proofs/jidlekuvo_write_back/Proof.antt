@@ -4,33 +4,12 @@ use borrow.Author.Needs.{needs}
 use Rattle.exports.proofs.jidlekuvo_write_back.Statement.{statement}
 use Rattle.exports.proofs.jidlekuvo_write_back.Tie as tie
 
-read-requires : tie.Need-read-requires
-read-requires c κs = search needs
-
-enum-known-v : tie.Need-enum-known-v
-enum-known-v c = search needs
-
-code-requires : tie.Need-code-requires
-code-requires c κs = search needs
-
-enum-told : tie.Need-enum-told
-enum-told c = search needs
-
-write-requires : tie.Need-write-requires
-write-requires c κs = search needs
-
-written-code-requires : tie.Need-written-code-requires
-written-code-requires c κs = search needs
-
 returns : tie.Need-returns
 unfolding backCode backBuffer
 returns c = (
   rw (← c .before .before .before .before .read .ensures, c .before .before .v .given .1) (c .code .ensures),
   rw (← c .before .before .before .before .read .ensures, c .before .before .v .given .1),
 )
-
-same-length : tie.Need-same-length
-same-length c = search needs
 
 returns-2 : tie.Need-returns-2
 unfolding backCode backBuffer
@@ -44,12 +23,12 @@ pub jidlekuvo-write-back-spec : {M : Type 1} → statement M
 jidlekuvo-write-back-spec =
     tie.close
     (tie.spec
-    read-requires
-    enum-known-v
-    code-requires
-    enum-told
-    write-requires
-    written-code-requires
+    (λ c κs. search needs)
+    (λ c. search needs)
+    (λ c κs. search needs)
+    (λ c. search needs)
+    (λ c κs. search needs)
+    (λ c κs. search needs)
     returns
-    same-length
+    (λ c. search needs)
     returns-2)

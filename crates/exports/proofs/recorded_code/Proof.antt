@@ -10,12 +10,6 @@ short : (w : NotRecorded) → 154_618_822_656 ≡ recordedCode (Recorded.Refused
 unfolding recordedCode
 short NotRecorded.TooShort = refl
 
-enum-known-r : tie.Need-enum-known-r
-enum-known-r c = search needs
-
-enum-known-r-2 : tie.Need-enum-known-r-2
-enum-known-r-2 c = search needs
-
 returns : tie.Need-returns
 unfolding recordedCode
 returns c = rw (c .before .r .given .1)
@@ -24,4 +18,4 @@ returns-2 : tie.Need-returns-2
 returns-2 c = rw (c .before .r2 .given .1) (short _)
 
 pub recorded-code-spec : {M : Type 1} → statement M
-recorded-code-spec = tie.close (tie.spec enum-known-r enum-known-r-2 returns returns-2)
+recorded-code-spec = tie.close (tie.spec (λ c. search needs) (λ c. search needs) returns returns-2)

@@ -3,18 +3,6 @@ use borrow.Author.Needs.{needs}
 use Rattle.exports.proofs.written_code.Statement.{statement}
 use Rattle.exports.proofs.written_code.Tie as tie
 
-enum-known-w : tie.Need-enum-known-w
-enum-known-w c = search needs
-
-enum-known-w-2 : tie.Need-enum-known-w-2
-enum-known-w-2 c = search needs
-
-enum-told : tie.Need-enum-told
-enum-told c = search needs
-
-enum-told-2 : tie.Need-enum-told-2
-enum-told-2 c = search needs
-
 returns : tie.Need-returns
 unfolding writtenCode
 returns c = rw (c .before .w .given .1)
@@ -30,4 +18,4 @@ returns-3 c = rw (c .before .before .before .w2 .given .1, c .enum-told2 .given 
 pub written-code-spec : {M : Type 1} → statement M
 written-code-spec =
     tie.close
-    (tie.spec enum-known-w enum-known-w-2 enum-told enum-told-2 returns returns-2 returns-3)
+    (tie.spec (λ c. search needs) (λ c. search needs) (λ c. search needs) (λ c. search needs) returns returns-2 returns-3)

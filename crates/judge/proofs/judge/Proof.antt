@@ -10,31 +10,10 @@ use borrow.Author.Needs.{needs}
 use Rattle.judge.proofs.judge.Statement.{statement}
 use Rattle.judge.proofs.judge.Tie as tie
 
-read-requires : tie.Need-read-requires
-read-requires c κs = search needs
-
-enum-known-v : tie.Need-enum-known-v
-enum-known-v c = search needs
-
-no-plan-requires : tie.Need-no-plan-requires
-no-plan-requires c κs = search needs
-
-enum-told : tie.Need-enum-told
-enum-told c = search needs
-
 plan-verdict-requires : tie.Need-plan-verdict-requires
 plan-verdict-requires c κs =
     read-limits (now (c .before .before .before .before .before .args .bytes)) (λ k. omega (arith, c .before .before .before .before .shared-slice-known .given k))
     (c .before .before .before .read .result) (c .before .before .before .read .ensures) (c .before .enum-told .given .1)
-
-enum-known-w : tie.Need-enum-known-w
-enum-known-w c = search needs
-
-no-plan-requires-2 : tie.Need-no-plan-requires-2
-no-plan-requires-2 c κs = search needs
-
-enum-told-2 : tie.Need-enum-told-2
-enum-told-2 c = search needs
 
 returns : tie.Need-returns
 unfolding judgeOf
@@ -58,14 +37,14 @@ pub judge-spec : {M : Type 1} → statement M
 judge-spec =
     tie.close
     (tie.spec
-    read-requires
-    enum-known-v
-    no-plan-requires
-    enum-told
+    (λ c κs. search needs)
+    (λ c. search needs)
+    (λ c κs. search needs)
+    (λ c. search needs)
     plan-verdict-requires
-    enum-known-w
-    no-plan-requires-2
-    enum-told-2
+    (λ c. search needs)
+    (λ c κs. search needs)
+    (λ c. search needs)
     returns
     returns-2
     returns-3)

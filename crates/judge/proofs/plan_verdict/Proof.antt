@@ -9,22 +9,10 @@ use borrow.Author.Needs.{needs}
 use Rattle.judge.proofs.plan_verdict.Statement.{statement}
 use Rattle.judge.proofs.plan_verdict.Tie as tie
 
-activities-requires : tie.Need-activities-requires
-activities-requires c κs = search needs
-
-enum-told : tie.Need-enum-told
-enum-told c = search needs
-
-enum-told-2 : tie.Need-enum-told-2
-enum-told-2 c = search needs
-
 returns : tie.Need-returns
 returns c =
     let p = c .before .before .before .args .plan in
     c .enum-told2 .given .1 ∙ sym (ap (λ (v : Verdict). onVerdict v (automatonVerdict p) Verdict.Refused) (sym (c .before .before .activities .ensures) ∙ c .enum-told2 .given .1))
-
-emissions-requires : tie.Need-emissions-requires
-emissions-requires c κs = search needs
 
 automaton-requires : tie.Need-automaton-requires
 automaton-requires c κs = (in-range _ (c .before .before .before .before .before .before .before .pre), c .before .before .before .emissions .ensures .few)
@@ -38,10 +26,10 @@ pub plan-verdict-spec : {M : Type 1} → statement M
 plan-verdict-spec =
     tie.close
     (tie.spec
-    activities-requires
-    enum-told
-    enum-told-2
+    (λ c κs. search needs)
+    (λ c. search needs)
+    (λ c. search needs)
     returns
-    emissions-requires
+    (λ c κs. search needs)
     automaton-requires
     returns-2)

@@ -9,15 +9,6 @@ use borrow.Author.Needs.{needs}
 use Rattle.judge.proofs.verdict.Statement.{statement}
 use Rattle.judge.proofs.verdict.Tie as tie
 
-read-requires : tie.Need-read-requires
-read-requires c κs = search needs
-
-enum-told : tie.Need-enum-told
-enum-told c = search needs
-
-enum-told-2 : tie.Need-enum-told-2
-enum-told-2 c = search needs
-
 returns : tie.Need-returns
 unfolding judgeOf
 returns c = rw (← c .before .before .read .ensures, c .enum-told2 .given .1)
@@ -34,4 +25,4 @@ returns-2 c = rw (← c .before .before .before .before .read .ensures, c .befor
 pub verdict-spec : {M : Type 1} → statement M
 verdict-spec =
     tie.close
-    (tie.spec read-requires enum-told enum-told-2 returns plan-verdict-requires returns-2)
+    (tie.spec (λ c κs. search needs) (λ c. search needs) (λ c. search needs) returns plan-verdict-requires returns-2)

@@ -11,35 +11,8 @@ use Rattle.made_up.proofs.answer.Tie as tie
 returns : tie.Need-returns
 returns c = let a = c .before .before .before .args in too-short (now (a .bytes)) (now (a .out)) (c .if1 .taken)
 
-run-of-requires : tie.Need-run-of-requires
-run-of-requires c κs = search needs
-
-call-at-requires : tie.Need-call-at-requires
-call-at-requires c κs = search needs
-
-call-requires : tie.Need-call-requires
-call-requires c κs = search needs
-
-reply-record-requires : tie.Need-reply-record-requires
-reply-record-requires c κs = search needs
-
-put-at-requires : tie.Need-put-at-requires
-put-at-requires c κs = search needs
-
-call-at-requires-2 : tie.Need-call-at-requires-2
-call-at-requires-2 c κs = search needs
-
-call-requires-2 : tie.Need-call-requires-2
-call-requires-2 c κs = search needs
-
-reply-record-requires-2 : tie.Need-reply-record-requires-2
-reply-record-requires-2 c κs = search needs
-
 put-at-requires-2 : tie.Need-put-at-requires-2
 put-at-requires-2 c κs = let p = c .before .before .before .before .before .before .before in omega (arith, record-length (p .before .reply-record .result), p .put-at .ensures .past, puts-length (p .put-at .ensures))
-
-same-length : tie.Need-same-length
-same-length c = search needs
 
 returns-2 : tie.Need-returns-2
 returns-2 c = let q = c .before .before in let d = q .before .before .before in let p = d .before .before .before .before .before in let e = p .before .before .before in let a = e .before .before .before .before .before .before .args in both-written (now (a .bytes)) (now (a .out)) (omega arith) _ (e .before .before .run-of .ensures) _ _ (e .before .call-at .ensures) (d .before .call-at2 .ensures) _ _ (e .call .ensures) (d .call2 .ensures) _ _ (p .before .reply-record .ensures) (q .before .reply-record2 .ensures) (p .put-at .ensures) (q .put-at2 .ensures)
@@ -49,14 +22,14 @@ answer-spec =
     tie.close
     (tie.spec
     returns
-    run-of-requires
-    call-at-requires
-    call-requires
-    reply-record-requires
-    put-at-requires
-    call-at-requires-2
-    call-requires-2
-    reply-record-requires-2
+    (λ c κs. search needs)
+    (λ c κs. search needs)
+    (λ c κs. search needs)
+    (λ c κs. search needs)
+    (λ c κs. search needs)
+    (λ c κs. search needs)
+    (λ c κs. search needs)
+    (λ c κs. search needs)
     put-at-requires-2
-    same-length
+    (λ c. search needs)
     returns-2)

@@ -4,33 +4,6 @@ use borrow.Author.Needs.{needs}
 use Rattle.plan_automaton.proofs.automaton_at.Statement.{statement}
 use Rattle.plan_automaton.proofs.automaton_at.Tie as tie
 
-count-at-requires : tie.Need-count-at-requires
-count-at-requires c κs = search needs
-
-enum-known-f : tie.Need-enum-known-f
-enum-known-f c = search needs
-
-no-automaton-requires : tie.Need-no-automaton-requires
-no-automaton-requires c κs = search needs
-
-enum-known-f-2 : tie.Need-enum-known-f-2
-enum-known-f-2 c = search needs
-
-name-at-requires : tie.Need-name-at-requires
-name-at-requires c κs = search needs
-
-enum-known-g : tie.Need-enum-known-g
-enum-known-g c = search needs
-
-no-automaton-requires-2 : tie.Need-no-automaton-requires-2
-no-automaton-requires-2 c κs = search needs
-
-enum-known-g-2 : tie.Need-enum-known-g-2
-enum-known-g-2 c = search needs
-
-moves-at-requires : tie.Need-moves-at-requires
-moves-at-requires c κs = search needs
-
 returns : tie.Need-returns
 unfolding automatonAt
 returns c = rw (← c .before .before .before .before .count-at .ensures, c .before .before .f .given .1) (c .no-automaton .ensures)
@@ -47,15 +20,15 @@ pub automaton-at-spec : {M : Type 1} → statement M
 automaton-at-spec =
     tie.close
     (tie.spec
-    count-at-requires
-    enum-known-f
-    no-automaton-requires
-    enum-known-f-2
-    name-at-requires
-    enum-known-g
-    no-automaton-requires-2
-    enum-known-g-2
-    moves-at-requires
+    (λ c κs. search needs)
+    (λ c. search needs)
+    (λ c κs. search needs)
+    (λ c. search needs)
+    (λ c κs. search needs)
+    (λ c. search needs)
+    (λ c κs. search needs)
+    (λ c. search needs)
+    (λ c κs. search needs)
     returns
     returns-2
     returns-3)

@@ -6,30 +6,6 @@ use borrow.Author.Needs.{needs}
 use Rattle.plan_automaton.proofs.moves_at.Statement.{statement}
 use Rattle.plan_automaton.proofs.moves_at.Tie as tie
 
-finals-at-requires : tie.Need-finals-at-requires
-finals-at-requires c κs = search needs
-
-enum-known-f : tie.Need-enum-known-f
-enum-known-f c = search needs
-
-no-automaton-requires : tie.Need-no-automaton-requires
-no-automaton-requires c κs = search needs
-
-enum-known-f-2 : tie.Need-enum-known-f-2
-enum-known-f-2 c = search needs
-
-move-count-at-requires : tie.Need-move-count-at-requires
-move-count-at-requires c κs = search needs
-
-enum-known-g : tie.Need-enum-known-g
-enum-known-g c = search needs
-
-no-automaton-requires-2 : tie.Need-no-automaton-requires-2
-no-automaton-requires-2 c κs = search needs
-
-enum-known-g-2 : tie.Need-enum-known-g-2
-enum-known-g-2 c = search needs
-
 moves-loop-requires : tie.Need-moves-loop-requires
 moves-loop-requires c κs = (move-count-most _ _ _ _ (sym (c .before .before .before .move-count-at .ensures) ∙ c .before .g2 .given .1), search needs)
 
@@ -49,14 +25,14 @@ pub moves-at-spec : {M : Type 1} → statement M
 moves-at-spec =
     tie.close
     (tie.spec
-    finals-at-requires
-    enum-known-f
-    no-automaton-requires
-    enum-known-f-2
-    move-count-at-requires
-    enum-known-g
-    no-automaton-requires-2
-    enum-known-g-2
+    (λ c κs. search needs)
+    (λ c. search needs)
+    (λ c κs. search needs)
+    (λ c. search needs)
+    (λ c κs. search needs)
+    (λ c. search needs)
+    (λ c κs. search needs)
+    (λ c. search needs)
     moves-loop-requires
     returns
     returns-2

@@ -20,38 +20,11 @@ Inv-loop bytes at states initial finals count events outcomes activities moves�
 abbrev μ-loop : tie.MeasureT-loop
 μ-loop bytes at states initial finals count events outcomes activities moves₀ off₀ i₀ n moves off i = n - i
 
-zero-move-requires : tie.Need-zero-move-requires Inv-loop μ-loop
-zero-move-requires c κs = search needs
-
 loop-holds : tie.Need-loop-holds Inv-loop μ-loop
 loop-holds c = (search needs, search needs, search needs, search needs, search needs, rw (sub-zero, c .zero-move .ensures))
 
-move-at-requires : tie.Need-move-at-requires Inv-loop μ-loop
-move-at-requires c κs = search needs
-
-enum-known-f : tie.Need-enum-known-f Inv-loop μ-loop
-enum-known-f c = search needs
-
-no-automaton-requires : tie.Need-no-automaton-requires Inv-loop μ-loop
-no-automaton-requires c κs = search needs
-
 returns : tie.Need-returns Inv-loop μ-loop
 returns c = c .no-automaton .ensures ∙ moves-refused (c .before .before .before .before .before .before .before .before .before .args .events) (c .before .before .before .before .before .before .before .before .before .args .outcomes) (c .before .before .before .before .before .before .before .before .before .args .activities) (now (c .before .before .before .before .before .before .before .before .before .args .bytes)) (c .before .before .before .before .before .before .before .before .before .args .states) (c .before .before .before .before .before .before .before .before .before .args .initial) (c .before .before .before .before .before .before .before .before .before .args .finals) (c .before .before .before .before .before .before .before .before .before .args .count) (c .before .before .before .before .before .before .loop .i) (c .before .before .before .before .before .before .loop .off) (c .before .before .before .before .before .before .loop .moves) (omega arith) _ _ (sym (c .before .before .before .before .move-at .ensures) ∙ c .before .before .f .given .1) ∙ sym (c .before .before .before .before .before .before .loop .inv .5)
-
-enum-known-f-2 : tie.Need-enum-known-f-2 Inv-loop μ-loop
-enum-known-f-2 c = search needs
-
-mul-moves : tie.Need-mul-moves Inv-loop μ-loop
-mul-moves c = search needs
-
-array-set-from-moves : tie.Need-array-set-from-moves Inv-loop μ-loop
-array-set-from-moves c = search needs
-
-add-i : tie.Need-add-i Inv-loop μ-loop
-add-i c = search needs
-
-loop-less : tie.Need-loop-less Inv-loop μ-loop
-loop-less c = search needs
 
 loop-again : tie.Need-loop-again Inv-loop μ-loop
 loop-again c = (
@@ -72,16 +45,16 @@ moves-loop-spec =
     (tie.spec
     Inv-loop
     μ-loop
-    zero-move-requires
+    (λ c κs. search needs)
     loop-holds
-    move-at-requires
-    enum-known-f
-    no-automaton-requires
+    (λ c κs. search needs)
+    (λ c. search needs)
+    (λ c κs. search needs)
     returns
-    enum-known-f-2
-    mul-moves
-    array-set-from-moves
-    add-i
-    loop-less
+    (λ c. search needs)
+    (λ c. search needs)
+    (λ c. search needs)
+    (λ c. search needs)
+    (λ c. search needs)
     loop-again
     returns-2)

@@ -11,21 +11,9 @@ use borrow.Author.Needs.{needs}
 use Rattle.plan_fields.proofs.byte_in.Statement.{statement}
 use Rattle.plan_fields.proofs.byte_in.Tie as tie
 
-byte-at-requires : tie.Need-byte-at-requires
-byte-at-requires c κs = search needs
-
-enum-told : tie.Need-enum-told
-enum-told c = search needs
-
-enum-known-f : tie.Need-enum-known-f
-enum-known-f c = search needs
-
 returns : tie.Need-returns
 unfolding byteAt
 returns c = let p = byte-there (now (c .before .before .before .before .before .before .args .bytes)) (c .before .before .before .before .before .before .args .at) _ (sym (c .before .before .before .before .byte-at .ensures) ∙ c .before .before .f .given .1) in too-low Field.Value Field.Refused Fault.Ends 1 ((c .before .before .before .before .before .before .args) .low) ((c .before .before .before .before .before .before .args) .below) ((c .before .before .before .before .before .before .args) .wrong) (now ((c .before .before .before .before .before .before .args) .bytes)) ((c .before .before .before .before .before .before .args) .at) _ (p .is) (p .fits) (c .if1 .taken)
-
-widen-requires : tie.Need-widen-requires
-widen-requires c κs = search needs
 
 add-t12 : tie.Need-add-t12
 add-t12 c = let p = byte-there (now (c .before .before .before .before .before .before .before .before .args .bytes)) (c .before .before .before .before .before .before .before .before .args .at) _ (sym (c .before .before .before .before .before .before .byte-at .ensures) ∙ c .before .before .before .before .f .given .1) in omega (arith, p .fits)
@@ -46,11 +34,11 @@ pub byte-in-spec : {M : Type 1} → statement M
 byte-in-spec =
     tie.close
     (tie.spec
-    byte-at-requires
-    enum-told
-    enum-known-f
+    (λ c κs. search needs)
+    (λ c. search needs)
+    (λ c. search needs)
     returns
-    widen-requires
+    (λ c κs. search needs)
     add-t12
     returns-2
     returns-3

@@ -6,9 +6,6 @@ use borrow.Author.Needs.{needs}
 use Rattle.plan_fields.proofs.duration_at.Statement.{statement}
 use Rattle.plan_fields.proofs.duration_at.Tie as tie
 
-duration-in-requires : tie.Need-duration-in-requires
-duration-in-requires c κs = search needs
-
 returns : tie.Need-returns
 unfolding durationAt optional
 returns c = rw (eq-eqb _ _ (c .before .if1 .taken)) (c .duration-in .ensures)
@@ -18,4 +15,4 @@ unfolding durationAt optional
 returns-2 c = rw (ne-eqb _ _ (c .if1 .left))
 
 pub duration-at-spec : {M : Type 1} → statement M
-duration-at-spec = tie.close (tie.spec duration-in-requires returns returns-2)
+duration-at-spec = tie.close (tie.spec (λ c κs. search needs) returns returns-2)

@@ -10,15 +10,6 @@ use borrow.Author.Needs.{needs}
 use Rattle.plan_fields.proofs.duration_in.Statement.{statement}
 use Rattle.plan_fields.proofs.duration_in.Tie as tie
 
-long-at-requires : tie.Need-long-at-requires
-long-at-requires c κs = search needs
-
-enum-told : tie.Need-enum-told
-enum-told c = search needs
-
-enum-known-f : tie.Need-enum-known-f
-enum-known-f c = search needs
-
 returns : tie.Need-returns
 returns c = let p = long-there (now (c .before .before .before .before .before .before .args .bytes)) (c .before .before .before .before .before .before .args .at) _ (sym (c .before .before .before .before .long-at .ensures) ∙ c .before .before .f .given .1) in too-low DurationField.Value DurationField.Refused Fault.Ends 4 1 60000001 Fault.Duration (now ((c .before .before .before .before .before .before .args) .bytes)) ((c .before .before .before .before .before .before .args) .at) _ (p .is) (p .fits) (omega arith)
 
@@ -37,4 +28,4 @@ returns-4 c = let p = long-there (now (c .before .before .before .before .before
 pub duration-in-spec : {M : Type 1} → statement M
 duration-in-spec =
     tie.close
-    (tie.spec long-at-requires enum-told enum-known-f returns add-t9 returns-2 returns-3 returns-4)
+    (tie.spec (λ c κs. search needs) (λ c. search needs) (λ c. search needs) returns add-t9 returns-2 returns-3 returns-4)

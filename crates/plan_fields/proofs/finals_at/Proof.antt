@@ -14,18 +14,6 @@ use borrow.Author.Needs.{needs}
 use Rattle.plan_fields.proofs.finals_at.Statement.{statement}
 use Rattle.plan_fields.proofs.finals_at.Tie as tie
 
-wide-at-requires : tie.Need-wide-at-requires
-wide-at-requires c κs = search needs
-
-enum-told : tie.Need-enum-told
-enum-told c = search needs
-
-enum-known-f : tie.Need-enum-known-f
-enum-known-f c = search needs
-
-in-states-requires : tie.Need-in-states-requires
-in-states-requires c κs = search needs
-
 add-t9 : tie.Need-add-t9
 add-t9 c = let p = wide-there (now (c .before .before .before .before .before .before .before .args .bytes)) (c .before .before .before .before .before .before .before .args .at) _ (sym (c .before .before .before .before .before .wide-at .ensures) ∙ c .before .before .before .f .given .1) in omega (arith, p .fits)
 
@@ -45,10 +33,10 @@ pub finals-at-spec : {M : Type 1} → statement M
 finals-at-spec =
     tie.close
     (tie.spec
-    wide-at-requires
-    enum-told
-    enum-known-f
-    in-states-requires
+    (λ c κs. search needs)
+    (λ c. search needs)
+    (λ c. search needs)
+    (λ c κs. search needs)
     add-t9
     returns
     returns-2

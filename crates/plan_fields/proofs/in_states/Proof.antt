@@ -7,9 +7,6 @@ use borrow.Author.Needs.{needs}
 use Rattle.plan_fields.proofs.in_states.Statement.{statement}
 use Rattle.plan_fields.proofs.in_states.Tie as tie
 
-shr-result : tie.Need-shr-result
-shr-result c = search needs
-
 returns : tie.Need-returns
 returns c = shift-none (c .before .args .finals) (c .before .args .states)
 
@@ -17,4 +14,4 @@ returns-2 : tie.Need-returns-2
 returns-2 c = sym (lt-ltb _ _ (power-most (c .before .args .finals) (c .before .args .states) (search needs) (omega arith)))
 
 pub in-states-spec : {M : Type 1} → statement M
-in-states-spec = tie.close (tie.spec shr-result returns returns-2)
+in-states-spec = tie.close (tie.spec (λ c. search needs) returns returns-2)

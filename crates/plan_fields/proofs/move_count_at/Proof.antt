@@ -11,15 +11,6 @@ use borrow.Author.Needs.{needs}
 use Rattle.plan_fields.proofs.move_count_at.Statement.{statement}
 use Rattle.plan_fields.proofs.move_count_at.Tie as tie
 
-short-at-requires : tie.Need-short-at-requires
-short-at-requires c κs = search needs
-
-enum-told : tie.Need-enum-told
-enum-told c = search needs
-
-enum-known-f : tie.Need-enum-known-f
-enum-known-f c = search needs
-
 add-t8 : tie.Need-add-t8
 add-t8 c = let p = short-there (now (c .before .before .before .before .before .before .args .bytes)) (c .before .before .before .before .before .before .args .at) _ (sym (c .before .before .before .before .short-at .ensures) ∙ c .before .before .f .given .1) in omega (arith, p .fits)
 
@@ -38,4 +29,4 @@ returns-3 c = let p = short-there (now (c .before .before .before .before .befor
 pub move-count-at-spec : {M : Type 1} → statement M
 move-count-at-spec =
     tie.close
-    (tie.spec short-at-requires enum-told enum-known-f add-t8 returns returns-2 returns-3)
+    (tie.spec (λ c κs. search needs) (λ c. search needs) (λ c. search needs) add-t8 returns returns-2 returns-3)

@@ -4,14 +4,8 @@ use borrow.Author.Needs.{needs}
 use Rattle.plan_fields.proofs.name_at.Statement.{statement}
 use Rattle.plan_fields.proofs.name_at.Tie as tie
 
-widen-requires : tie.Need-widen-requires
-widen-requires c κs = search needs
-
-byte-in-requires : tie.Need-byte-in-requires
-byte-in-requires c κs = search needs
-
 returns : tie.Need-returns
 returns c = c .byte-in .ensures ∙ rw (c .before .widen .ensures .0)
 
 pub name-at-spec : {M : Type 1} → statement M
-name-at-spec = tie.close (tie.spec widen-requires byte-in-requires returns)
+name-at-spec = tie.close (tie.spec (λ c κs. search needs) (λ c κs. search needs) returns)

@@ -5,9 +5,6 @@ use borrow.Author.Needs.{needs}
 use Rattle.plan_fields.proofs.optional_count.Statement.{statement}
 use Rattle.plan_fields.proofs.optional_count.Tie as tie
 
-count-at-requires : tie.Need-count-at-requires
-count-at-requires c κs = search needs
-
 returns : tie.Need-returns
 unfolding optionalCount optional byteAt
 returns c = rw (c .before .if1 .taken) (c .count-at .ensures)
@@ -17,4 +14,4 @@ unfolding optionalCount optional
 returns-2 c = rw (c .if1 .left)
 
 pub optional-count-spec : {M : Type 1} → statement M
-optional-count-spec = tie.close (tie.spec count-at-requires returns returns-2)
+optional-count-spec = tie.close (tie.spec (λ c κs. search needs) returns returns-2)

@@ -9,9 +9,6 @@ use Rattle.plan_limits.specs.Laws.Files.{rules-are}
 use Rattle.plan_limits.proofs.file_rules.Statement.{statement}
 use Rattle.plan_limits.proofs.file_rules.Tie as tie
 
-in-limits-requires : tie.Need-in-limits-requires
-in-limits-requires c κs = search needs
-
 returns : tie.Need-returns
 unfolding fileRules
 returns c = rw (← rules-are (c .before .before .args .plan)) (rw (sym (c .before .in-limits .ensures) ∙ not-true (c .before .in-limits .result) (c .if1 .taken)))
@@ -24,4 +21,4 @@ unfolding fileRules
 returns-2 c = rw (← rules-are (c .before .before .before .before .before .args .plan)) (rw (sym (c .before .before .before .before .in-limits .ensures) ∙ not-false (c .before .before .before .before .in-limits .result) (c .before .before .before .if1 .left)) (c .nodes-written .ensures))
 
 pub file-rules-spec : {M : Type 1} → statement M
-file-rules-spec = tie.close (tie.spec in-limits-requires returns nodes-written-requires returns-2)
+file-rules-spec = tie.close (tie.spec (λ c κs. search needs) returns nodes-written-requires returns-2)

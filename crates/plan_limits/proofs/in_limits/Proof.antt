@@ -21,13 +21,10 @@ returns-4 : tie.Need-returns-4
 unfolding inLimits
 returns-4 c = rw (le-leb _ _ (c .before .before .before .before .before .before .if1 .left), le-leb _ _ (c .before .before .before .before .if2 .left), le-leb _ _ (c .before .before .if3 .left), lt-leb _ _ (c .if4 .taken))
 
-parts-in-limits-requires : tie.Need-parts-in-limits-requires
-parts-in-limits-requires c κs = search needs
-
 returns-5 : tie.Need-returns-5
 unfolding inLimits
 returns-5 c = rw (le-leb _ _ (c .before .before .before .before .before .before .before .if1 .left), le-leb _ _ (c .before .before .before .before .before .if2 .left), le-leb _ _ (c .before .before .before .if3 .left), le-leb _ _ (c .before .if4 .left)) (c .parts-in-limits .ensures)
 
 pub in-limits-spec : {M : Type 1} → statement M
 in-limits-spec =
-    tie.close (tie.spec returns returns-2 returns-3 returns-4 parts-in-limits-requires returns-5)
+    tie.close (tie.spec returns returns-2 returns-3 returns-4 (λ c κs. search needs) returns-5)

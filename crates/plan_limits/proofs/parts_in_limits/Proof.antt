@@ -9,9 +9,6 @@ use Rattle.plan_limits.specs.Limits.{partsInLimits}
 use Rattle.plan_limits.proofs.parts_in_limits.Statement.{statement}
 use Rattle.plan_limits.proofs.parts_in_limits.Tie as tie
 
-slice-aggregate-within : tie.Need-slice-aggregate-within
-slice-aggregate-within c = search needs
-
 within-requires : tie.Need-within-requires
 within-requires c κs =
     let p = c .before .before .args .plan in
@@ -22,9 +19,6 @@ within-requires c κs =
 returns : tie.Need-returns
 unfolding partsInLimits
 returns c = rw (sym (c .before .within .ensures) ∙ not-true (c .before .within .result) (c .if1 .taken))
-
-slice-aggregate-within-2 : tie.Need-slice-aggregate-within-2
-slice-aggregate-within-2 c = search needs
 
 within-requires-2 : tie.Need-within-requires-2
 within-requires-2 c κs =
@@ -37,9 +31,6 @@ returns-2 : tie.Need-returns-2
 unfolding partsInLimits
 returns-2 c = rw (sym (c .before .before .before .before .before .within .ensures) ∙ not-false (c .before .before .before .before .before .within .result) (c .before .before .before .before .if1 .left), sym (c .before .within2 .ensures) ∙ not-true (c .before .within2 .result) (c .if2 .taken))
 
-slice-aggregate-within-3 : tie.Need-slice-aggregate-within-3
-slice-aggregate-within-3 c = search needs
-
 within-requires-3 : tie.Need-within-requires-3
 within-requires-3 c κs =
     let p = c .before .before .before .before .before .before .before .before .before .before .args .plan in
@@ -51,15 +42,9 @@ returns-3 : tie.Need-returns-3
 unfolding partsInLimits
 returns-3 c = rw (sym (c .before .before .before .before .before .before .before .before .before .within .ensures) ∙ not-false (c .before .before .before .before .before .before .before .before .before .within .result) (c .before .before .before .before .before .before .before .before .if1 .left), sym (c .before .before .before .before .before .within2 .ensures) ∙ not-false (c .before .before .before .before .before .within2 .result) (c .before .before .before .before .if2 .left), sym (c .before .within3 .ensures) ∙ not-true (c .before .within3 .result) (c .if3 .taken))
 
-nodes-in-limits-requires : tie.Need-nodes-in-limits-requires
-nodes-in-limits-requires c κs = search needs
-
 returns-4 : tie.Need-returns-4
 unfolding partsInLimits
 returns-4 c = rw (sym (c .before .before .before .before .before .before .before .before .before .before .before .before .within .ensures) ∙ not-false (c .before .before .before .before .before .before .before .before .before .before .before .before .within .result) (c .before .before .before .before .before .before .before .before .before .before .before .if1 .left), sym (c .before .before .before .before .before .before .before .before .within2 .ensures) ∙ not-false (c .before .before .before .before .before .before .before .before .within2 .result) (c .before .before .before .before .before .before .before .if2 .left), sym (c .before .before .before .before .within3 .ensures) ∙ not-false (c .before .before .before .before .within3 .result) (c .before .before .before .if3 .left), sym (c .before .nodes-in-limits .ensures) ∙ not-true (c .before .nodes-in-limits .result) (c .if4 .taken))
-
-automaton-in-limits-requires : tie.Need-automaton-in-limits-requires
-automaton-in-limits-requires c κs = search needs
 
 returns-5 : tie.Need-returns-5
 unfolding partsInLimits
@@ -69,16 +54,16 @@ pub parts-in-limits-spec : {M : Type 1} → statement M
 parts-in-limits-spec =
     tie.close
     (tie.spec
-    slice-aggregate-within
+    (λ c. search needs)
     within-requires
     returns
-    slice-aggregate-within-2
+    (λ c. search needs)
     within-requires-2
     returns-2
-    slice-aggregate-within-3
+    (λ c. search needs)
     within-requires-3
     returns-3
-    nodes-in-limits-requires
+    (λ c κs. search needs)
     returns-4
-    automaton-in-limits-requires
+    (λ c κs. search needs)
     returns-5)

@@ -3,24 +3,6 @@ use borrow.Author.Needs.{needs}
 use Rattle.plan_nodes.proofs.action_at.Statement.{statement}
 use Rattle.plan_nodes.proofs.action_at.Tie as tie
 
-any-at-requires : tie.Need-any-at-requires
-any-at-requires c κs = search needs
-
-enum-known-f : tie.Need-enum-known-f
-enum-known-f c = search needs
-
-enum-known-f-2 : tie.Need-enum-known-f-2
-enum-known-f-2 c = search needs
-
-name-at-requires : tie.Need-name-at-requires
-name-at-requires c κs = search needs
-
-enum-known-g : tie.Need-enum-known-g
-enum-known-g c = search needs
-
-enum-known-g-2 : tie.Need-enum-known-g-2
-enum-known-g-2 c = search needs
-
 returns : tie.Need-returns
 returns c = rw (← c .before .before .before .any-at .ensures, c .before .f .given .1)
 
@@ -34,12 +16,12 @@ pub action-at-spec : {M : Type 1} → statement M
 action-at-spec =
     tie.close
     (tie.spec
-    any-at-requires
-    enum-known-f
-    enum-known-f-2
-    name-at-requires
-    enum-known-g
-    enum-known-g-2
+    (λ c κs. search needs)
+    (λ c. search needs)
+    (λ c. search needs)
+    (λ c κs. search needs)
+    (λ c. search needs)
+    (λ c. search needs)
     returns
     returns-2
     returns-3)

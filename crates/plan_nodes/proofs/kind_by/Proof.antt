@@ -4,33 +4,6 @@ use borrow.Author.Needs.{needs}
 use Rattle.plan_nodes.proofs.kind_by.Statement.{statement}
 use Rattle.plan_nodes.proofs.kind_by.Tie as tie
 
-enum-told : tie.Need-enum-told
-enum-told c = search needs
-
-action-at-requires : tie.Need-action-at-requires
-action-at-requires c κs = search needs
-
-enum-told-2 : tie.Need-enum-told-2
-enum-told-2 c = search needs
-
-claim-at-requires : tie.Need-claim-at-requires
-claim-at-requires c κs = search needs
-
-enum-told-3 : tie.Need-enum-told-3
-enum-told-3 c = search needs
-
-release-at-requires : tie.Need-release-at-requires
-release-at-requires c κs = search needs
-
-enum-told-4 : tie.Need-enum-told-4
-enum-told-4 c = search needs
-
-event-at-requires : tie.Need-event-at-requires
-event-at-requires c κs = search needs
-
-enum-told-5 : tie.Need-enum-told-5
-enum-told-5 c = search needs
-
 returns : tie.Need-returns
 unfolding kindBy
 returns c = rw (c .before .enum-told .given .1) (c .action-at .ensures)
@@ -55,15 +28,15 @@ pub kind-by-spec : {M : Type 1} → statement M
 kind-by-spec =
     tie.close
     (tie.spec
-    enum-told
-    action-at-requires
-    enum-told-2
-    claim-at-requires
-    enum-told-3
-    release-at-requires
-    enum-told-4
-    event-at-requires
-    enum-told-5
+    (λ c. search needs)
+    (λ c κs. search needs)
+    (λ c. search needs)
+    (λ c κs. search needs)
+    (λ c. search needs)
+    (λ c κs. search needs)
+    (λ c. search needs)
+    (λ c κs. search needs)
+    (λ c. search needs)
     returns
     returns-2
     returns-3

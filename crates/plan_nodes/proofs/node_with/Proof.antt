@@ -4,24 +4,6 @@ use borrow.Author.Needs.{needs}
 use Rattle.plan_nodes.proofs.node_with.Statement.{statement}
 use Rattle.plan_nodes.proofs.node_with.Tie as tie
 
-duration-at-requires : tie.Need-duration-at-requires
-duration-at-requires c κs = search needs
-
-enum-known-f : tie.Need-enum-known-f
-enum-known-f c = search needs
-
-no-node-requires : tie.Need-no-node-requires
-no-node-requires c κs = search needs
-
-enum-known-f-2 : tie.Need-enum-known-f-2
-enum-known-f-2 c = search needs
-
-preds-at-requires : tie.Need-preds-at-requires
-preds-at-requires c κs = search needs
-
-node-of-requires : tie.Need-node-of-requires
-node-of-requires c κs = search needs
-
 returns : tie.Need-returns
 unfolding nodeWith
 returns c = rw (← c .before .before .before .before .duration-at .ensures, c .before .before .f .given .1) (c .no-node .ensures)
@@ -34,11 +16,11 @@ pub node-with-spec : {M : Type 1} → statement M
 node-with-spec =
     tie.close
     (tie.spec
-    duration-at-requires
-    enum-known-f
-    no-node-requires
-    enum-known-f-2
-    preds-at-requires
-    node-of-requires
+    (λ c κs. search needs)
+    (λ c. search needs)
+    (λ c κs. search needs)
+    (λ c. search needs)
+    (λ c κs. search needs)
+    (λ c κs. search needs)
     returns
     returns-2)

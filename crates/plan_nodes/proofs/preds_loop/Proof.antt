@@ -23,38 +23,14 @@ abbrev μ-loop : tie.MeasureT-loop
 loop-holds : tie.Need-loop-holds Inv-loop μ-loop
 loop-holds c = (search needs, search needs, search needs, search needs, rw sub-zero)
 
-name-at-requires : tie.Need-name-at-requires Inv-loop μ-loop
-name-at-requires c κs = search needs
-
-enum-known-f : tie.Need-enum-known-f Inv-loop μ-loop
-enum-known-f c = search needs
-
-no-preds-requires : tie.Need-no-preds-requires Inv-loop μ-loop
-no-preds-requires c κs = search needs
-
 returns : tie.Need-returns Inv-loop μ-loop
 returns c = c .no-preds .ensures ∙ preds-refused (now (c .before .before .before .before .before .before .before .before .args .bytes)) (c .before .before .before .before .before .before .before .before .args .size) (c .before .before .before .before .before .before .before .before .args .count) (c .before .before .before .before .before .before .loop .i) (c .before .before .before .before .before .before .loop .off) (c .before .before .before .before .before .before .loop .low) (c .before .before .before .before .before .before .loop .preds) (omega arith) _ _ (sym (c .before .before .before .before .name-at .ensures) ∙ c .before .before .f .given .1) ∙ sym (c .before .before .before .before .before .before .loop .inv .4)
-
-enum-known-f-2 : tie.Need-enum-known-f-2 Inv-loop μ-loop
-enum-known-f-2 c = search needs
-
-no-preds-requires-2 : tie.Need-no-preds-requires-2 Inv-loop μ-loop
-no-preds-requires-2 c κs = search needs
 
 returns-2 : tie.Need-returns-2 Inv-loop μ-loop
 returns-2 c = c .no-preds2 .ensures ∙ preds-fall (now (c .before .before .before .before .before .before .before .before .before .args .bytes)) (c .before .before .before .before .before .before .before .before .before .args .size) (c .before .before .before .before .before .before .before .before .before .args .count) (c .before .before .before .before .before .before .before .loop .i) (c .before .before .before .before .before .before .before .loop .off) (c .before .before .before .before .before .before .before .loop .low) (c .before .before .before .before .before .before .before .loop .preds) (omega arith) _ _ (sym (c .before .before .before .before .before .name-at .ensures) ∙ c .before .before .before .f2 .given .1) (c .before .if1 .taken) ∙ sym (c .before .before .before .before .before .before .before .loop .inv .4)
 
-array-write-preds : tie.Need-array-write-preds Inv-loop μ-loop
-array-write-preds c = search needs
-
 add-low : tie.Need-add-low Inv-loop μ-loop
 add-low c = omega (arith, byte-most 0 _ _ _ _ _ _ (sym (c .before .before .before .before .name-at .ensures) ∙ c .before .before .f2 .given .1))
-
-add-i : tie.Need-add-i Inv-loop μ-loop
-add-i c = search needs
-
-loop-less : tie.Need-loop-less Inv-loop μ-loop
-loop-less c = search needs
 
 loop-again : tie.Need-loop-again Inv-loop μ-loop
 loop-again c = (
@@ -75,16 +51,16 @@ preds-loop-spec =
     Inv-loop
     μ-loop
     loop-holds
-    name-at-requires
-    enum-known-f
-    no-preds-requires
+    (λ c κs. search needs)
+    (λ c. search needs)
+    (λ c κs. search needs)
     returns
-    enum-known-f-2
-    no-preds-requires-2
+    (λ c. search needs)
+    (λ c κs. search needs)
     returns-2
-    array-write-preds
+    (λ c. search needs)
     add-low
-    add-i
-    loop-less
+    (λ c. search needs)
+    (λ c. search needs)
     loop-again
     returns-3)

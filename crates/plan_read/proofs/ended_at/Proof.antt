@@ -9,12 +9,9 @@ returns : tie.Need-returns
 unfolding endedAt
 returns c = rw (eq-eqb _ _ (c .if1 .taken))
 
-no-plan-requires : tie.Need-no-plan-requires
-no-plan-requires c κs = search needs
-
 returns-2 : tie.Need-returns-2
 unfolding endedAt
 returns-2 c = rw (ne-eqb _ _ (c .before .if1 .left)) (c .no-plan .ensures)
 
 pub ended-at-spec : {M : Type 1} → statement M
-ended-at-spec = tie.close (tie.spec returns no-plan-requires returns-2)
+ended-at-spec = tie.close (tie.spec returns (λ c κs. search needs) returns-2)

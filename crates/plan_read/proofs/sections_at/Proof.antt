@@ -5,15 +5,6 @@ use borrow.Author.Needs.{needs}
 use Rattle.plan_read.proofs.sections_at.Statement.{statement}
 use Rattle.plan_read.proofs.sections_at.Tie as tie
 
-byte-in-requires : tie.Need-byte-in-requires
-byte-in-requires c κs = search needs
-
-enum-known-f : tie.Need-enum-known-f
-enum-known-f c = search needs
-
-enum-known-f-2 : tie.Need-enum-known-f-2
-enum-known-f-2 c = search needs
-
 returns : tie.Need-returns
 unfolding sectionsAt
 returns c = rw (← c .before .before .before .before .byte-in .ensures, c .before .before .f2 .given .1, eq-eqb _ _ (c .if1 .taken))
@@ -28,4 +19,4 @@ returns-3 c = rw (← c .before .before .before .before .byte-in .ensures, c .be
 
 pub sections-at-spec : {M : Type 1} → statement M
 sections-at-spec =
-    tie.close (tie.spec byte-in-requires enum-known-f enum-known-f-2 returns returns-2 returns-3)
+    tie.close (tie.spec (λ c κs. search needs) (λ c. search needs) (λ c. search needs) returns returns-2 returns-3)

@@ -4,21 +4,6 @@ use borrow.Author.Needs.{needs}
 use Rattle.plan_read.proofs.with_automaton.Statement.{statement}
 use Rattle.plan_read.proofs.with_automaton.Tie as tie
 
-enum-known-v : tie.Need-enum-known-v
-enum-known-v c = search needs
-
-no-plan-requires : tie.Need-no-plan-requires
-no-plan-requires c κs = search needs
-
-enum-known-v-2 : tie.Need-enum-known-v-2
-enum-known-v-2 c = search needs
-
-plan-of-requires : tie.Need-plan-of-requires
-plan-of-requires c κs = search needs
-
-ended-at-requires : tie.Need-ended-at-requires
-ended-at-requires c κs = search needs
-
 returns : tie.Need-returns
 unfolding withAutomaton
 returns c = rw (c .before .before .v .given .1) (c .no-plan .ensures)
@@ -31,10 +16,10 @@ pub with-automaton-spec : {M : Type 1} → statement M
 with-automaton-spec =
     tie.close
     (tie.spec
-    enum-known-v
-    no-plan-requires
-    enum-known-v-2
-    plan-of-requires
-    ended-at-requires
+    (λ c. search needs)
+    (λ c κs. search needs)
+    (λ c. search needs)
+    (λ c κs. search needs)
+    (λ c κs. search needs)
     returns
     returns-2)

@@ -7,33 +7,6 @@ use borrow.Author.Needs.{needs}
 use Rattle.plan_read.proofs.with_events.Statement.{statement}
 use Rattle.plan_read.proofs.with_events.Tie as tie
 
-enum-known-v : tie.Need-enum-known-v
-enum-known-v c = search needs
-
-no-plan-requires : tie.Need-no-plan-requires
-no-plan-requires c κs = search needs
-
-enum-known-v-2 : tie.Need-enum-known-v-2
-enum-known-v-2 c = search needs
-
-activities-at-requires : tie.Need-activities-at-requires
-activities-at-requires c κs = search needs
-
-enum-known-w : tie.Need-enum-known-w
-enum-known-w c = search needs
-
-no-plan-requires-2 : tie.Need-no-plan-requires-2
-no-plan-requires-2 c κs = search needs
-
-enum-known-w-2 : tie.Need-enum-known-w-2
-enum-known-w-2 c = search needs
-
-automaton-at-requires : tie.Need-automaton-at-requires
-automaton-at-requires c κs = search needs
-
-with-automaton-requires : tie.Need-with-automaton-requires
-with-automaton-requires c κs = search needs
-
 returns : tie.Need-returns
 unfolding withEvents
 returns c = rw (c .before .before .v .given .1) (c .no-plan .ensures)
@@ -54,15 +27,15 @@ pub with-events-spec : {M : Type 1} → statement M
 with-events-spec =
     tie.close
     (tie.spec
-    enum-known-v
-    no-plan-requires
-    enum-known-v-2
-    activities-at-requires
-    enum-known-w
-    no-plan-requires-2
-    enum-known-w-2
-    automaton-at-requires
-    with-automaton-requires
+    (λ c. search needs)
+    (λ c κs. search needs)
+    (λ c. search needs)
+    (λ c κs. search needs)
+    (λ c. search needs)
+    (λ c κs. search needs)
+    (λ c. search needs)
+    (λ c κs. search needs)
+    (λ c κs. search needs)
     returns
     returns-2
     returns-3)

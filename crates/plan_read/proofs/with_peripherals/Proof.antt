@@ -8,18 +8,6 @@ use borrow.Author.Needs.{needs}
 use Rattle.plan_read.proofs.with_peripherals.Statement.{statement}
 use Rattle.plan_read.proofs.with_peripherals.Tie as tie
 
-enum-known-v : tie.Need-enum-known-v
-enum-known-v c = search needs
-
-no-plan-requires : tie.Need-no-plan-requires
-no-plan-requires c κs = search needs
-
-enum-known-v-2 : tie.Need-enum-known-v-2
-enum-known-v-2 c = search needs
-
-events-at-requires : tie.Need-events-at-requires
-events-at-requires c κs = search needs
-
 with-events-requires : tie.Need-with-events-requires
 with-events-requires c κs = rw (c .events-at .ensures) (events-most _ _ _)
 
@@ -34,10 +22,10 @@ pub with-peripherals-spec : {M : Type 1} → statement M
 with-peripherals-spec =
     tie.close
     (tie.spec
-    enum-known-v
-    no-plan-requires
-    enum-known-v-2
-    events-at-requires
+    (λ c. search needs)
+    (λ c κs. search needs)
+    (λ c. search needs)
+    (λ c κs. search needs)
     with-events-requires
     returns
     returns-2)

@@ -20,48 +20,18 @@ Inv-loop bytes at peripherals resources events count all₀ sizes₀ off₀ i₀
 abbrev μ-loop : tie.MeasureT-loop
 μ-loop bytes at peripherals resources events count all₀ sizes₀ off₀ i₀ a₀ size₀ left₀ all sizes off i a size left = 66 * (count - a) + left
 
-zero-node-requires : tie.Need-zero-node-requires Inv-loop μ-loop
-zero-node-requires c κs = search needs
-
 loop-holds : tie.Need-loop-holds Inv-loop μ-loop
 unfolding nodesThen
 loop-holds c = (search needs, search needs, search needs, search needs, search needs, search needs, rw (c .zero-node .ensures, sub-zero))
 
-sub-more : tie.Need-sub-more Inv-loop μ-loop
-sub-more c = search needs
-
-part-at-requires : tie.Need-part-at-requires Inv-loop μ-loop
-part-at-requires c κs = search needs
-
-enum-known-v : tie.Need-enum-known-v Inv-loop μ-loop
-enum-known-v c = search needs
-
-no-activities-requires : tie.Need-no-activities-requires Inv-loop μ-loop
-no-activities-requires c κs = search needs
-
 returns : tie.Need-returns Inv-loop μ-loop
 returns c = c .no-activities .ensures ∙ turned (c .before .before .before .before .before .before .before .before .args .peripherals) (c .before .before .before .before .before .before .before .before .args .resources) (c .before .before .before .before .before .before .before .before .args .events) (now (c .before .before .before .before .before .before .before .before .args .bytes)) (c .before .before .before .before .before .before .before .before .args .count) (c .before .before .before .before .before .loop .a) (c .before .before .before .before .before .loop .sizes) (c .before .before .before .before .before .loop .size) (c .before .before .before .before .before .loop .left) (c .before .before .before .before .before .loop .off) (c .before .before .before .before .before .loop .i) (c .before .before .before .before .before .loop .all) _ (c .before .before .before .before .part-at .ensures) _ (c .before .before .v .given .1) ∙ sym (c .before .before .before .before .before .loop .inv .6)
-
-enum-told : tie.Need-enum-told Inv-loop μ-loop
-enum-told c = search needs
-
-all-activities-requires : tie.Need-all-activities-requires Inv-loop μ-loop
-all-activities-requires c κs = search needs
 
 returns-2 : tie.Need-returns-2 Inv-loop μ-loop
 returns-2 c = c .all-activities .ensures ∙ turned (c .before .before .before .before .before .before .before .args .peripherals) (c .before .before .before .before .before .before .before .args .resources) (c .before .before .before .before .before .before .before .args .events) (now (c .before .before .before .before .before .before .before .args .bytes)) (c .before .before .before .before .before .before .before .args .count) (c .before .before .before .before .loop .a) (c .before .before .before .before .loop .sizes) (c .before .before .before .before .loop .size) (c .before .before .before .before .loop .left) (c .before .before .before .before .loop .off) (c .before .before .before .before .loop .i) (c .before .before .before .before .loop .all) _ (c .before .before .before .part-at .ensures) _ (c .before .enum-told .given .1) ∙ sym (c .before .before .before .before .loop .inv .6)
 
-enum-known-v-2 : tie.Need-enum-known-v-2 Inv-loop μ-loop
-enum-known-v-2 c = search needs
-
-mul-all : tie.Need-mul-all Inv-loop μ-loop
-mul-all c = search needs
-
 array-set-from-all : tie.Need-array-set-from-all Inv-loop μ-loop
 array-set-from-all c = let t = turned (c .before .before .before .before .before .before .before .before .args .peripherals) (c .before .before .before .before .before .before .before .before .args .resources) (c .before .before .before .before .before .before .before .before .args .events) (now (c .before .before .before .before .before .before .before .before .args .bytes)) (c .before .before .before .before .before .before .before .before .args .count) (c .before .before .before .before .before .loop .a) (c .before .before .before .before .before .loop .sizes) (c .before .before .before .before .before .loop .size) (c .before .before .before .before .before .loop .left) (c .before .before .before .before .before .loop .off) (c .before .before .before .before .before .loop .i) (c .before .before .before .before .before .loop .all) _ (c .before .before .before .before .part-at .ensures) _ (c .before .before .v2 .given .1) .0 in omega arith
-
-add-i : tie.Need-add-i Inv-loop μ-loop
-add-i c = search needs
 
 sub-left : tie.Need-sub-left Inv-loop μ-loop
 sub-left c = let t = turned (c .before .before .before .before .before .before .before .before .args .peripherals) (c .before .before .before .before .before .before .before .before .args .resources) (c .before .before .before .before .before .before .before .before .args .events) (now (c .before .before .before .before .before .before .before .before .args .bytes)) (c .before .before .before .before .before .before .before .before .args .count) (c .before .before .before .before .before .loop .a) (c .before .before .before .before .before .loop .sizes) (c .before .before .before .before .before .loop .size) (c .before .before .before .before .before .loop .left) (c .before .before .before .before .before .loop .off) (c .before .before .before .before .before .loop .i) (c .before .before .before .before .before .loop .all) _ (c .before .before .before .before .part-at .ensures) _ (c .before .before .v2 .given .1) .0 in omega arith
@@ -80,17 +50,8 @@ loop-again c = let t = turned (c .before .before .before .before .before .before
   c .before .before .before .before .before .loop .inv .6 ∙ t .1,
 )
 
-enum-known-v-3 : tie.Need-enum-known-v-3 Inv-loop μ-loop
-enum-known-v-3 c = search needs
-
-cast-w : tie.Need-cast-w Inv-loop μ-loop
-cast-w c = search needs
-
 array-write-sizes : tie.Need-array-write-sizes Inv-loop μ-loop
 array-write-sizes c = let t = turned (c .before .before .before .before .before .before .before .args .peripherals) (c .before .before .before .before .before .before .before .args .resources) (c .before .before .before .before .before .before .before .args .events) (now (c .before .before .before .before .before .before .before .args .bytes)) (c .before .before .before .before .before .before .before .args .count) (c .before .before .before .before .loop .a) (c .before .before .before .before .loop .sizes) (c .before .before .before .before .loop .size) (c .before .before .before .before .loop .left) (c .before .before .before .before .loop .off) (c .before .before .before .before .loop .i) (c .before .before .before .before .loop .all) _ (c .before .before .before .part-at .ensures) _ (c .before .v3 .given .1) in omega (arith, t .0, t .1, t .2)
-
-mul-i : tie.Need-mul-i Inv-loop μ-loop
-mul-i c = search needs
 
 add-a : tie.Need-add-a Inv-loop μ-loop
 add-a c = let t = turned (c .before .before .before .before .before .before .before .args .peripherals) (c .before .before .before .before .before .before .before .args .resources) (c .before .before .before .before .before .before .before .args .events) (now (c .before .before .before .before .before .before .before .args .bytes)) (c .before .before .before .before .before .before .before .args .count) (c .before .before .before .before .loop .a) (c .before .before .before .before .loop .sizes) (c .before .before .before .before .loop .size) (c .before .before .before .before .loop .left) (c .before .before .before .before .loop .off) (c .before .before .before .before .loop .i) (c .before .before .before .before .loop .all) _ (c .before .before .before .part-at .ensures) _ (c .before .v3 .given .1) in omega (arith, t .0, t .1, t .2)
@@ -115,27 +76,27 @@ activities-loop-spec =
     (tie.spec
     Inv-loop
     μ-loop
-    zero-node-requires
+    (λ c κs. search needs)
     loop-holds
-    sub-more
-    part-at-requires
-    enum-known-v
-    no-activities-requires
+    (λ c. search needs)
+    (λ c κs. search needs)
+    (λ c. search needs)
+    (λ c κs. search needs)
     returns
-    enum-told
-    all-activities-requires
+    (λ c. search needs)
+    (λ c κs. search needs)
     returns-2
-    enum-known-v-2
-    mul-all
+    (λ c. search needs)
+    (λ c. search needs)
     array-set-from-all
-    add-i
+    (λ c. search needs)
     sub-left
     loop-less
     loop-again
-    enum-known-v-3
-    cast-w
+    (λ c. search needs)
+    (λ c. search needs)
     array-write-sizes
-    mul-i
+    (λ c. search needs)
     add-a
     loop-less-2
     loop-again-2)

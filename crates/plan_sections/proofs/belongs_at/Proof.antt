@@ -26,29 +26,8 @@ loop-holds : tie.Need-loop-holds Inv-loop μ-loop
 unfolding belongsAt
 loop-holds c = (search needs, search needs, search needs, search needs, rw sub-zero)
 
-name-at-requires : tie.Need-name-at-requires Inv-loop μ-loop
-name-at-requires c κs = search needs
-
-enum-known-f : tie.Need-enum-known-f Inv-loop μ-loop
-enum-known-f c = search needs
-
-no-peripherals-requires : tie.Need-no-peripherals-requires Inv-loop μ-loop
-no-peripherals-requires c κs = search needs
-
 returns : tie.Need-returns Inv-loop μ-loop
 returns c = c .no-peripherals .ensures ∙ numbers-refused noPeripherals 0 (c .before .before .before .before .before .before .before .before .args .resources) Fault.Names (now (c .before .before .before .before .before .before .before .before .args .bytes)) _ (c .before .before .before .before .before .before .before .before .args .count) (c .before .before .before .before .before .before .loop .i) (c .before .before .before .before .before .before .loop .off) (c .before .before .before .before .before .before .loop .belongs) (omega arith) _ _ (sym (c .before .before .before .before .name-at .ensures) ∙ c .before .before .f .given .1) ∙ sym (c .before .before .before .before .before .before .loop .inv .4)
-
-enum-known-f-2 : tie.Need-enum-known-f-2 Inv-loop μ-loop
-enum-known-f-2 c = search needs
-
-array-write-belongs : tie.Need-array-write-belongs Inv-loop μ-loop
-array-write-belongs c = search needs
-
-add-i : tie.Need-add-i Inv-loop μ-loop
-add-i c = search needs
-
-loop-less : tie.Need-loop-less Inv-loop μ-loop
-loop-less c = search needs
 
 loop-again : tie.Need-loop-again Inv-loop μ-loop
 loop-again c = (
@@ -69,13 +48,13 @@ belongs-at-spec =
     Inv-loop
     μ-loop
     loop-holds
-    name-at-requires
-    enum-known-f
-    no-peripherals-requires
+    (λ c κs. search needs)
+    (λ c. search needs)
+    (λ c κs. search needs)
     returns
-    enum-known-f-2
-    array-write-belongs
-    add-i
-    loop-less
+    (λ c. search needs)
+    (λ c. search needs)
+    (λ c. search needs)
+    (λ c. search needs)
     loop-again
     returns-2)

@@ -10,20 +10,11 @@ use borrow.Author.Needs.{needs}
 use Rattle.plan_write.proofs.write.Statement.{statement}
 use Rattle.plan_write.proofs.write.Tie as tie
 
-file-rules-requires : tie.Need-file-rules-requires
-file-rules-requires c κs = search needs
-
-slice-aggregate-put-plan : tie.Need-slice-aggregate-put-plan
-slice-aggregate-put-plan c = search needs
-
 put-plan-requires : tie.Need-put-plan-requires
 put-plan-requires c κs = plan-iff (c .before .before .before .before .args .plan) .0 (keeps-iff faultOrder planFile (c .before .before .before .before .args .plan) .0 (sym (c .before .before .file-rules .ensures) ∙ c .before .if1 .taken)) .limits
 
 put-plan-requires-2 : tie.Need-put-plan-requires-2
 put-plan-requires-2 c κs = plan-iff (c .before .before .before .before .before .before .before .before .args .plan) .0 (keeps-iff faultOrder planFile (c .before .before .before .before .before .before .before .before .args .plan) .0 (sym (c .before .before .before .before .before .before .file-rules .ensures) ∙ c .before .before .before .before .before .if1 .taken)) .limits
-
-same-length : tie.Need-same-length
-same-length c = search needs
 
 returns : tie.Need-returns
 returns c = wrote (c .before .before .before .before .before .before .before .before .before .before .before .args .plan) (now (c .before .before .before .before .before .before .before .before .before .before .before .args .out)) (sym (c .before .before .before .before .before .before .before .before .before .file-rules .ensures) ∙ c .before .before .before .before .before .before .before .before .if1 .taken) _ _ _ (c .before .before .before .before .before .before .put-plan .ensures) (omega arith) _ _ (c .before .before .put-plan2 .ensures)
@@ -38,11 +29,11 @@ pub write-spec : {M : Type 1} → statement M
 write-spec =
     tie.close
     (tie.spec
-    file-rules-requires
-    slice-aggregate-put-plan
+    (λ c κs. search needs)
+    (λ c. search needs)
     put-plan-requires
     put-plan-requires-2
-    same-length
+    (λ c. search needs)
     returns
     returns-2
     returns-3)

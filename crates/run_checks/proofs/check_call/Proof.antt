@@ -7,17 +7,11 @@ use Rattle.run_checks.proofs.check_call.Tie as tie
 returns : tie.Need-returns
 returns c = rw (not-true (c .before .args .limits) (c .if1 .taken))
 
-enum-told : tie.Need-enum-told
-enum-told c = search needs
-
 check-reading-requires : tie.Need-check-reading-requires
 check-reading-requires c κs = c .before .before .before .pre (not-false (c .before .before .before .args .limits) (c .before .before .if1 .left))
 
 returns-2 : tie.Need-returns-2
 returns-2 c = rw (not-false (c .before .before .before .before .args .limits) (c .before .before .before .if1 .left), c .before .enum-told .given .1) (c .check-reading .ensures)
-
-enum-known-halt : tie.Need-enum-known-halt
-enum-known-halt c = search needs
 
 returns-3 : tie.Need-returns-3
 returns-3 c = rw (not-false (c .before .before .before .before .args .limits) (c .before .before .before .if1 .left), c .before .halt .given .1)
@@ -25,4 +19,4 @@ returns-3 c = rw (not-false (c .before .before .before .before .args .limits) (c
 pub check-call-spec : {M : Type 1} → statement M
 check-call-spec =
     tie.close
-    (tie.spec returns enum-told check-reading-requires returns-2 enum-known-halt returns-3)
+    (tie.spec returns (λ c. search needs) check-reading-requires returns-2 (λ c. search needs) returns-3)

@@ -3,12 +3,6 @@ use borrow.Author.Needs.{needs}
 use Rattle.run_checks.proofs.check_late.Statement.{statement}
 use Rattle.run_checks.proofs.check_late.Tie as tie
 
-enum-told : tie.Need-enum-told
-enum-told c = search needs
-
-enum-known-late : tie.Need-enum-known-late
-enum-known-late c = search needs
-
 returns : tie.Need-returns
 returns c = simp (c .enum-told .given .1)
 
@@ -16,4 +10,4 @@ returns-2 : tie.Need-returns-2
 returns-2 c = simp (c .before .late .given .1)
 
 pub check-late-spec : {M : Type 1} → statement M
-check-late-spec = tie.close (tie.spec enum-told enum-known-late returns returns-2)
+check-late-spec = tie.close (tie.spec (λ c. search needs) (λ c. search needs) returns returns-2)

@@ -3,12 +3,6 @@ use borrow.Author.Needs.{needs}
 use Rattle.run_checks.proofs.check_overdue.Statement.{statement}
 use Rattle.run_checks.proofs.check_overdue.Tie as tie
 
-enum-told : tie.Need-enum-told
-enum-told c = search needs
-
-enum-known-overdue : tie.Need-enum-known-overdue
-enum-known-overdue c = search needs
-
 returns : tie.Need-returns
 returns c = simp (c .enum-told .given .1)
 
@@ -16,4 +10,4 @@ returns-2 : tie.Need-returns-2
 returns-2 c = simp (c .before .overdue .given .1)
 
 pub check-overdue-spec : {M : Type 1} → statement M
-check-overdue-spec = tie.close (tie.spec enum-told enum-known-overdue returns returns-2)
+check-overdue-spec = tie.close (tie.spec (λ c. search needs) (λ c. search needs) returns returns-2)

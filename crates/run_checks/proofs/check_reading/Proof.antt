@@ -14,12 +14,6 @@ returns c = rw (lt-ltb _ _ (c .if1 .taken))
 look-requires : tie.Need-look-requires
 look-requires c κs = let p = c .before .before .before .before .pre in (p .0 .0, p .0 .1, p .1, p .0 .2)
 
-check-late-requires : tie.Need-check-late-requires
-check-late-requires c κs = search needs
-
-check-overdue-requires : tie.Need-check-overdue-requires
-check-overdue-requires c κs = search needs
-
 returns-2 : tie.Need-returns-2
 unfolding timelyBy
 returns-2 c = let q = c .before .before .look .ensures in rw (le-ltb _ _ (c .before .before .before .before .before .if1 .left), ap (λ (s : Seen). s .overdue) (sym q), ap (λ (s : Seen). s .late) (sym q), ap (λ (s : Seen). s .sought) (sym q), sym (c .before .check-late .ensures)) (c .check-overdue .ensures)
@@ -27,4 +21,4 @@ returns-2 c = let q = c .before .before .look .ensures in rw (le-ltb _ _ (c .bef
 pub check-reading-spec : {M : Type 1} → statement M
 check-reading-spec =
     tie.close
-    (tie.spec returns look-requires check-late-requires check-overdue-requires returns-2)
+    (tie.spec returns look-requires (λ c κs. search needs) (λ c κs. search needs) returns-2)

@@ -3,20 +3,11 @@ use borrow.Author.Needs.{needs}
 use Rattle.run_checks.proofs.report_of.Statement.{statement}
 use Rattle.run_checks.proofs.report_of.Tie as tie
 
-enum-told : tie.Need-enum-told
-enum-told c = search needs
-
 returns : tie.Need-returns
 returns c = simp (c .enum-told .given .1)
-
-enum-known-found : tie.Need-enum-known-found
-enum-known-found c = search needs
-
-started-report-requires : tie.Need-started-report-requires
-started-report-requires c κs = search needs
 
 returns-2 : tie.Need-returns-2
 returns-2 c = simp (c .before .before .found .given .1) (c .started-report .ensures)
 
 pub report-of-spec : {M : Type 1} → statement M
-report-of-spec = tie.close (tie.spec enum-told returns enum-known-found started-report-requires returns-2)
+report-of-spec = tie.close (tie.spec (λ c. search needs) returns (λ c. search needs) (λ c κs. search needs) returns-2)

@@ -4,9 +4,6 @@ use borrow.Author.Needs.{needs}
 use Rattle.run_checks.proofs.started_report.Statement.{statement}
 use Rattle.run_checks.proofs.started_report.Tie as tie
 
-is-started-requires : tie.Need-is-started-requires
-is-started-requires c κs = search needs
-
 returns : tie.Need-returns
 returns c = rw (sym (c .before .is-started .ensures) ∙ c .if1 .taken)
 
@@ -14,4 +11,4 @@ returns-2 : tie.Need-returns-2
 returns-2 c = rw (sym (c .before .is-started .ensures) ∙ c .if1 .left)
 
 pub started-report-spec : {M : Type 1} → statement M
-started-report-spec = tie.close (tie.spec is-started-requires returns returns-2)
+started-report-spec = tie.close (tie.spec (λ c κs. search needs) returns returns-2)

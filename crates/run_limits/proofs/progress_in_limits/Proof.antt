@@ -13,12 +13,9 @@ returns-2 : tie.Need-returns-2
 unfolding progressInLimits
 returns-2 c = rw (le-leb _ _ (c .before .before .if1 .left), lt-leb _ _ (c .if2 .taken))
 
-progress-fits-requires : tie.Need-progress-fits-requires
-progress-fits-requires c κs = search needs
-
 returns-3 : tie.Need-returns-3
 unfolding progressInLimits
 returns-3 c = rw (le-leb _ _ (c .before .before .before .before .if1 .left), le-leb _ _ (c .before .before .if2 .left)) (c .progress-fits .ensures)
 
 pub progress-in-limits-spec : {M : Type 1} → statement M
-progress-in-limits-spec = tie.close (tie.spec returns returns-2 progress-fits-requires returns-3)
+progress-in-limits-spec = tie.close (tie.spec returns returns-2 (λ c κs. search needs) returns-3)

@@ -22,12 +22,6 @@ leads c = subst (Leads (c .before .before .args .plan .automaton .count)) (sym (
 path-requires : tie.Need-path-requires
 path-requires c κs = (c .before .before .pre .plan, (leads c, c .before .before .pre .progress))
 
-vacant-requires : tie.Need-vacant-requires
-vacant-requires c κs = search needs
-
-settled-requires : tie.Need-settled-requires
-settled-requires c κs = search needs
-
 returns : tie.Need-returns
 returns c =
     let s = c .before .before .before .before .before in
@@ -40,4 +34,4 @@ returns c =
 
 pub first-spec : {M : Type 1} → statement M
 first-spec =
-    tie.close (tie.spec next-of-requires path-requires vacant-requires settled-requires returns)
+    tie.close (tie.spec next-of-requires path-requires (λ c κs. search needs) (λ c κs. search needs) returns)

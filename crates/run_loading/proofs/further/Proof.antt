@@ -38,44 +38,23 @@ loop-holds c = (c .before .pre, long (c .before), refl, refl)
 way-on-requires : tie.Need-way-on-requires Inv-loop μ-loop
 way-on-requires c κs = plan-awaits _ (c .before .before .before .before .pre .plan)
 
-enum-told : tie.Need-enum-told Inv-loop μ-loop
-enum-told c = search needs
-
 returns : tie.Need-returns Inv-loop μ-loop
 returns c =
     let l = c .before .before .before .before .before .loop in
     none (l .now) (l .inv .2) ∙ sym (l .inv .3 ∙ turn-ended _ (l .now .progress) (l .now .window) (l .left) _ (c .before .before .way-on .ensures) (c .enum-told .given .1) (l .left - 1) (omega arith))
-
-enum-told-2 : tie.Need-enum-told-2 Inv-loop μ-loop
-enum-told-2 c = search needs
 
 returns-2 : tie.Need-returns-2 Inv-loop μ-loop
 returns-2 c =
     let l = c .before .before .before .before .before .loop in
     none (l .now) (l .inv .2) ∙ sym (l .inv .3 ∙ turn-waits _ (l .now .progress) (l .now .window) (l .left) _ (c .before .before .way-on .ensures) _ (c .enum-told2 .given .1) (l .left - 1) (omega arith))
 
-enum-told-3 : tie.Need-enum-told-3 Inv-loop μ-loop
-enum-told-3 c = search needs
-
 path-requires : tie.Need-path-requires Inv-loop μ-loop
 path-requires c κs = let k = able (c .before .before) in (k .loads .plan, (k .leads, k .loads .progress))
-
-settled-requires : tie.Need-settled-requires Inv-loop μ-loop
-settled-requires c κs = search needs
-
-has-failed-requires : tie.Need-has-failed-requires Inv-loop μ-loop
-has-failed-requires c κs = search needs
 
 returns-3 : tie.Need-returns-3 Inv-loop μ-loop
 returns-3 c =
     let l = c .before .before .before .before .before .before .before .before .before .before .loop in
     sym (l .inv .3 ∙ turn-fails _ (l .now .progress) (l .now .window) (l .left) _ (c .before .before .before .before .before .before .before .way-on .ensures) _ (c .before .before .before .before .before .enum-told3 .given .1) (l .left - 1) (omega arith) _ (is-loaded (c .before .before)) (sym (c .before .has-failed .ensures) ∙ c .if1 .taken))
-
-sub-left : tie.Need-sub-left Inv-loop μ-loop
-sub-left c = search needs
-
-loop-less : tie.Need-loop-less Inv-loop μ-loop
-loop-less c = search needs
 
 loop-again : tie.Need-loop-again Inv-loop μ-loop
 loop-again c =
@@ -99,16 +78,16 @@ further-spec =
     μ-loop
     loop-holds
     way-on-requires
-    enum-told
+    (λ c. search needs)
     returns
-    enum-told-2
+    (λ c. search needs)
     returns-2
-    enum-told-3
+    (λ c. search needs)
     path-requires
-    settled-requires
-    has-failed-requires
+    (λ c κs. search needs)
+    (λ c κs. search needs)
     returns-3
-    sub-left
-    loop-less
+    (λ c. search needs)
+    (λ c. search needs)
     loop-again
     returns-4)

@@ -16,18 +16,12 @@ returns : tie.Need-returns
 unfolding settledBy
 returns c = rw (c .if1 .taken)
 
-vacancies-requires : tie.Need-vacancies-requires
-vacancies-requires c κs = search needs
-
 returns-2 : tie.Need-returns-2
 unfolding settledBy
 returns-2 c =
     let a = c .before .before .before .before .args in
     let h : ltb (vacancies (a .window)) (a .found .count) ≡ true = lt-ltb (vacancies (a .window)) (a .found .count) (omega (arith, c .if2 .taken, c .before .before .vacancies .ensures)) in
     rw (c .before .before .before .if1 .left, h)
-
-place-requires : tie.Need-place-requires
-place-requires c κs = search needs
 
 returns-3 : tie.Need-returns-3
 unfolding settledBy
@@ -37,4 +31,4 @@ returns-3 c =
     ap (loading Failure.None (a .found .progress)) (c .place .ensures) ∙ rw (c .before .before .before .before .before .before .if1 .left, h)
 
 pub settled-spec : {M : Type 1} → statement M
-settled-spec = tie.close (tie.spec returns vacancies-requires returns-2 place-requires returns-3)
+settled-spec = tie.close (tie.spec returns (λ c κs. search needs) returns-2 (λ c κs. search needs) returns-3)

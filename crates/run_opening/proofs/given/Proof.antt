@@ -15,27 +15,6 @@ Inv-loop ts available₀ i₀ available i = (i ≤ length ts) × (available ≡ 
 abbrev μ-loop : tie.MeasureT-loop
 μ-loop ts available₀ i₀ available i = length ts - i
 
-loop-holds : tie.Need-loop-holds Inv-loop μ-loop
-loop-holds c = search needs
-
-mul-t5 : tie.Need-mul-t5 Inv-loop μ-loop
-mul-t5 c = search needs
-
-shared-slice-read-t8 : tie.Need-shared-slice-read-t8 Inv-loop μ-loop
-shared-slice-read-t8 c = search needs
-
-mul-available : tie.Need-mul-available Inv-loop μ-loop
-mul-available c = search needs
-
-array-set-from-available : tie.Need-array-set-from-available Inv-loop μ-loop
-array-set-from-available c = search needs
-
-add-i : tie.Need-add-i Inv-loop μ-loop
-add-i c = search needs
-
-loop-less : tie.Need-loop-less Inv-loop μ-loop
-loop-less c = search needs
-
 loop-again : tie.Need-loop-again Inv-loop μ-loop
 loop-again c =
     let l = c .before .before .loop in
@@ -57,12 +36,12 @@ given-spec =
     (tie.spec
     Inv-loop
     μ-loop
-    loop-holds
-    mul-t5
-    shared-slice-read-t8
-    mul-available
-    array-set-from-available
-    add-i
-    loop-less
+    (λ c. search needs)
+    (λ c. search needs)
+    (λ c. search needs)
+    (λ c. search needs)
+    (λ c. search needs)
+    (λ c. search needs)
+    (λ c. search needs)
     loop-again
     returns)

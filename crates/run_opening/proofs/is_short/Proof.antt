@@ -4,12 +4,6 @@ use borrow.Author.Needs.{needs}
 use Rattle.run_opening.proofs.is_short.Statement.{statement}
 use Rattle.run_opening.proofs.is_short.Tie as tie
 
-is-work-requires : tie.Need-is-work-requires
-is-work-requires c κs = search needs
-
-cast-result : tie.Need-cast-result
-cast-result c = search needs
-
 returns : tie.Need-returns
 returns c = rw (sym (c .before .before .is-work .ensures) ∙ c .before .if1 .taken)
 
@@ -17,4 +11,4 @@ returns-2 : tie.Need-returns-2
 returns-2 c = rw (sym (c .before .is-work .ensures) ∙ c .if1 .left)
 
 pub is-short-spec : {M : Type 1} → statement M
-is-short-spec = tie.close (tie.spec is-work-requires cast-result returns returns-2)
+is-short-spec = tie.close (tie.spec (λ c κs. search needs) (λ c. search needs) returns returns-2)

@@ -25,17 +25,11 @@ Inv-loop slack plan activities a₀ a =
 abbrev μ-loop : tie.MeasureT-loop
 μ-loop slack plan activities a₀ a = activities - a
 
-wide-requires : tie.Need-wide-requires Inv-loop2 μ-loop2 Inv-loop μ-loop
-wide-requires c κs = search needs
-
 loop-holds : tie.Need-loop-holds Inv-loop2 μ-loop2 Inv-loop μ-loop
 loop-holds c = (omega arith, c .wide .ensures, low-starts (c .before .args .t1) (c .before .args .slack) (c .before .args .t1 .activities))
 
 element-copy-out-wide : tie.Need-element-copy-out-wide Inv-loop2 μ-loop2 Inv-loop μ-loop
 element-copy-out-wide c = omega (arith, c .before .before .before .pre .activities)
-
-wide-requires-2 : tie.Need-wide-requires-2 Inv-loop2 μ-loop2 Inv-loop μ-loop
-wide-requires-2 c κs = search needs
 
 loop2-holds : tie.Need-loop2-holds Inv-loop2 μ-loop2 Inv-loop μ-loop
 loop2-holds c = let s = c .before .before .before .before .before .args in let a = c .before .before .before .loop .a in (omega arith, short-starts (s .slack) (64 * a) (sizeOf (s .t1) a) (s .t1 .nodes))
@@ -60,9 +54,6 @@ mul-x-2 c = let h = inside (c .before .before) in omega (arith, h .0, h .1)
 element-copy-out-x : tie.Need-element-copy-out-x Inv-loop2 μ-loop2 Inv-loop μ-loop
 element-copy-out-x c = let h = inside (c .before .before) in omega (arith, h .0, h .1)
 
-is-short-requires : tie.Need-is-short-requires Inv-loop2 μ-loop2 Inv-loop μ-loop
-is-short-requires c κs = search needs
-
 returns : tie.Need-returns Inv-loop2 μ-loop2 Inv-loop μ-loop
 returns c =
     let s = c .before .before .before .before .before .before .before .before .before .before .args in
@@ -71,24 +62,12 @@ returns c =
     let f = short-here (s .slack) (64 * l .a) (sizeOf (s .t1) (l .a)) (k .n) (s .t1 .nodes) (omega (arith, c .before .before .before .before .before .wide2 .ensures, c .before .before .before .loop2-test .taken)) (sym (c .before .is-short .ensures) ∙ c .if1 .taken) in
     sym (l .inv .2 ∙ low-here (s .t1) (s .slack) (s .t1 .activities) (l .a) (omega (arith, l .inv .1, c .before .before .before .before .before .before .before .loop-test .taken)) (k .inv .1 ∙ f))
 
-add-n : tie.Need-add-n Inv-loop2 μ-loop2 Inv-loop μ-loop
-add-n c = search needs
-
-loop2-less : tie.Need-loop2-less Inv-loop2 μ-loop2 Inv-loop μ-loop
-loop2-less c = search needs
-
 loop2-again : tie.Need-loop2-again Inv-loop2 μ-loop2 Inv-loop μ-loop
 loop2-again c =
     let s = c .before .before .before .before .before .before .before .before .before .before .args in
     let l = c .before .before .before .before .before .before .before .before .loop in
     let k = c .before .before .before .before .loop2 in
     (omega arith, k .inv .1 ∙ short-past (s .slack) (64 * l .a) (sizeOf (s .t1) (l .a)) (k .n) (s .t1 .nodes) (omega (arith, c .before .before .before .before .before .wide2 .ensures, c .before .before .before .loop2-test .taken)) (sym (c .before .is-short .ensures) ∙ c .if1 .left))
-
-add-a : tie.Need-add-a Inv-loop2 μ-loop2 Inv-loop μ-loop
-add-a c = search needs
-
-loop-less : tie.Need-loop-less Inv-loop2 μ-loop2 Inv-loop μ-loop
-loop-less c = search needs
 
 loop-again : tie.Need-loop-again Inv-loop2 μ-loop2 Inv-loop μ-loop
 loop-again c =
@@ -113,21 +92,21 @@ short-from-spec =
     μ-loop2
     Inv-loop
     μ-loop
-    wide-requires
+    (λ c κs. search needs)
     loop-holds
     element-copy-out-wide
-    wide-requires-2
+    (λ c κs. search needs)
     loop2-holds
     mul-x
     add-x
     mul-x-2
     element-copy-out-x
-    is-short-requires
+    (λ c κs. search needs)
     returns
-    add-n
-    loop2-less
+    (λ c. search needs)
+    (λ c. search needs)
     loop2-again
-    add-a
-    loop-less
+    (λ c. search needs)
+    (λ c. search needs)
     loop-again
     returns-2)

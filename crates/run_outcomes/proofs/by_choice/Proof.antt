@@ -3,12 +3,6 @@ use borrow.Author.Needs.{needs}
 use Rattle.run_outcomes.proofs.by_choice.Statement.{statement}
 use Rattle.run_outcomes.proofs.by_choice.Tie as tie
 
-enum-told : tie.Need-enum-told
-enum-told c = search needs
-
-enum-known-chosen : tie.Need-enum-known-chosen
-enum-known-chosen c = search needs
-
 returns : tie.Need-returns
 returns c = simp (c .enum-told .given .1)
 
@@ -19,7 +13,7 @@ pub by-choice-spec : {M : Type 1} → statement M
 by-choice-spec =
     tie.close
     (tie.spec
-    enum-told
-    enum-known-chosen
+    (λ c. search needs)
+    (λ c. search needs)
     returns
     returns-2)

@@ -14,41 +14,14 @@ Inv-loop from count position node o pending end i₀ i =
 abbrev μ-loop : tie.MeasureT-loop
 μ-loop from count position node o pending end i₀ i = end - i
 
-add-end : tie.Need-add-end Inv-loop μ-loop
-add-end c = search needs
-
 loop-holds : tie.Need-loop-holds Inv-loop μ-loop
 loop-holds c = (search needs, search needs, told-starts (c .args .position) (c .args .node) (c .args .o) (c .args .from) (c .args .count) (c .args .t1))
-
-mul-x : tie.Need-mul-x Inv-loop μ-loop
-mul-x c = search needs
-
-array-copy-out-x : tie.Need-array-copy-out-x Inv-loop μ-loop
-array-copy-out-x c = search needs
-
-is-instance-requires : tie.Need-is-instance-requires Inv-loop μ-loop
-is-instance-requires c κs = search needs
-
-tell-requires : tie.Need-tell-requires Inv-loop μ-loop
-tell-requires c κs = search needs
-
-mul-next : tie.Need-mul-next Inv-loop μ-loop
-mul-next c = search needs
-
-array-set-from-next : tie.Need-array-set-from-next Inv-loop μ-loop
-array-set-from-next c = search needs
 
 returns : tie.Need-returns Inv-loop μ-loop
 returns c =
     let l = c .before .before .before .before .before .loop in
     let a = c .before .before .before .before .before .before .args in
     ap (λ x. set (a .t1) (l .i) x) (c .tell .ensures) ∙ sym (l .inv .2 ∙ told-here (a .position) (a .node) (a .o) _ (l .i) (a .t1) (search needs) (sym (c .before .before .is-instance .ensures) ∙ c .before .if1 .taken))
-
-add-i : tie.Need-add-i Inv-loop μ-loop
-add-i c = search needs
-
-loop-less : tie.Need-loop-less Inv-loop μ-loop
-loop-less c = search needs
 
 loop-again : tie.Need-loop-again Inv-loop μ-loop
 loop-again c =
@@ -71,16 +44,16 @@ told-from-spec =
     (tie.spec
     Inv-loop
     μ-loop
-    add-end
+    (λ c. search needs)
     loop-holds
-    mul-x
-    array-copy-out-x
-    is-instance-requires
-    tell-requires
-    mul-next
-    array-set-from-next
+    (λ c. search needs)
+    (λ c. search needs)
+    (λ c κs. search needs)
+    (λ c κs. search needs)
+    (λ c. search needs)
+    (λ c. search needs)
     returns
-    add-i
-    loop-less
+    (λ c. search needs)
+    (λ c. search needs)
     loop-again
     returns-2)

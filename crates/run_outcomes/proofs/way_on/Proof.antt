@@ -10,26 +10,14 @@ use Rattle.run_outcomes.proofs.way_on.Tie as tie
 next-of-requires : tie.Need-next-of-requires
 next-of-requires c κs = c .pre .few
 
-enum-told : tie.Need-enum-told
-enum-told c = search needs
-
 returns : tie.Need-returns
 returns c = let a = c .before .before .before .args in way-ended (a .a) (a .g) _ (sym (c .before .before .next-of .ensures) ∙ c .enum-told .given .1)
-
-enum-told-2 : tie.Need-enum-told-2
-enum-told-2 c = search needs
 
 returns-2 : tie.Need-returns-2
 returns-2 c = let a = c .before .before .before .args in way-goes (a .a) (a .g) _ _ (sym (c .before .before .next-of .ensures) ∙ c .enum-told2 .given .1)
 
-enum-known-next : tie.Need-enum-known-next
-enum-known-next c = search needs
-
 oldest-told-requires : tie.Need-oldest-told-requires
 oldest-told-requires c κs = let s = c .before .before .before .before in s .pre .queued (s .args .g .state) _ (sym (c .before .before .before .next-of .ensures) ∙ c .before .next .given .1)
-
-by-told-requires : tie.Need-by-told-requires
-by-told-requires c κs = search needs
 
 returns-3 : tie.Need-returns-3
 returns-3 c = let a = c .before .before .before .before .before .before .args in c .by-told .ensures ∙ (ap (λ (t : Told). byTold (a .a) (a .g .state) (c .before .before .before .next .given .0 .0) t) (c .before .oldest-told .ensures) ∙ way-waits (a .a) (a .g) _ _ (sym (c .before .before .before .before .before .next-of .ensures) ∙ c .before .before .before .next .given .1))
@@ -39,11 +27,11 @@ way-on-spec =
     tie.close
     (tie.spec
     next-of-requires
-    enum-told
+    (λ c. search needs)
     returns
-    enum-told-2
+    (λ c. search needs)
     returns-2
-    enum-known-next
+    (λ c. search needs)
     oldest-told-requires
-    by-told-requires
+    (λ c κs. search needs)
     returns-3)

@@ -7,18 +7,9 @@ use Rattle.run_path.specs.Inner.Path.{emittedOf}
 use Rattle.run_path.proofs.emitted.Statement.{statement}
 use Rattle.run_path.proofs.emitted.Tie as tie
 
-enum-told : tie.Need-enum-told
-enum-told c = search needs
-
-empty-node-requires : tie.Need-empty-node-requires
-empty-node-requires c κs = search needs
-
 returns : tie.Need-returns
 unfolding emittedOf
 returns c = rw (c .empty-node .ensures) (sym (ap (emittedOf (c .before .before .before .args .plan)) (c .before .enum-told .given .1)))
-
-enum-known-output : tie.Need-enum-known-output
-enum-known-output c = search needs
 
 activity-of-requires : tie.Need-activity-of-requires
 activity-of-requires c κs =
@@ -32,4 +23,4 @@ returns-2 c = c .activity-of .ensures ∙ sym (ap (emittedOf (c .before .before 
 
 pub emitted-spec : {M : Type 1} → statement M
 emitted-spec =
-    tie.close (tie.spec enum-told empty-node-requires returns enum-known-output activity-of-requires returns-2)
+    tie.close (tie.spec (λ c. search needs) (λ c κs. search needs) returns (λ c. search needs) activity-of-requires returns-2)

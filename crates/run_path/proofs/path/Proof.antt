@@ -61,49 +61,22 @@ is-named c =
 names : (c : tie.After-long Inv-loop2 μ-loop2 Inv-loop3 μ-loop3 Inv-loop μ-loop) → OutputNames (c .before .before .before .before .before .before .before .before .before .args .t1) (move (c .before .before .before .before .before .before .before .before .before .args .t1 .automaton) (c .long .result) .output)
 names c = subst (λ (k : ℕ). OutputNames (c .before .before .before .before .before .before .before .before .before .args .t1) (move (c .before .before .before .before .before .before .before .before .before .args .t1 .automaton) k .output)) (sym (c .long .ensures)) (c .before .before .before .before .before .before .before .before .before .pre .0 .moves _ (is-named c) .output)
 
-vacant-requires : tie.Need-vacant-requires Inv-loop2 μ-loop2 Inv-loop3 μ-loop3 Inv-loop μ-loop
-vacant-requires c κs = search needs
-
-empty-node-requires : tie.Need-empty-node-requires Inv-loop2 μ-loop2 Inv-loop3 μ-loop3 Inv-loop μ-loop
-empty-node-requires c κs = search needs
-
 loop-holds : tie.Need-loop-holds Inv-loop2 μ-loop2 Inv-loop3 μ-loop3 Inv-loop μ-loop
 loop-holds c =
     let s = c .before .before .before in
     (walking-starts (s .args .t1) (s .args .next) (s .args .progress) _ (c .before .before .vacant .ensures) (s .pre .1 .0) (s .pre .1 .1), refl)
 
-enum-known-to : tie.Need-enum-known-to Inv-loop2 μ-loop2 Inv-loop3 μ-loop3 Inv-loop μ-loop
-enum-known-to c = search needs
-
 returns : tie.Need-returns Inv-loop2 μ-loop2 Inv-loop3 μ-loop3 Inv-loop μ-loop
 returns c = let l = c .before .before .loop in rests _ _ (l .left) (l .found) (l .to) (l .inv .0) (c .match .keys2)
 
-long-requires : tie.Need-long-requires Inv-loop2 μ-loop2 Inv-loop3 μ-loop3 Inv-loop μ-loop
-long-requires c κs = search needs
-
-mul-m : tie.Need-mul-m Inv-loop2 μ-loop2 Inv-loop3 μ-loop3 Inv-loop μ-loop
-mul-m c = search needs
-
 element-copy-out-m : tie.Need-element-copy-out-m Inv-loop2 μ-loop2 Inv-loop3 μ-loop3 Inv-loop μ-loop
 element-copy-out-m c = omega (arith, c .long .ensures, is-named c, c .before .before .before .before .before .before .before .before .before .pre .0 .transitions)
-
-activity-number-requires : tie.Need-activity-number-requires Inv-loop2 μ-loop2 Inv-loop3 μ-loop3 Inv-loop μ-loop
-activity-number-requires c κs = search needs
-
-wide-requires : tie.Need-wide-requires Inv-loop2 μ-loop2 Inv-loop3 μ-loop3 Inv-loop μ-loop
-wide-requires c κs = search needs
 
 below : (c : tie.After-wide Inv-loop2 μ-loop2 Inv-loop3 μ-loop3 Inv-loop μ-loop) → c .wide .result < 32
 below c = omega (arith, c .wide .ensures, c .before .activity-number .ensures, number-below (c .before .before .before .before .before .before .before .before .before .before .before .before .args .t1) (c .before .before .before .before .before .before .before .before .before .before .before .before .pre .0) (move (c .before .before .before .before .before .before .before .before .before .before .before .before .args .t1 .automaton) (c .before .before .before .long .result) .output) (names (c .before .before .before)))
 
 element-copy-out-emitted-count : tie.Need-element-copy-out-emitted-count Inv-loop2 μ-loop2 Inv-loop3 μ-loop3 Inv-loop μ-loop
 element-copy-out-emitted-count c = below c
-
-emitted-count-requires : tie.Need-emitted-count-requires Inv-loop2 μ-loop2 Inv-loop3 μ-loop3 Inv-loop μ-loop
-emitted-count-requires c κs = search needs
-
-wide-requires-2 : tie.Need-wide-requires-2 Inv-loop2 μ-loop2 Inv-loop3 μ-loop3 Inv-loop μ-loop
-wide-requires-2 c κs = search needs
 
 -- how many nodes it has
 few : (c : tie.After-wide2 Inv-loop2 μ-loop2 Inv-loop3 μ-loop3 Inv-loop μ-loop) → c .wide2 .result ≤ 64
@@ -133,12 +106,6 @@ mul-nodes-3 c = omega (arith, few (c .before .before .before), below (c .before 
 
 array-set-from-nodes : tie.Need-array-set-from-nodes Inv-loop2 μ-loop2 Inv-loop3 μ-loop3 Inv-loop μ-loop
 array-set-from-nodes c = omega (arith, few (c .before .before .before), below (c .before .before .before .before .before .before))
-
-add-n : tie.Need-add-n Inv-loop2 μ-loop2 Inv-loop3 μ-loop3 Inv-loop μ-loop
-add-n c = search needs
-
-loop2-less : tie.Need-loop2-less Inv-loop2 μ-loop2 Inv-loop3 μ-loop3 Inv-loop μ-loop
-loop2-less c = search needs
 
 loop2-again : tie.Need-loop2-again Inv-loop2 μ-loop2 Inv-loop3 μ-loop3 Inv-loop μ-loop
 loop2-again c =
@@ -176,37 +143,19 @@ returns-2 c =
     let l = c .before .before .before .before .before .before .before .before .before .before .before .before .before .before .before .before .loop in
     walking-stops (c .before .before .before .before .before .before .before .before .before .before .before .before .before .before .before .before .before .before .before .before .args .t1) _ (l .left) (l .found) _ (l .inv .0) (c .before .before .before .before .before .before .before .before .before .before .before .before .before .to .given .1) (omega arith) (c .before .before .before .before .before .before .before .before .before .before .before .before .before .before .before .before .before .before .before .before .pre .0) _ (taken-past (c .before .before .before .before .before .before .before .before .before .before .before .before .before .before .before .before .before .before .before .before .args .t1) _ (l .found) (c .before .stepped .result) (step-of (c .before)) (c .if1 .taken)) refl
 
-loop3-holds : tie.Need-loop3-holds Inv-loop2 μ-loop2 Inv-loop3 μ-loop3 Inv-loop μ-loop
-loop3-holds c = search needs
-
 mul-e : tie.Need-mul-e Inv-loop2 μ-loop2 Inv-loop3 μ-loop3 Inv-loop μ-loop
 mul-e c = omega (arith, few-entries (c .before .before .before))
 
 element-copy-out-e : tie.Need-element-copy-out-e Inv-loop2 μ-loop2 Inv-loop3 μ-loop3 Inv-loop μ-loop
 element-copy-out-e c = omega (arith, few-entries (c .before .before .before))
 
-add-j : tie.Need-add-j Inv-loop2 μ-loop2 Inv-loop3 μ-loop3 Inv-loop μ-loop
-add-j c = search needs
-
 add-found : tie.Need-add-found Inv-loop2 μ-loop2 Inv-loop3 μ-loop3 Inv-loop μ-loop
 add-found c = omega (arith, c .before .before .loop3 .inv .1, c .before .before .before .before .before .before .before .before .before .before .before .before .before .before .before .before .before .before .before .loop .inv .0 .count, few-entries (c .before .before .before .before))
-
-mul-e-2 : tie.Need-mul-e-2 Inv-loop2 μ-loop2 Inv-loop3 μ-loop3 Inv-loop μ-loop
-mul-e-2 c = search needs
-
-element-set-from-e : tie.Need-element-set-from-e Inv-loop2 μ-loop2 Inv-loop3 μ-loop3 Inv-loop μ-loop
-element-set-from-e c = search needs
-
-loop3-less : tie.Need-loop3-less Inv-loop2 μ-loop2 Inv-loop3 μ-loop3 Inv-loop μ-loop
-loop3-less c = search needs
 
 loop3-again : tie.Need-loop3-again Inv-loop2 μ-loop2 Inv-loop3 μ-loop3 Inv-loop μ-loop
 loop3-again c =
     let l = c .before .before .before .loop3 in
     (omega arith, omega arith, length-set (l .found .entries) (l .found .count) _ ∙ l .inv .2, store-kept (c .before .before .before .before .before .stepped .result) vacant (l .found) (c .before .before .before .before .before .before .before .before .before .before .before .before .before .before .before .before .before .before .before .before .loop .found) (l .j) (l .inv .3) (omega arith) (omega (arith, few-entries (c .before .before .before .before .before), all-entries (c .before .before .before .before .before))))
-
-loop3-less-2 : tie.Need-loop3-less-2 Inv-loop2 μ-loop2 Inv-loop3 μ-loop3 Inv-loop μ-loop
-loop3-less-2 c = search needs
 
 loop3-again-2 : tie.Need-loop3-again-2 Inv-loop2 μ-loop2 Inv-loop3 μ-loop3 Inv-loop μ-loop
 loop3-again-2 c =
@@ -215,12 +164,6 @@ loop3-again-2 c =
 
 next-of-requires : tie.Need-next-of-requires Inv-loop2 μ-loop2 Inv-loop3 μ-loop3 Inv-loop μ-loop
 next-of-requires c κs = c .before .before .before .before .before .before .before .before .before .before .before .before .before .before .before .before .before .before .before .before .before .before .before .pre .0 .transitions
-
-sub-left : tie.Need-sub-left Inv-loop2 μ-loop2 Inv-loop3 μ-loop3 Inv-loop μ-loop
-sub-left c = search needs
-
-loop-less : tie.Need-loop-less Inv-loop2 μ-loop2 Inv-loop3 μ-loop3 Inv-loop μ-loop
-loop-less c = search needs
 
 loop-again : tie.Need-loop-again Inv-loop2 μ-loop2 Inv-loop3 μ-loop3 Inv-loop μ-loop
 loop-again c =
@@ -246,19 +189,19 @@ path-spec =
     μ-loop3
     Inv-loop
     μ-loop
-    vacant-requires
-    empty-node-requires
+    (λ c κs. search needs)
+    (λ c κs. search needs)
     loop-holds
-    enum-known-to
+    (λ c. search needs)
     returns
-    long-requires
-    mul-m
+    (λ c κs. search needs)
+    (λ c. search needs)
     element-copy-out-m
-    activity-number-requires
-    wide-requires
+    (λ c κs. search needs)
+    (λ c κs. search needs)
     element-copy-out-emitted-count
-    emitted-count-requires
-    wide-requires-2
+    (λ c κs. search needs)
+    (λ c κs. search needs)
     loop2-holds
     mul-nodes
     add-nodes
@@ -266,24 +209,24 @@ path-spec =
     element-copy-out-nodes
     mul-nodes-3
     array-set-from-nodes
-    add-n
-    loop2-less
+    (λ c. search needs)
+    (λ c. search needs)
     loop2-again
     stepped-requires
     returns-2
-    loop3-holds
+    (λ c. search needs)
     mul-e
     element-copy-out-e
-    add-j
+    (λ c. search needs)
     add-found
-    mul-e-2
-    element-set-from-e
-    loop3-less
+    (λ c. search needs)
+    (λ c. search needs)
+    (λ c. search needs)
     loop3-again
-    loop3-less-2
+    (λ c. search needs)
     loop3-again-2
     next-of-requires
-    sub-left
-    loop-less
+    (λ c. search needs)
+    (λ c. search needs)
     loop-again
     returns-3)

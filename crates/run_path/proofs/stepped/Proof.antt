@@ -4,12 +4,6 @@ use Rattle.run_path.specs.Laws.Storing.{stepped-is}
 use Rattle.run_path.proofs.stepped.Statement.{statement}
 use Rattle.run_path.proofs.stepped.Tie as tie
 
-advance-requires : tie.Need-advance-requires
-advance-requires c κs = search needs
-
-bring-requires : tie.Need-bring-requires
-bring-requires c κs = search needs
-
 returns : tie.Need-returns
 returns c =
     let a = c .before .before .before .before .before .args in
@@ -18,4 +12,4 @@ returns c =
     stepped-is (a .resources) (a .number) (a .activity) (a .m) (a .before) (v .result) (b .result) (v .ensures) (b .ensures)
 
 pub stepped-spec : {M : Type 1} → statement M
-stepped-spec = tie.close (tie.spec advance-requires bring-requires returns)
+stepped-spec = tie.close (tie.spec (λ c κs. search needs) (λ c κs. search needs) returns)

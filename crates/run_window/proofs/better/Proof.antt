@@ -4,23 +4,8 @@ use borrow.Author.Needs.{needs}
 use Rattle.run_window.proofs.better.Statement.{statement}
 use Rattle.run_window.proofs.better.Tie as tie
 
-enum-told : tie.Need-enum-told
-enum-told c = search needs
-
 returns : tie.Need-returns
 returns c = simp (c .enum-told .given .1)
-
-enum-known-rest : tie.Need-enum-known-rest
-enum-known-rest c = search needs
-
-time-of-requires : tie.Need-time-of-requires
-time-of-requires c κs = search needs
-
-time-of-requires-2 : tie.Need-time-of-requires-2
-time-of-requires-2 c κs = search needs
-
-before-requires : tie.Need-before-requires
-before-requires c κs = search needs
 
 returns-2 : tie.Need-returns-2
 returns-2 c = simp (c .before .before .before .before .before .rest .given .1, sym (c .before .before .before .time-of .ensures), sym (c .before .before .time-of2 .ensures), sym (c .before .before2 .ensures) ∙ c .if1 .taken)
@@ -32,11 +17,11 @@ pub better-spec : {M : Type 1} → statement M
 better-spec =
     tie.close
     (tie.spec
-    enum-told
+    (λ c. search needs)
     returns
-    enum-known-rest
-    time-of-requires
-    time-of-requires-2
-    before-requires
+    (λ c. search needs)
+    (λ c κs. search needs)
+    (λ c κs. search needs)
+    (λ c κs. search needs)
     returns-2
     returns-3)

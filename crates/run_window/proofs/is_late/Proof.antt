@@ -7,9 +7,6 @@ use borrow.Author.Needs.{needs}
 use Rattle.run_window.proofs.is_late.Statement.{statement}
 use Rattle.run_window.proofs.is_late.Tie as tie
 
-enum-told : tie.Need-enum-told
-enum-told c = search needs
-
 to-clock-requires : tie.Need-to-clock-requires
 to-clock-requires c κs = (c .before .before .pre .0, c .before .before .pre .2 (ap isHeld (c .enum-told .given .1)) .0)
 
@@ -17,12 +14,6 @@ add-result : tie.Need-add-result
 add-result c =
     let within = c .before .before .before .before .pre .2 (ap isHeld (c .before .before .enum-told .given .1)) in
     omega (arith, ap (λ (x : Clock). x .0) (c .before .to-clock .ensures))
-
-enum-told-2 : tie.Need-enum-told-2
-enum-told-2 c = search needs
-
-enum-told-3 : tie.Need-enum-told-3
-enum-told-3 c = search needs
 
 returns : tie.Need-returns
 unfolding isLate
@@ -40,11 +31,11 @@ pub is-late-spec : {M : Type 1} → statement M
 is-late-spec =
     tie.close
     (tie.spec
-    enum-told
+    (λ c. search needs)
     to-clock-requires
     add-result
-    enum-told-2
-    enum-told-3
+    (λ c. search needs)
+    (λ c. search needs)
     returns
     returns-2
     returns-3)

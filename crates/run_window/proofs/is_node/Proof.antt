@@ -7,9 +7,6 @@ use borrow.Author.Needs.{needs}
 use Rattle.run_window.proofs.is_node.Statement.{statement}
 use Rattle.run_window.proofs.is_node.Tie as tie
 
-is-free-requires : tie.Need-is-free-requires
-is-free-requires c κs = search needs
-
 returns : tie.Need-returns
 unfolding isNode
 returns c = simp (free-unheld (c .before .before .args .e .phase) (sym (c .before .is-free .ensures) ∙ c .if1 .taken))
@@ -23,4 +20,4 @@ unfolding isNode
 returns-3 c = simp (unfree-held (c .before .before .before .before .args .e .phase) (sym (c .before .before .before .is-free .ensures) ∙ c .before .before .if1 .left), ne-eqb _ _ (c .if2 .left))
 
 pub is-node-spec : {M : Type 1} → statement M
-is-node-spec = tie.close (tie.spec is-free-requires returns returns-2 returns-3)
+is-node-spec = tie.close (tie.spec (λ c κs. search needs) returns returns-2 returns-3)

@@ -5,17 +5,8 @@ use borrow.Author.Needs.{needs}
 use Rattle.run_window.proofs.is_overdue.Statement.{statement}
 use Rattle.run_window.proofs.is_overdue.Tie as tie
 
-enum-told : tie.Need-enum-told
-enum-told c = search needs
-
 to-clock-requires : tie.Need-to-clock-requires
 to-clock-requires c κs = (c .before .before .pre .0, c .before .before .pre .1 (ap isHeld (c .enum-told .given .1)) .1)
-
-enum-told-2 : tie.Need-enum-told-2
-enum-told-2 c = search needs
-
-enum-told-3 : tie.Need-enum-told-3
-enum-told-3 c = search needs
 
 returns : tie.Need-returns
 unfolding isOverdue
@@ -32,4 +23,4 @@ returns-3 c = simp (c .enum-told3 .given .1)
 pub is-overdue-spec : {M : Type 1} → statement M
 is-overdue-spec =
     tie.close
-    (tie.spec enum-told to-clock-requires enum-told-2 enum-told-3 returns returns-2 returns-3)
+    (tie.spec (λ c. search needs) to-clock-requires (λ c. search needs) (λ c. search needs) returns returns-2 returns-3)

@@ -4,12 +4,6 @@ use borrow.Author.Needs.{needs}
 use Rattle.run_window.proofs.kept.Statement.{statement}
 use Rattle.run_window.proofs.kept.Tie as tie
 
-is-sought-requires : tie.Need-is-sought-requires
-is-sought-requires c κs = search needs
-
-better-requires : tie.Need-better-requires
-better-requires c κs = search needs
-
 returns : tie.Need-returns
 returns c = rw (sym (c .before .before .is-sought .ensures) ∙ c .before .if1 .taken) (c .better .ensures)
 
@@ -17,4 +11,4 @@ returns-2 : tie.Need-returns-2
 returns-2 c = rw (sym (c .before .is-sought .ensures) ∙ c .if1 .left)
 
 pub kept-spec : {M : Type 1} → statement M
-kept-spec = tie.close (tie.spec is-sought-requires better-requires returns returns-2)
+kept-spec = tie.close (tie.spec (λ c κs. search needs) (λ c κs. search needs) returns returns-2)

@@ -32,15 +32,6 @@ none c s = first-none (isSought s) (sooner s) (c .args .t1) 512 (omega (arith, l
 loop-holds : tie.Need-loop-holds Inv-loop μ-loop
 loop-holds c = let a = c .args in (omega arith, none c (Sought.Overdue (a .psi) (a .t)), none c (Sought.Late (a .psi) (a .slack) (a .t)), none c (a .sought))
 
-sub-i : tie.Need-sub-i Inv-loop μ-loop
-sub-i c = search needs
-
-mul-e : tie.Need-mul-e Inv-loop μ-loop
-mul-e c = search needs
-
-array-copy-out-e : tie.Need-array-copy-out-e Inv-loop μ-loop
-array-copy-out-e c = search needs
-
 kept-requires : tie.Need-kept-requires Inv-loop μ-loop
 kept-requires c κs = let p = c .before .before .before .pre in (p .0, p .3 _)
 
@@ -49,9 +40,6 @@ kept-requires-2 c κs = let p = c .before .before .before .before .pre in ((p .0
 
 kept-requires-3 : tie.Need-kept-requires-3 Inv-loop μ-loop
 kept-requires-3 c κs = let p = c .before .before .before .before .before .pre in (p .2, p .3 _)
-
-loop-less : tie.Need-loop-less Inv-loop μ-loop
-loop-less c = search needs
 
 loop-again : tie.Need-loop-again Inv-loop μ-loop
 loop-again c =
@@ -75,12 +63,12 @@ look-spec =
     Inv-loop
     μ-loop
     loop-holds
-    sub-i
-    mul-e
-    array-copy-out-e
+    (λ c. search needs)
+    (λ c. search needs)
+    (λ c. search needs)
     kept-requires
     kept-requires-2
     kept-requires-3
-    loop-less
+    (λ c. search needs)
     loop-again
     returns)

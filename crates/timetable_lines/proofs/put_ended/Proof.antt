@@ -8,26 +8,14 @@ use borrow.Author.Needs.{needs}
 use Rattle.timetable_lines.proofs.put_ended.Statement.{statement}
 use Rattle.timetable_lines.proofs.put_ended.Tie as tie
 
-put-free-requires : tie.Need-put-free-requires
-put-free-requires c κs = search needs
-
-slice-aggregate-put-list : tie.Need-slice-aggregate-put-list
-slice-aggregate-put-list c = search needs
-
 put-list-requires : tie.Need-put-list-requires
 put-list-requires c κs = (omega (arith, free-length (c .before .before .before .before .before .before .before .args .resources) (c .before .before .before .before .before .before .before .args .progress) (c .before .before .before .before .before .before .before .pre .1)), search needs)
-
-cast-put-after-space : tie.Need-cast-put-after-space
-cast-put-after-space c = search needs
 
 put-after-space-requires : tie.Need-put-after-space-requires
 put-after-space-requires c κs = omega (arith, free-length (c .before .before .before .before .before .before .before .before .before .before .before .before .args .resources) (c .before .before .before .before .before .before .before .before .before .before .before .before .args .progress) (c .before .before .before .before .before .before .before .before .before .before .before .before .pre .1))
 
 put-newline-requires : tie.Need-put-newline-requires
 put-newline-requires c κs = omega (arith, free-length (c .before .before .before .before .before .before .before .before .before .before .before .before .before .before .before .before .args .resources) (c .before .before .before .before .before .before .before .before .before .before .before .before .before .before .before .before .args .progress) (c .before .before .before .before .before .before .before .before .before .before .before .before .before .before .before .before .pre .1), decimal-length (c .before .before .before .before .before .before .before .before .before .before .before .before .before .before .before .before .args .progress .state))
-
-same-length : tie.Need-same-length
-same-length c = search needs
 
 returns : tie.Need-returns
 unfolding line
@@ -37,11 +25,11 @@ pub put-ended-spec : {M : Type 1} → statement M
 put-ended-spec =
     tie.close
     (tie.spec
-    put-free-requires
-    slice-aggregate-put-list
+    (λ c κs. search needs)
+    (λ c. search needs)
     put-list-requires
-    cast-put-after-space
+    (λ c. search needs)
     put-after-space-requires
     put-newline-requires
-    same-length
+    (λ c. search needs)
     returns)

@@ -7,20 +7,8 @@ use borrow.Author.Needs.{needs}
 use Rattle.timetable_lines.proofs.put_row.Statement.{statement}
 use Rattle.timetable_lines.proofs.put_row.Tie as tie
 
-cast-put-decimal : tie.Need-cast-put-decimal
-cast-put-decimal c = search needs
-
-put-decimal-requires : tie.Need-put-decimal-requires
-put-decimal-requires c κs = search needs
-
-cast-put-after-space : tie.Need-cast-put-after-space
-cast-put-after-space c = search needs
-
 put-after-space-requires : tie.Need-put-after-space-requires
 put-after-space-requires c κs = omega (arith, decimal-length (c .before .before .before .before .before .before .before .before .args .e .position))
-
-cast-put-after-space-2 : tie.Need-cast-put-after-space-2
-cast-put-after-space-2 c = search needs
 
 put-after-space-requires-2 : tie.Need-put-after-space-requires-2
 put-after-space-requires-2 c κs = omega (arith, decimal-length (c .before .before .before .before .before .before .before .before .before .before .before .before .before .args .e .position), decimal-length (c .before .before .before .before .before .before .before .before .before .before .before .before .before .args .e .activity))
@@ -34,9 +22,6 @@ put-after-space-requires-4 c κs = omega (arith, decimal-length (c .before .befo
 put-newline-requires : tie.Need-put-newline-requires
 put-newline-requires c κs = omega (arith, decimal-length (c .before .before .before .before .before .before .before .before .before .before .before .before .before .before .before .before .before .before .before .before .before .before .before .before .before .args .e .position), decimal-length (c .before .before .before .before .before .before .before .before .before .before .before .before .before .before .before .before .before .before .before .before .before .before .before .before .before .args .e .activity), decimal-length (c .before .before .before .before .before .before .before .before .before .before .before .before .before .before .before .before .before .before .before .before .before .before .before .before .before .args .e .node), decimal-length (c .before .before .before .before .before .before .before .before .before .before .before .before .before .before .before .before .before .before .before .before .before .before .before .before .before .args .e .start .0), decimal-length (c .before .before .before .before .before .before .before .before .before .before .before .before .before .before .before .before .before .before .before .before .before .before .before .before .before .args .e .end .0))
 
-same-length : tie.Need-same-length
-same-length c = search needs
-
 returns : tie.Need-returns
 unfolding line
 returns c = puts-join (c .before .before .before .before .before .before .before .before .before .before .before .before .before .before .before .before .before .before .before .before .before .before .before .before .put-decimal .ensures) (puts-join (c .before .before .before .before .before .before .before .before .before .before .before .before .before .before .before .before .before .before .before .put-after-space .ensures) (puts-join (c .before .before .before .before .before .before .before .before .before .before .before .before .before .before .put-after-space2 .ensures) (puts-join (c .before .before .before .before .before .before .before .before .before .before .put-after-space3 .ensures) (puts-join (c .before .before .before .before .before .before .put-after-space4 .ensures) (c .before .before .put-newline .ensures)))))
@@ -45,14 +30,14 @@ pub put-row-spec : {M : Type 1} → statement M
 put-row-spec =
     tie.close
     (tie.spec
-    cast-put-decimal
-    put-decimal-requires
-    cast-put-after-space
+    (λ c. search needs)
+    (λ c κs. search needs)
+    (λ c. search needs)
     put-after-space-requires
-    cast-put-after-space-2
+    (λ c. search needs)
     put-after-space-requires-2
     put-after-space-requires-3
     put-after-space-requires-4
     put-newline-requires
-    same-length
+    (λ c. search needs)
     returns)

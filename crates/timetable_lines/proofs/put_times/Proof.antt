@@ -23,20 +23,8 @@ abbrev μ-loop : tie.MeasureT-loop
 loop-holds : tie.Need-loop-holds Inv-loop μ-loop
 loop-holds c = (search needs, search needs, search needs, search needs, omega arith, refl, remains-all _ _ _ _ (rw sub-zero))
 
-mul-t : tie.Need-mul-t Inv-loop μ-loop
-mul-t c = search needs
-
-array-copy-out-t : tie.Need-array-copy-out-t Inv-loop μ-loop
-array-copy-out-t c = search needs
-
 put-after-space-requires : tie.Need-put-after-space-requires Inv-loop μ-loop
 put-after-space-requires c κs = omega arith
-
-add-i : tie.Need-add-i Inv-loop μ-loop
-add-i c = search needs
-
-loop-less : tie.Need-loop-less Inv-loop μ-loop
-loop-less c = search needs
 
 loop-again : tie.Need-loop-again Inv-loop μ-loop
 loop-again c = (
@@ -52,9 +40,6 @@ loop-again c = (
 put-newline-requires : tie.Need-put-newline-requires Inv-loop μ-loop
 put-newline-requires c κs = omega arith
 
-same-length : tie.Need-same-length Inv-loop μ-loop
-same-length c = search needs
-
 returns : tie.Need-returns Inv-loop μ-loop
 returns c = c .before .before .before .before .before .loop .inv .6 _ _ (rw (spaced-end (c .before .before .before .before .before .before .before .args .t3) (c .before .before .before .before .before .before .before .args .count) (c .before .before .before .before .before .loop .i) (omega arith)) (c .before .before .put-newline .ensures))
 
@@ -65,12 +50,12 @@ put-times-spec =
     Inv-loop
     μ-loop
     loop-holds
-    mul-t
-    array-copy-out-t
+    (λ c. search needs)
+    (λ c. search needs)
     put-after-space-requires
-    add-i
-    loop-less
+    (λ c. search needs)
+    (λ c. search needs)
     loop-again
     put-newline-requires
-    same-length
+    (λ c. search needs)
     returns)

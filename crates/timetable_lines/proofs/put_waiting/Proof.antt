@@ -8,17 +8,8 @@ use borrow.Author.Needs.{needs}
 use Rattle.timetable_lines.proofs.put_waiting.Statement.{statement}
 use Rattle.timetable_lines.proofs.put_waiting.Tie as tie
 
-put-free-requires : tie.Need-put-free-requires
-put-free-requires c κs = search needs
-
-slice-aggregate-put-list : tie.Need-slice-aggregate-put-list
-slice-aggregate-put-list c = search needs
-
 put-list-requires : tie.Need-put-list-requires
 put-list-requires c κs = (omega (arith, free-length (c .before .before .before .before .before .before .before .args .resources) (c .before .before .before .before .before .before .before .args .progress) (c .before .before .before .before .before .before .before .pre .1)), search needs)
-
-cast-put-after-space : tie.Need-cast-put-after-space
-cast-put-after-space c = search needs
 
 put-after-space-requires : tie.Need-put-after-space-requires
 put-after-space-requires c κs = omega (arith, free-length (c .before .before .before .before .before .before .before .before .before .before .before .before .args .resources) (c .before .before .before .before .before .before .before .before .before .before .before .before .args .progress) (c .before .before .before .before .before .before .before .before .before .before .before .before .pre .1))
@@ -29,9 +20,6 @@ put-after-space-requires-2 c κs = omega (arith, free-length (c .before .before 
 put-newline-requires : tie.Need-put-newline-requires
 put-newline-requires c κs = omega (arith, free-length (c .before .before .before .before .before .before .before .before .before .before .before .before .before .before .before .before .before .before .before .before .args .resources) (c .before .before .before .before .before .before .before .before .before .before .before .before .before .before .before .before .before .before .before .before .args .progress) (c .before .before .before .before .before .before .before .before .before .before .before .before .before .before .before .before .before .before .before .before .pre .1), decimal-length (c .before .before .before .before .before .before .before .before .before .before .before .before .before .before .before .before .before .before .before .before .args .progress .state), decimal-length (c .before .before .before .before .before .before .before .before .before .before .before .before .before .before .before .before .before .before .before .before .args .e))
 
-same-length : tie.Need-same-length
-same-length c = search needs
-
 returns : tie.Need-returns
 unfolding line
 returns c = puts-join (c .before .before .before .before .before .before .before .before .before .before .before .before .before .before .before .before .before .before .before .before .put-free .ensures) (puts-join (c .before .before .before .before .before .before .before .before .before .before .before .before .before .before .before .put-list .ensures) (puts-join (c .before .before .before .before .before .before .before .before .before .before .put-after-space .ensures) (puts-join (c .before .before .before .before .before .before .put-after-space2 .ensures) (c .before .before .put-newline .ensures))))
@@ -40,12 +28,12 @@ pub put-waiting-spec : {M : Type 1} → statement M
 put-waiting-spec =
     tie.close
     (tie.spec
-    put-free-requires
-    slice-aggregate-put-list
+    (λ c κs. search needs)
+    (λ c. search needs)
     put-list-requires
-    cast-put-after-space
+    (λ c. search needs)
     put-after-space-requires
     put-after-space-requires-2
     put-newline-requires
-    same-length
+    (λ c. search needs)
     returns)

@@ -33,9 +33,6 @@ activities-of-requires c κs = c .before .before .before .pre .1 .0
 loop-holds : tie.Need-loop-holds Inv-loop μ-loop
 loop-holds c = let s = c .before .before .before .before .before .before in (s .pre .0 .0, s .pre .0 .1, s .pre .1 .2, s .pre .1 .1, prints-same (s .args .plan) (s .args .first) _)
 
-index-of-requires : tie.Need-index-of-requires Inv-loop μ-loop
-index-of-requires c κs = search needs
-
 mul-way : tie.Need-mul-way Inv-loop μ-loop
 mul-way c = let s = c .before .before .before .before .before .before .before .before .before in let l = c .before .before .loop in let u = l .inv .3 .within (c .before .loop-test .taken) .progress .state in let v = s .pre .1 .0 .states .1 in let z : c .index-of .result < 640 = omega (arith, c .index-of .ensures .1) in search needs
 
@@ -45,32 +42,14 @@ array-copy-out-way c = let s = c .before .before .before .before .before .before
 ask-requires : tie.Need-ask-requires Inv-loop μ-loop
 ask-requires c κs = let l = c .before .before .before .before .before .loop in let s = l .inv .3 in let u = s .fits in let v = s .few in ((omega (arith, l .inv .0), omega arith), (l .inv .2, l .inv .1))
 
-same-length : tie.Need-same-length Inv-loop μ-loop
-same-length c = search needs
-
-same-length-2 : tie.Need-same-length-2 Inv-loop μ-loop
-same-length-2 c = search needs
-
 returns : tie.Need-returns Inv-loop μ-loop
 returns c = (ends-lost _ _ _ _ (c .if1 .taken), c .before .before .before .before .before .ask .ensures .listens .held)
-
-index-of-requires-2 : tie.Need-index-of-requires-2 Inv-loop μ-loop
-index-of-requires-2 c κs = search needs
 
 mul-found : tie.Need-mul-found Inv-loop μ-loop
 mul-found c = let s = c .before .before .before .before .before .before .before .before .before .before .before .before .before .before .before .before .before .before .before in let l = c .before .before .before .before .before .before .before .before .before .before .before .before .loop in let u = l .inv .3 .within (c .before .before .before .before .before .before .before .before .before .before .before .loop-test .taken) .progress .state in let v = s .pre .1 .0 .states .1 in let z : c .index-of2 .result < 640 = omega (arith, c .index-of2 .ensures .1) in search needs
 
 array-copy-out-found : tie.Need-array-copy-out-found Inv-loop μ-loop
 array-copy-out-found c = let s = c .before .before .before .before .before .before .before .before .before .before .before .before .before .before .before .before .before .before .before in let l = c .before .before .before .before .before .before .before .before .before .before .before .before .loop in let u = l .inv .3 .within (c .before .before .before .before .before .before .before .before .before .before .before .loop-test .taken) .progress .state in let v = s .pre .1 .0 .states .1 in omega (arith, c .index-of2 .ensures .1)
-
-output-of-requires : tie.Need-output-of-requires Inv-loop μ-loop
-output-of-requires c κs = search needs
-
-place-of-requires : tie.Need-place-of-requires Inv-loop μ-loop
-place-of-requires c κs = search needs
-
-mul-activity : tie.Need-mul-activity Inv-loop μ-loop
-mul-activity c = search needs
 
 array-copy-out-activity : tie.Need-array-copy-out-activity Inv-loop μ-loop
 array-copy-out-activity c = omega (arith, c .place-of .ensures .1)
@@ -161,23 +140,11 @@ loop-again c =
       (prints-turn p b heard _ _ _ more unasked g),
     )
 
-same-length-3 : tie.Need-same-length-3 Inv-loop μ-loop
-same-length-3 c = search needs
-
-same-length-4 : tie.Need-same-length-4 Inv-loop μ-loop
-same-length-4 c = search needs
-
 returns-2 : tie.Need-returns-2 Inv-loop μ-loop
 returns-2 c = (ends-lost _ _ _ _ (c .if2 .taken), c .before .before .loop .inv .2)
 
 hand-on-requires : tie.Need-hand-on-requires Inv-loop μ-loop
 hand-on-requires c κs = let l = c .before .before .before .loop in let s = l .inv .3 in let u = s .fits in let v = s .few in (omega (arith, l .inv .0), omega arith)
-
-same-length-5 : tie.Need-same-length-5 Inv-loop μ-loop
-same-length-5 c = search needs
-
-same-length-6 : tie.Need-same-length-6 Inv-loop μ-loop
-same-length-6 c = search needs
 
 returns-3 : tie.Need-returns-3 Inv-loop μ-loop
 returns-3 c = let s = c .before .before .before .before .before .before .before .before .before .before .before .args in let l = c .before .before .before .before .loop in (ends-whole (s .plan) (s .first) _ _ (between (l .output) (l .taken) (l .left) (l .progress)) _ (l .inv .4) (omega arith) (c .before .before .if2 .left) (c .hand-on .ensures .0) (c .hand-on .ensures .1), l .inv .2)
@@ -191,19 +158,19 @@ all-turns-spec =
     steps-of-requires
     activities-of-requires
     loop-holds
-    index-of-requires
+    (λ c κs. search needs)
     mul-way
     array-copy-out-way
     ask-requires
-    same-length
-    same-length-2
+    (λ c. search needs)
+    (λ c. search needs)
     returns
-    index-of-requires-2
+    (λ c κs. search needs)
     mul-found
     array-copy-out-found
-    output-of-requires
-    place-of-requires
-    mul-activity
+    (λ c κs. search needs)
+    (λ c κs. search needs)
+    (λ c. search needs)
     array-copy-out-activity
     put-step-requires
     kept-requires
@@ -211,10 +178,10 @@ all-turns-spec =
     left-after-requires
     loop-less
     loop-again
-    same-length-3
-    same-length-4
+    (λ c. search needs)
+    (λ c. search needs)
     returns-2
     hand-on-requires
-    same-length-5
-    same-length-6
+    (λ c. search needs)
+    (λ c. search needs)
     returns-3)

@@ -6,21 +6,6 @@ use borrow.Author.Needs.{needs}
 use Rattle.timetable_output.proofs.print_cut.Statement.{statement}
 use Rattle.timetable_output.proofs.print_cut.Tie as tie
 
-large-buffer-requires : tie.Need-large-buffer-requires
-large-buffer-requires c κs = search needs
-
-slice-aggregate-cut : tie.Need-slice-aggregate-cut
-slice-aggregate-cut c = search needs
-
-cut-requires : tie.Need-cut-requires
-cut-requires c κs = search needs
-
-past-requires : tie.Need-past-requires
-past-requires c κs = search needs
-
-slice-aggregate-hand-on : tie.Need-slice-aggregate-hand-on
-slice-aggregate-hand-on c = search needs
-
 hand-on-requires : tie.Need-hand-on-requires
 hand-on-requires c κs =
     let u = refused-length 1 (c .before .before .before .before .before .before .args .present) in
@@ -40,10 +25,10 @@ pub print-cut-spec : {M : Type 1} → statement M
 print-cut-spec =
     tie.close
     (tie.spec
-    large-buffer-requires
-    slice-aggregate-cut
-    cut-requires
-    past-requires
-    slice-aggregate-hand-on
+    (λ c κs. search needs)
+    (λ c. search needs)
+    (λ c κs. search needs)
+    (λ c κs. search needs)
+    (λ c. search needs)
     hand-on-requires
     returns)

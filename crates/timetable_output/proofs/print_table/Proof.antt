@@ -11,21 +11,6 @@ use borrow.Author.Needs.{needs}
 use Rattle.timetable_output.proofs.print_table.Statement.{statement}
 use Rattle.timetable_output.proofs.print_table.Tie as tie
 
-large-buffer-requires : tie.Need-large-buffer-requires
-large-buffer-requires c κs = search needs
-
-slice-aggregate-begin : tie.Need-slice-aggregate-begin
-slice-aggregate-begin c = search needs
-
-begin-requires : tie.Need-begin-requires
-begin-requires c κs = search needs
-
-past-requires : tie.Need-past-requires
-past-requires c κs = search needs
-
-slice-aggregate-hand-on : tie.Need-slice-aggregate-hand-on
-slice-aggregate-hand-on c = search needs
-
 hand-on-requires : tie.Need-hand-on-requires
 hand-on-requires c κs =
     let v = judgeOf (now (c .before .before .before .before .before .before .before .before .args .bytes)) .verdict in
@@ -45,18 +30,6 @@ returns c =
     let g = gathers-first _ (firstText v) _ _ _ false (omega arith) (k .ensures .text) (c .before .before .before .past .ensures) in
     let w = g .whole in
     printed-refused _ _ (sym (k .ensures .closed) ∙ c .before .before .if1 .taken) (omega (arith, c .hand-on .ensures .0 .count, c .hand-on .ensures .1))
-
-large-buffer-requires-2 : tie.Need-large-buffer-requires-2
-large-buffer-requires-2 c κs = search needs
-
-untaken-requires : tie.Need-untaken-requires
-untaken-requires c κs = search needs
-
-slice-aggregate-all-turns : tie.Need-slice-aggregate-all-turns
-slice-aggregate-all-turns c = search needs
-
-slice-aggregate-all-turns-2 : tie.Need-slice-aggregate-all-turns-2
-slice-aggregate-all-turns-2 c = search needs
 
 all-turns-requires : tie.Need-all-turns-requires
 all-turns-requires c κs =
@@ -82,9 +55,6 @@ all-turns-requires c κs =
       ),
     )
 
-give-back-requires : tie.Need-give-back-requires
-give-back-requires c κs = search needs
-
 returns-2 : tie.Need-returns-2
 returns-2 c =
     let v = judgeOf (now (c .before .before .before .before .before .before .before .before .before .before .before .before .before .before .before .before .before .before .before .args .bytes)) .verdict in
@@ -98,17 +68,17 @@ pub print-table-spec : {M : Type 1} → statement M
 print-table-spec =
     tie.close
     (tie.spec
-    large-buffer-requires
-    slice-aggregate-begin
-    begin-requires
-    past-requires
-    slice-aggregate-hand-on
+    (λ c κs. search needs)
+    (λ c. search needs)
+    (λ c κs. search needs)
+    (λ c κs. search needs)
+    (λ c. search needs)
     hand-on-requires
     returns
-    large-buffer-requires-2
-    untaken-requires
-    slice-aggregate-all-turns
-    slice-aggregate-all-turns-2
+    (λ c κs. search needs)
+    (λ c κs. search needs)
+    (λ c. search needs)
+    (λ c. search needs)
     all-turns-requires
-    give-back-requires
+    (λ c κs. search needs)
     returns-2)

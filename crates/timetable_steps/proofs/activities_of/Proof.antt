@@ -22,20 +22,8 @@ loop-holds c = (omega arith, record { long = refl; empty = c .emitted .ensures; 
 emitted-requires-2 : tie.Need-emitted-requires-2 Inv-loop μ-loop
 emitted-requires-2 c κs = (c .before .before .before .before .pre, c .if1 .taken)
 
-wide-requires : tie.Need-wide-requires Inv-loop μ-loop
-wide-requires c κs = search needs
-
-mul-all : tie.Need-mul-all Inv-loop μ-loop
-mul-all c = search needs
-
 array-set-from-all : tie.Need-array-set-from-all Inv-loop μ-loop
 array-set-from-all c = let u = c .before .before .before .before .before .before .pre .activities in let l = c .before .before .before .before .loop in omega (arith, c .wide .ensures, c .before .before .if1 .taken)
-
-add-a : tie.Need-add-a Inv-loop μ-loop
-add-a c = search needs
-
-loop-less : tie.Need-loop-less Inv-loop μ-loop
-loop-less c = search needs
 
 loop-again : tie.Need-loop-again Inv-loop μ-loop
 loop-again c =
@@ -55,10 +43,10 @@ activities-of-spec =
     emitted-requires
     loop-holds
     emitted-requires-2
-    wide-requires
-    mul-all
+    (λ c κs. search needs)
+    (λ c. search needs)
     array-set-from-all
-    add-a
-    loop-less
+    (λ c. search needs)
+    (λ c. search needs)
     loop-again
     returns)

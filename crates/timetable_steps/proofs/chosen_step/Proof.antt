@@ -10,20 +10,8 @@ use borrow.Author.Needs.{needs}
 use Rattle.timetable_steps.proofs.chosen_step.Statement.{statement}
 use Rattle.timetable_steps.proofs.chosen_step.Tie as tie
 
-enum-told : tie.Need-enum-told
-enum-told c = search needs
-
 returns : tie.Need-returns
 returns c = simp (c .enum-told .given .1)
-
-enum-known-chosen : tie.Need-enum-known-chosen
-enum-known-chosen c = search needs
-
-long-requires : tie.Need-long-requires
-long-requires c κs = search needs
-
-mul-m : tie.Need-mul-m
-mul-m c = search needs
 
 element-copy-out-m : tie.Need-element-copy-out-m
 element-copy-out-m c = let u = subst Below (c .before .before .chosen .given .1) (c .before .before .before .before .pre) in omega (arith, c .long .ensures)
@@ -36,4 +24,4 @@ returns-2 c =
 pub chosen-step-spec : {M : Type 1} → statement M
 chosen-step-spec =
     tie.close
-    (tie.spec enum-told returns enum-known-chosen long-requires mul-m element-copy-out-m returns-2)
+    (tie.spec (λ c. search needs) returns (λ c. search needs) (λ c κs. search needs) (λ c. search needs) element-copy-out-m returns-2)

@@ -5,18 +5,6 @@ use borrow.Author.Needs.{needs}
 use Rattle.timetable_steps.proofs.column_of.Statement.{statement}
 use Rattle.timetable_steps.proofs.column_of.Tie as tie
 
-enum-told : tie.Need-enum-told
-enum-told c = search needs
-
-returns : tie.Need-returns
-returns c = search needs
-
-enum-known-heard : tie.Need-enum-known-heard
-enum-known-heard c = search needs
-
-cast-result : tie.Need-cast-result
-cast-result c = search needs
-
 returns-2 : tie.Need-returns-2
 returns-2 c = (simp (c .before .before .heard .given .1, lt-ltb _ 8 (c .if1 .taken)), omega arith)
 
@@ -25,4 +13,4 @@ returns-3 c = (simp (c .before .before .heard .given .1, le-ltb _ 8 (c .if1 .lef
 
 pub column-of-spec : {M : Type 1} → statement M
 column-of-spec =
-    tie.close (tie.spec enum-told returns enum-known-heard cast-result returns-2 returns-3)
+    tie.close (tie.spec (λ c. search needs) (λ c. search needs) (λ c. search needs) (λ c. search needs) returns-2 returns-3)

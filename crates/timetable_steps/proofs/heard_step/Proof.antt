@@ -8,23 +8,8 @@ use borrow.Author.Needs.{needs}
 use Rattle.timetable_steps.proofs.heard_step.Statement.{statement}
 use Rattle.timetable_steps.proofs.heard_step.Tie as tie
 
-enum-told : tie.Need-enum-told
-enum-told c = search needs
-
 returns : tie.Need-returns
 returns c = simp (c .enum-told .given .1)
-
-enum-known-heard : tie.Need-enum-known-heard
-enum-known-heard c = search needs
-
-wide-requires : tie.Need-wide-requires
-wide-requires c κs = search needs
-
-array-read-if1 : tie.Need-array-read-if1
-array-read-if1 c = search needs
-
-chosen-of-requires : tie.Need-chosen-of-requires
-chosen-of-requires c κs = search needs
 
 chosen-step-requires : tie.Need-chosen-step-requires
 chosen-step-requires c κs = let s = c .before .before .before .before .before .before in below (s .args .a) (s .pre .0) (s .args .s) (s .args .e) _ _ (c .chosen-of .ensures)
@@ -46,12 +31,12 @@ pub heard-step-spec : {M : Type 1} → statement M
 heard-step-spec =
     tie.close
     (tie.spec
-    enum-told
+    (λ c. search needs)
     returns
-    enum-known-heard
-    wide-requires
-    array-read-if1
-    chosen-of-requires
+    (λ c. search needs)
+    (λ c κs. search needs)
+    (λ c. search needs)
+    (λ c κs. search needs)
     chosen-step-requires
     returns-2
     returns-3)

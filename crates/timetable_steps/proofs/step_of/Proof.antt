@@ -13,20 +13,8 @@ use Rattle.timetable_steps.proofs.step_of.Tie as tie
 next-of-requires : tie.Need-next-of-requires
 next-of-requires c κs = c .pre .few
 
-enum-told : tie.Need-enum-told
-enum-told c = search needs
-
 returns : tie.Need-returns
 returns c = step-as _ _ _ _ _ _ (c .before .before .next-of .ensures) (c .enum-told .given .1)
-
-enum-known-next : tie.Need-enum-known-next
-enum-known-next c = search needs
-
-long-requires : tie.Need-long-requires
-long-requires c κs = search needs
-
-mul-m : tie.Need-mul-m
-mul-m c = search needs
 
 element-copy-out-m : tie.Need-element-copy-out-m
 element-copy-out-m c =
@@ -39,9 +27,6 @@ returns-2 : tie.Need-returns-2
 returns-2 c =
     let s = c .before .before .before .before .before .before .args in
     ap (λ (i : ℕ). Step.Takes (move (s .t1) i) false) (c .before .long .ensures) ∙ step-as (s .t1) (s .outcomes) (s .s) (s .heard) _ _ (c .before .before .before .before .before .next-of .ensures) (c .before .before .before .next .given .1)
-
-enum-known-next-2 : tie.Need-enum-known-next-2
-enum-known-next-2 c = search needs
 
 heard-step-requires : tie.Need-heard-step-requires
 heard-step-requires c κs = let s = c .before .before .before .before in (s .pre .few, s .pre .awaited _ (sym (c .before .before .before .next-of .ensures) ∙ c .before .next2 .given .1))
@@ -56,13 +41,13 @@ step-of-spec =
     tie.close
     (tie.spec
     next-of-requires
-    enum-told
+    (λ c. search needs)
     returns
-    enum-known-next
-    long-requires
-    mul-m
+    (λ c. search needs)
+    (λ c κs. search needs)
+    (λ c. search needs)
     element-copy-out-m
     returns-2
-    enum-known-next-2
+    (λ c. search needs)
     heard-step-requires
     returns-3)

@@ -14,20 +14,8 @@ Inv-loop automaton outcomes ways₀ most k₀ ways k = (k ≤ most) × (most ≡
 abbrev μ-loop : tie.MeasureT-loop
 μ-loop automaton outcomes ways₀ most k₀ ways k = most - k
 
-wide-requires : tie.Need-wide-requires Inv-loop μ-loop
-wide-requires c κs = search needs
-
-mul-most : tie.Need-mul-most Inv-loop μ-loop
-mul-most c = search needs
-
 loop-holds : tie.Need-loop-holds Inv-loop μ-loop
 loop-holds c = (omega arith, omega (arith, c .wide .ensures), record { long = refl; filled = λ j h. absurd (omega arith) })
-
-cast-heard-as : tie.Need-cast-heard-as Inv-loop μ-loop
-cast-heard-as c = search needs
-
-heard-as-requires : tie.Need-heard-as-requires Inv-loop μ-loop
-heard-as-requires c κs = search needs
 
 cast-step-of : tie.Need-cast-step-of Inv-loop μ-loop
 cast-step-of c = let u = c .before .before .before .before .before .before .pre .states .1 in let l = c .before .before .loop in omega arith
@@ -35,17 +23,8 @@ cast-step-of c = let u = c .before .before .before .before .before .before .pre 
 step-of-requires : tie.Need-step-of-requires Inv-loop μ-loop
 step-of-requires c κs = let s = c .before .before .before .before .before .before in named (s .args .plan) (s .pre) _
 
-mul-ways : tie.Need-mul-ways Inv-loop μ-loop
-mul-ways c = search needs
-
 array-set-from-ways : tie.Need-array-set-from-ways Inv-loop μ-loop
 array-set-from-ways c = let u = c .before .before .before .before .before .before .before .pre .states .1 in let l = c .before .before .before .loop in omega arith
-
-add-k : tie.Need-add-k Inv-loop μ-loop
-add-k c = search needs
-
-loop-less : tie.Need-loop-less Inv-loop μ-loop
-loop-less c = search needs
 
 loop-again : tie.Need-loop-again Inv-loop μ-loop
 loop-again c =
@@ -63,16 +42,16 @@ steps-of-spec =
     (tie.spec
     Inv-loop
     μ-loop
-    wide-requires
-    mul-most
+    (λ c κs. search needs)
+    (λ c. search needs)
     loop-holds
-    cast-heard-as
-    heard-as-requires
+    (λ c. search needs)
+    (λ c κs. search needs)
     cast-step-of
     step-of-requires
-    mul-ways
+    (λ c. search needs)
     array-set-from-ways
-    add-k
-    loop-less
+    (λ c. search needs)
+    (λ c. search needs)
     loop-again
     returns)

@@ -4,18 +4,9 @@ use Rattle.wire.specs.Laws.Puts.{puts-join}
 use Rattle.timetable_text.proofs.put_after_space.Statement.{statement}
 use Rattle.timetable_text.proofs.put_after_space.Tie as tie
 
-put-byte-requires : tie.Need-put-byte-requires
-put-byte-requires c κs = search needs
-
-put-decimal-requires : tie.Need-put-decimal-requires
-put-decimal-requires c κs = search needs
-
-same-length : tie.Need-same-length
-same-length c = search needs
-
 returns : tie.Need-returns
 returns c = puts-join (c .before .before .before .before .before .before .put-byte .ensures) (c .before .before .put-decimal .ensures)
 
 pub put-after-space-spec : {M : Type 1} → statement M
 put-after-space-spec =
-    tie.close (tie.spec put-byte-requires put-decimal-requires same-length returns)
+    tie.close (tie.spec (λ c κs. search needs) (λ c κs. search needs) (λ c. search needs) returns)

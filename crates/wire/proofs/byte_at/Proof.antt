@@ -11,9 +11,6 @@ use borrow.Author.Needs.{needs}
 use Rattle.wire.proofs.byte_at.Statement.{statement}
 use Rattle.wire.proofs.byte_at.Tie as tie
 
-shared-slice-read-t6 : tie.Need-shared-slice-read-t6
-shared-slice-read-t6 c = search needs
-
 returns : tie.Need-returns
 unfolding fieldAt
 returns c = let a = c .before .before .args in rw (le-leb (a .at + 1) (length (now (a .bytes))) (omega arith)) (ap Byte.Value (omega arith))
@@ -23,4 +20,4 @@ unfolding fieldAt
 returns-2 c = let a = c .before .args in rw (lt-leb (a .at + 1) (length (now (a .bytes))) (omega arith))
 
 pub byte-at-spec : {M : Type 1} → statement M
-byte-at-spec = tie.close (tie.spec shared-slice-read-t6 returns returns-2)
+byte-at-spec = tie.close (tie.spec (λ c. search needs) returns returns-2)

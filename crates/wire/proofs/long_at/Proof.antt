@@ -6,9 +6,6 @@ use borrow.Author.Needs.{needs}
 use Rattle.wire.proofs.long_at.Statement.{statement}
 use Rattle.wire.proofs.long_at.Tie as tie
 
-fits-requires : tie.Need-fits-requires
-fits-requires c κs = search needs
-
 four-requires : tie.Need-four-requires
 four-requires c κs = leb-true _ _ (sym (c .before .fits2 .ensures) ∙ c .if1 .taken)
 
@@ -21,4 +18,4 @@ unfolding fieldAt
 returns-2 c = rw (sym (c .before .fits2 .ensures) ∙ c .if1 .left)
 
 pub long-at-spec : {M : Type 1} → statement M
-long-at-spec = tie.close (tie.spec fits-requires four-requires returns returns-2)
+long-at-spec = tie.close (tie.spec (λ c κs. search needs) four-requires returns returns-2)

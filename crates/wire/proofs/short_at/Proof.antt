@@ -6,9 +6,6 @@ use borrow.Author.Needs.{needs}
 use Rattle.wire.proofs.short_at.Statement.{statement}
 use Rattle.wire.proofs.short_at.Tie as tie
 
-fits-requires : tie.Need-fits-requires
-fits-requires c κs = search needs
-
 two-requires : tie.Need-two-requires
 two-requires c κs = leb-true _ _ (sym (c .before .fits2 .ensures) ∙ c .if1 .taken)
 
@@ -21,4 +18,4 @@ unfolding fieldAt
 returns-2 c = rw (sym (c .before .fits2 .ensures) ∙ c .if1 .left)
 
 pub short-at-spec : {M : Type 1} → statement M
-short-at-spec = tie.close (tie.spec fits-requires two-requires returns returns-2)
+short-at-spec = tie.close (tie.spec (λ c κs. search needs) two-requires returns returns-2)

@@ -6,9 +6,6 @@ use borrow.Author.Needs.{needs}
 use Rattle.wire.proofs.wide_at.Statement.{statement}
 use Rattle.wire.proofs.wide_at.Tie as tie
 
-fits-requires : tie.Need-fits-requires
-fits-requires c κs = search needs
-
 eight-requires : tie.Need-eight-requires
 eight-requires c κs = leb-true _ _ (sym (c .before .fits2 .ensures) ∙ c .if1 .taken)
 
@@ -21,4 +18,4 @@ unfolding fieldAt
 returns-2 c = rw (sym (c .before .fits2 .ensures) ∙ c .if1 .left)
 
 pub wide-at-spec : {M : Type 1} → statement M
-wide-at-spec = tie.close (tie.spec fits-requires eight-requires returns returns-2)
+wide-at-spec = tie.close (tie.spec (λ c κs. search needs) eight-requires returns returns-2)

@@ -18,23 +18,8 @@ Inv-loop count r₀ k₀ r k = (k ≤ count) × (length r ≡ 64) × ((a : List 
 abbrev μ-loop : tie.MeasureT-loop
 μ-loop count r₀ k₀ r k = count - k
 
-cast-count : tie.Need-cast-count Inv-loop μ-loop
-cast-count c = search needs
-
-arrows-requires : tie.Need-arrows-requires Inv-loop μ-loop
-arrows-requires c κs = search needs
-
 loop-holds : tie.Need-loop-holds Inv-loop μ-loop
 loop-holds c = (search needs, search needs, λ a e h. h)
-
-through-requires : tie.Need-through-requires Inv-loop μ-loop
-through-requires c κs = search needs
-
-add-k : tie.Need-add-k Inv-loop μ-loop
-add-k c = search needs
-
-loop-less : tie.Need-loop-less Inv-loop μ-loop
-loop-less c = search needs
 
 loop-again : tie.Need-loop-again Inv-loop μ-loop
 loop-again c =
@@ -55,11 +40,11 @@ closure-spec =
     (tie.spec
     Inv-loop
     μ-loop
-    cast-count
-    arrows-requires
+    (λ c. search needs)
+    (λ c κs. search needs)
     loop-holds
-    through-requires
-    add-k
-    loop-less
+    (λ c κs. search needs)
+    (λ c. search needs)
+    (λ c. search needs)
     loop-again
     returns)

@@ -18,29 +18,14 @@ Inv-loop node c w₀ j₀ w j = (j ≤ c) × ((m : ℕ) → Bit w m ↔ ((i : �
 abbrev μ-loop : tie.MeasureT-loop
 μ-loop node c w₀ j₀ w j = c - j
 
-cast-c : tie.Need-cast-c Inv-loop μ-loop
-cast-c c = search needs
-
 loop-holds : tie.Need-loop-holds Inv-loop μ-loop
 loop-holds c = (search needs, λ m. (λ e. absurd (no-bit m e), λ s. absurd (omega arith)))
-
-element-copy-out-with : tie.Need-element-copy-out-with Inv-loop μ-loop
-element-copy-out-with c = search needs
-
-cast-with : tie.Need-cast-with Inv-loop μ-loop
-cast-with c = search needs
 
 with-requires : tie.Need-with-requires Inv-loop μ-loop
 with-requires c κs =
     let n = c .before .before .before .args .t1 in
     let j = c .before .before .loop .j in
     c .before .before .before .pre .arrows (getD (n .preds) j 0) (listed (n .preds) (n .count) (getD (n .preds) j 0) .1 (j, c .before .loop-test .taken, refl))
-
-add-j : tie.Need-add-j Inv-loop μ-loop
-add-j c = search needs
-
-loop-less : tie.Need-loop-less Inv-loop μ-loop
-loop-less c = search needs
 
 loop-again : tie.Need-loop-again Inv-loop μ-loop
 loop-again c =
@@ -72,12 +57,12 @@ row-of-spec =
     (tie.spec
     Inv-loop
     μ-loop
-    cast-c
+    (λ c. search needs)
     loop-holds
-    element-copy-out-with
-    cast-with
+    (λ c. search needs)
+    (λ c. search needs)
     with-requires
-    add-j
-    loop-less
+    (λ c. search needs)
+    (λ c. search needs)
     loop-again
     returns)

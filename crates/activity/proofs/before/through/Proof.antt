@@ -17,35 +17,8 @@ Inv-loop r₀ k count row i₀ r i = (i ≤ count) × (length r ≡ 64) × Throu
 abbrev μ-loop : tie.MeasureT-loop
 μ-loop r₀ k count row i₀ r i = count - i
 
-mul-row : tie.Need-mul-row Inv-loop μ-loop
-mul-row c = search needs
-
-element-copy-out-row : tie.Need-element-copy-out-row Inv-loop μ-loop
-element-copy-out-row c = search needs
-
 loop-holds : tie.Need-loop-holds Inv-loop μ-loop
 loop-holds c = (search needs, c .before .pre .2, record { passed = λ n lt. absurd (not-suc-le-zero lt); rest = λ n le. refl })
-
-mul-w : tie.Need-mul-w Inv-loop μ-loop
-mul-w c = search needs
-
-element-copy-out-w : tie.Need-element-copy-out-w Inv-loop μ-loop
-element-copy-out-w c = search needs
-
-step-requires : tie.Need-step-requires Inv-loop μ-loop
-step-requires c κs = search needs
-
-mul-r : tie.Need-mul-r Inv-loop μ-loop
-mul-r c = search needs
-
-element-write-r : tie.Need-element-write-r Inv-loop μ-loop
-element-write-r c = search needs
-
-add-i : tie.Need-add-i Inv-loop μ-loop
-add-i c = search needs
-
-loop-less : tie.Need-loop-less Inv-loop μ-loop
-loop-less c = search needs
 
 loop-again : tie.Need-loop-again Inv-loop μ-loop
 loop-again c =
@@ -69,15 +42,15 @@ through-spec =
     (tie.spec
     Inv-loop
     μ-loop
-    mul-row
-    element-copy-out-row
+    (λ c. search needs)
+    (λ c. search needs)
     loop-holds
-    mul-w
-    element-copy-out-w
-    step-requires
-    mul-r
-    element-write-r
-    add-i
-    loop-less
+    (λ c. search needs)
+    (λ c. search needs)
+    (λ c κs. search needs)
+    (λ c. search needs)
+    (λ c. search needs)
+    (λ c. search needs)
+    (λ c. search needs)
     loop-again
     returns)

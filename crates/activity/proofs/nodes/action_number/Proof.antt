@@ -5,23 +5,14 @@ use borrow.Author.Needs.{needs}
 use Rattle.activity.proofs.nodes.action_number.Statement.{statement}
 use Rattle.activity.proofs.nodes.action_number.Tie as tie
 
-in-line-requires : tie.Need-in-line-requires
-in-line-requires c κs = search needs
-
 returns : tie.Need-returns
 returns c x p belongs a i h free = action-unordered belongs a (c .before .before .args .n) free x p i (refuted (c .before .in-line .ensures belongs a h) (c .if1 .taken))
-
-claimed-requires : tie.Need-claimed-requires
-claimed-requires c κs = search needs
 
 returns-2 : tie.Need-returns-2
 returns-2 c x p belongs a i h free =
     let n = c .before .before .before .before .args .n in
     let line = granted (c .before .before .before .in-line .ensures belongs a h) (c .before .before .if1 .left) in
     action-unheld belongs a n free x p i line (λ b. refuted (c .before .claimed .ensures belongs a n h) (c .if2 .taken) (b .0))
-
-released-requires : tie.Need-released-requires
-released-requires c κs = search needs
 
 returns-3 : tie.Need-returns-3
 returns-3 c x p belongs a i h free =
@@ -41,10 +32,10 @@ pub action-number-spec : {M : Type 1} → statement M
 action-number-spec =
     tie.close
     (tie.spec
-    in-line-requires
+    (λ c κs. search needs)
     returns
-    claimed-requires
+    (λ c κs. search needs)
     returns-2
-    released-requires
+    (λ c κs. search needs)
     returns-3
     returns-4)

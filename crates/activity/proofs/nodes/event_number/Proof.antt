@@ -7,16 +7,10 @@ use borrow.Author.Needs.{needs}
 use Rattle.activity.proofs.nodes.event_number.Statement.{statement}
 use Rattle.activity.proofs.nodes.event_number.Tie as tie
 
-any-requires : tie.Need-any-requires
-any-requires c κs = search needs
-
 returns : tie.Need-returns
 returns c v belongs a i h free =
     let no-bit = refuted (c .before .any .ensures) (c .if1 .taken) in
     event-first belongs a (c .before .before .args .n) free v i (λ b. no-bit (b .0, h .before (b .0) .1 (b .1)))
-
-in-line-requires : tie.Need-in-line-requires
-in-line-requires c κs = search needs
 
 returns-2 : tie.Need-returns-2
 returns-2 c v belongs a i h free =
@@ -31,4 +25,4 @@ returns-3 c v belongs a i h free =
     event-good belongs a (c .before .before .before .before .args .n) free v i b (granted (c .before .in-line .ensures belongs a h) (c .if2 .left))
 
 pub event-number-spec : {M : Type 1} → statement M
-event-number-spec = tie.close (tie.spec any-requires returns in-line-requires returns-2 returns-3)
+event-number-spec = tie.close (tie.spec (λ c κs. search needs) returns (λ c κs. search needs) returns-2 returns-3)

@@ -8,36 +8,6 @@ use borrow.Author.Needs.{needs}
 use Rattle.activity.proofs.nodes.look.Statement.{statement}
 use Rattle.activity.proofs.nodes.look.Tie as tie
 
-label-requires : tie.Need-label-requires
-label-requires c κs = search needs
-
-mul-r : tie.Need-mul-r
-mul-r c = search needs
-
-mul-t10 : tie.Need-mul-t10
-mul-t10 c = search needs
-
-element-copy-out-t13 : tie.Need-element-copy-out-t13
-element-copy-out-t13 c = search needs
-
-after-requires : tie.Need-after-requires
-after-requires c κs = search needs
-
-like-requires : tie.Need-like-requires
-like-requires c κs = search needs
-
-add-like : tie.Need-add-like
-add-like c = search needs
-
-like-requires-2 : tie.Need-like-requires-2
-like-requires-2 c κs = search needs
-
-add-like-2 : tie.Need-add-like-2
-add-like-2 c = search needs
-
-like-requires-3 : tie.Need-like-requires-3
-like-requires-3 c κs = search needs
-
 returns : tie.Need-returns
 returns c belongs a long closed named own held =
     let l = c .before .before .before .before .before .before .args in
@@ -56,14 +26,14 @@ pub look-spec : {M : Type 1} → statement M
 look-spec =
     tie.close
     (tie.spec
-    label-requires
-    mul-r
-    mul-t10
-    element-copy-out-t13
-    after-requires
-    like-requires
-    add-like
-    like-requires-2
-    add-like-2
-    like-requires-3
+    (λ c κs. search needs)
+    (λ c. search needs)
+    (λ c. search needs)
+    (λ c. search needs)
+    (λ c κs. search needs)
+    (λ c κs. search needs)
+    (λ c. search needs)
+    (λ c κs. search needs)
+    (λ c. search needs)
+    (λ c κs. search needs)
     returns)

@@ -11,37 +11,10 @@ use borrow.Author.Needs.{needs}
 use Rattle.activity.proofs.nodes.node_number.Statement.{statement}
 use Rattle.activity.proofs.nodes.node_number.Tie as tie
 
-has-requires : tie.Need-has-requires
-has-requires c κs = search needs
-
 returns : tie.Need-returns
 returns c belongs a i h =
     let s = c .before .before .args in
     on-cycle belongs a (s .n) (h .before (s .n) .0 (told-true (c .before .has .ensures) (c .if1 .taken)))
-
-enum-told : tie.Need-enum-told
-enum-told c = search needs
-
-action-number-requires : tie.Need-action-number-requires
-action-number-requires c κs = search needs
-
-enum-told-2 : tie.Need-enum-told-2
-enum-told-2 c = search needs
-
-claim-number-requires : tie.Need-claim-number-requires
-claim-number-requires c κs = search needs
-
-enum-told-3 : tie.Need-enum-told-3
-enum-told-3 c = search needs
-
-release-number-requires : tie.Need-release-number-requires
-release-number-requires c κs = search needs
-
-enum-told-4 : tie.Need-enum-told-4
-enum-told-4 c = search needs
-
-event-number-requires : tie.Need-event-number-requires
-event-number-requires c κs = search needs
 
 -- past the first test the node is on no cycle
 free :
@@ -73,16 +46,16 @@ pub node-number-spec : {M : Type 1} → statement M
 node-number-spec =
     tie.close
     (tie.spec
-    has-requires
+    (λ c κs. search needs)
     returns
-    enum-told
-    action-number-requires
-    enum-told-2
-    claim-number-requires
-    enum-told-3
-    release-number-requires
-    enum-told-4
-    event-number-requires
+    (λ c. search needs)
+    (λ c κs. search needs)
+    (λ c. search needs)
+    (λ c κs. search needs)
+    (λ c. search needs)
+    (λ c κs. search needs)
+    (λ c. search needs)
+    (λ c κs. search needs)
     returns-2
     returns-3
     returns-4

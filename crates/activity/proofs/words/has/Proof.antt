@@ -5,11 +5,8 @@ use Rattle.basis.specs.Laws.Tells.{tells-eqb}
 use Rattle.activity.proofs.words.has.Statement.{statement}
 use Rattle.activity.proofs.words.has.Tie as tie
 
-shr-result : tie.Need-shr-result
-shr-result c = search needs
-
 returns : tie.Need-returns
 returns c = tells-eqb (c .args .w / 2 ^ (c .args .m) % 2) 1
 
 pub has-spec : {M : Type 1} → statement M
-has-spec = tie.close (tie.spec shr-result returns)
+has-spec = tie.close (tie.spec (λ c. search needs) returns)

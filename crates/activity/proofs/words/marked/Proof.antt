@@ -6,9 +6,6 @@ use borrow.Author.Needs.{needs}
 use Rattle.activity.proofs.words.marked.Statement.{statement}
 use Rattle.activity.proofs.words.marked.Tie as tie
 
-with-requires : tie.Need-with-requires
-with-requires c κs = search needs
-
 returns : tie.Need-returns
 returns c j =
     let i = c .with .ensures j in
@@ -18,4 +15,4 @@ returns-2 : tie.Need-returns-2
 returns-2 c j = (inl, ⊎-elim (λ x. x) (λ q. absurd (false≢true (sym (c .if1 .left) ∙ q .1))))
 
 pub marked-spec : {M : Type 1} → statement M
-marked-spec = tie.close (tie.spec with-requires returns returns-2)
+marked-spec = tie.close (tie.spec (λ c κs. search needs) returns returns-2)

@@ -6,9 +6,6 @@ use Rattle.activity.specs.Laws.Bits.{or-iff}
 use Rattle.activity.proofs.words.step.Statement.{statement}
 use Rattle.activity.proofs.words.step.Tie as tie
 
-has-requires : tie.Need-has-requires
-has-requires c κs = search needs
-
 returns : tie.Need-returns
 returns c j =
     let a = c .before .before .args in
@@ -22,4 +19,4 @@ returns-2 c j =
     (inl, ⊎-elim (λ x. x) (λ q. absurd (no-bit (q .0))))
 
 pub step-spec : {M : Type 1} → statement M
-step-spec = tie.close (tie.spec has-requires returns returns-2)
+step-spec = tie.close (tie.spec (λ c κs. search needs) returns returns-2)

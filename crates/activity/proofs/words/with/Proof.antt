@@ -6,9 +6,6 @@ use Rattle.activity.specs.Laws.Bits.{or-iff, shl-iff}
 use Rattle.activity.proofs.words.with.Statement.{statement}
 use Rattle.activity.proofs.words.with.Tie as tie
 
-shl-result : tie.Need-shl-result
-shl-result c = search needs
-
 returns : tie.Need-returns
 returns c j =
     let i = or-iff (c .args .w) (1 * 2 ^ (c .args .m) % 2 ^ 64) j in
@@ -16,4 +13,4 @@ returns c j =
     (λ e. ⊎-elim inl (λ b. inr (p .0 b)) (i .0 e), λ s. i .1 (⊎-elim inl (λ q. inr (p .1 q)) s))
 
 pub with-spec : {M : Type 1} → statement M
-with-spec = tie.close (tie.spec shl-result returns)
+with-spec = tie.close (tie.spec (λ c. search needs) returns)

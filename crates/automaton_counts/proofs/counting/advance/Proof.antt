@@ -23,27 +23,6 @@ loop-holds c = (omega arith, advance-starts _ _ _ _ _ _ (c .pre .1 .1 .0 .0))
 given-requires : tie.Need-given-requires Inv-loop μ-loop
 given-requires c κs = (c .before .before .pre .0 .3, omega arith)
 
-taken-requires : tie.Need-taken-requires Inv-loop μ-loop
-taken-requires c κs = search needs
-
-mul-was : tie.Need-mul-was Inv-loop μ-loop
-mul-was c = search needs
-
-add-was : tie.Need-add-was Inv-loop μ-loop
-add-was c = search needs
-
-mul-place : tie.Need-mul-place Inv-loop μ-loop
-mul-place c = search needs
-
-add-place : tie.Need-add-place Inv-loop μ-loop
-add-place c = search needs
-
-mul-c : tie.Need-mul-c Inv-loop μ-loop
-mul-c c = search needs
-
-element-copy-out-c : tie.Need-element-copy-out-c Inv-loop μ-loop
-element-copy-out-c c = search needs
-
 sub-counts : tie.Need-sub-counts Inv-loop μ-loop
 sub-counts c =
     let s = c .before .before .before .before .before in
@@ -55,18 +34,6 @@ add-counts c =
     let s = c .before .before .before .before .before in
     let l = c .before .before .before .before .loop in
     omega (arith, s .pre .1 .1 .0 .1 (16 * s .args .from + l .e), c .before .before .given .ensures, gives-few (now (s .args .emits)) (s .args .output) (l .e) (s .pre .1 .1 .1), advance-from _ _ _ _ _ _ (l .e) (l .counts) (s .pre .0 .2) (omega arith) (l .inv .1))
-
-mul-counts : tie.Need-mul-counts Inv-loop μ-loop
-mul-counts c = search needs
-
-element-write-counts : tie.Need-element-write-counts Inv-loop μ-loop
-element-write-counts c = search needs
-
-add-e : tie.Need-add-e Inv-loop μ-loop
-add-e c = search needs
-
-loop-less : tie.Need-loop-less Inv-loop μ-loop
-loop-less c = search needs
 
 loop-again : tie.Need-loop-again Inv-loop μ-loop
 loop-again c =
@@ -91,18 +58,18 @@ advance-spec =
     μ-loop
     loop-holds
     given-requires
-    taken-requires
-    mul-was
-    add-was
-    mul-place
-    add-place
-    mul-c
-    element-copy-out-c
+    (λ c κs. search needs)
+    (λ c. search needs)
+    (λ c. search needs)
+    (λ c. search needs)
+    (λ c. search needs)
+    (λ c. search needs)
+    (λ c. search needs)
     sub-counts
     add-counts
-    mul-counts
-    element-write-counts
-    add-e
-    loop-less
+    (λ c. search needs)
+    (λ c. search needs)
+    (λ c. search needs)
+    (λ c. search needs)
     loop-again
     returns)

@@ -17,12 +17,6 @@ Inv-loop a emits first counts₀ reached₀ counts reached = Going a (gives emit
 abbrev μ-loop : tie.MeasureT-loop
 μ-loop a emits first counts₀ reached₀ counts reached = falses reached
 
-wide-requires : tie.Need-wide-requires Inv-loop μ-loop
-wide-requires c κs = search needs
-
-blank-requires : tie.Need-blank-requires Inv-loop μ-loop
-blank-requires c κs = search needs
-
 array-write-reached : tie.Need-array-write-reached Inv-loop μ-loop
 array-write-reached c = omega (arith, c .before .wide .ensures, c .before .before .pre .0 .initial, c .before .before .pre .0 .states)
 
@@ -49,8 +43,8 @@ explore-spec =
     (tie.spec
     Inv-loop
     μ-loop
-    wide-requires
-    blank-requires
+    (λ c κs. search needs)
+    (λ c κs. search needs)
     array-write-reached
     loop-holds
     pass-requires

@@ -11,29 +11,8 @@ use borrow.Author.Needs.{needs}
 use Rattle.automaton_counts.proofs.counting.given.Statement.{statement}
 use Rattle.automaton_counts.proofs.counting.given.Tie as tie
 
-enum-told : tie.Need-enum-told
-enum-told c = search needs
-
-enum-known-output : tie.Need-enum-known-output
-enum-known-output c = search needs
-
-wide-requires : tie.Need-wide-requires
-wide-requires c κs = search needs
-
-mul-place : tie.Need-mul-place
-mul-place c = search needs
-
-add-place : tie.Need-add-place
-add-place c = search needs
-
 element-copy-out-short : tie.Need-element-copy-out-short
 element-copy-out-short c = omega (arith, subst OutputOk (c .before .before .output .given .1) (c .before .before .before .before .pre .0))
-
-short-requires : tie.Need-short-requires
-short-requires c κs = search needs
-
-returns : tie.Need-returns
-returns c = search needs
 
 returns-2 : tie.Need-returns-2
 returns-2 c =
@@ -46,12 +25,12 @@ pub given-spec : {M : Type 1} → statement M
 given-spec =
     tie.close
     (tie.spec
-    enum-told
-    enum-known-output
-    wide-requires
-    mul-place
-    add-place
+    (λ c. search needs)
+    (λ c. search needs)
+    (λ c κs. search needs)
+    (λ c. search needs)
+    (λ c. search needs)
     element-copy-out-short
-    short-requires
-    returns
+    (λ c κs. search needs)
+    (λ c. search needs)
     returns-2)

@@ -21,32 +21,11 @@ Inv-loop emits reached₀ counts₀ a count changed₀ i₀ reached counts chang
 abbrev μ-loop : tie.MeasureT-loop
 μ-loop emits reached₀ counts₀ a count changed₀ i₀ reached counts changed i = count - i
 
-long-requires : tie.Need-long-requires Inv-loop μ-loop
-long-requires c κs = search needs
-
 loop-holds : tie.Need-loop-holds Inv-loop μ-loop
 loop-holds c = (omega arith, c .before .pre .1 .1)
 
-mul-t : tie.Need-mul-t Inv-loop μ-loop
-mul-t c = search needs
-
-element-copy-out-t : tie.Need-element-copy-out-t Inv-loop μ-loop
-element-copy-out-t c = search needs
-
-add-i : tie.Need-add-i Inv-loop μ-loop
-add-i c = search needs
-
-wide-requires : tie.Need-wide-requires Inv-loop μ-loop
-wide-requires c κs = search needs
-
-wide-requires-2 : tie.Need-wide-requires-2 Inv-loop μ-loop
-wide-requires-2 c κs = search needs
-
 element-copy-out-if1 : tie.Need-element-copy-out-if1 Inv-loop μ-loop
 element-copy-out-if1 c = omega (arith, c .before .wide .ensures, move-ok _ (c .before .before .before .before .before .before .pre .0) (c .before .before .before .before .loop .i) (omega arith) .from)
-
-loop-less : tie.Need-loop-less Inv-loop μ-loop
-loop-less c = search needs
 
 loop-again : tie.Need-loop-again Inv-loop μ-loop
 loop-again c =
@@ -55,9 +34,6 @@ loop-again c =
 
 element-copy-out-if2 : tie.Need-element-copy-out-if2 Inv-loop μ-loop
 element-copy-out-if2 c = omega (arith, c .before .before .wide2 .ensures, move-ok _ (c .before .before .before .before .before .before .before .before .pre .0) (c .before .before .before .before .before .before .loop .i) (omega arith) .to)
-
-loop-less-2 : tie.Need-loop-less-2 Inv-loop μ-loop
-loop-less-2 c = search needs
 
 loop-again-2 : tie.Need-loop-again-2 Inv-loop μ-loop
 loop-again-2 c =
@@ -68,9 +44,6 @@ ready-requires : tie.Need-ready-requires Inv-loop μ-loop
 ready-requires c κs =
     let k = move-ok _ (c .before .before .before .before .before .before .before .before .before .before .before .pre .0) (c .before .before .before .before .before .before .before .before .before .loop .i) (omega arith) in
     (k .input, omega (arith, c .before .before .before .before .before .before .wide .ensures, k .from))
-
-loop-less-3 : tie.Need-loop-less-3 Inv-loop μ-loop
-loop-less-3 c = search needs
 
 loop-again-3 : tie.Need-loop-again-3 Inv-loop μ-loop
 loop-again-3 c =
@@ -97,9 +70,6 @@ advance-requires c κs =
 element-write-reached : tie.Need-element-write-reached Inv-loop μ-loop
 element-write-reached c = omega (arith, c .before .before .before .before .before .before .before .before .before .wide2 .ensures, move-ok _ (c .before .before .before .before .before .before .before .before .before .before .before .before .before .before .before .pre .0) (c .before .before .before .before .before .before .before .before .before .before .before .before .before .loop .i) (omega arith) .to)
 
-loop-less-4 : tie.Need-loop-less-4 Inv-loop μ-loop
-loop-less-4 c = search needs
-
 loop-again-4 : tie.Need-loop-again-4 Inv-loop μ-loop
 loop-again-4 c =
     let l = c .before .before .before .before .before .before .before .before .before .before .before .before .before .loop in
@@ -123,24 +93,24 @@ pass-spec =
     (tie.spec
     Inv-loop
     μ-loop
-    long-requires
+    (λ c κs. search needs)
     loop-holds
-    mul-t
-    element-copy-out-t
-    add-i
-    wide-requires
-    wide-requires-2
+    (λ c. search needs)
+    (λ c. search needs)
+    (λ c. search needs)
+    (λ c κs. search needs)
+    (λ c κs. search needs)
     element-copy-out-if1
-    loop-less
+    (λ c. search needs)
     loop-again
     element-copy-out-if2
-    loop-less-2
+    (λ c. search needs)
     loop-again-2
     ready-requires
-    loop-less-3
+    (λ c. search needs)
     loop-again-3
     advance-requires
     element-write-reached
-    loop-less-4
+    (λ c. search needs)
     loop-again-4
     returns)

@@ -13,24 +13,6 @@ use borrow.Author.Needs.{needs}
 use Rattle.automaton_counts.proofs.counting.ready.Statement.{statement}
 use Rattle.automaton_counts.proofs.counting.ready.Tie as tie
 
-enum-told : tie.Need-enum-told
-enum-told c = search needs
-
-enum-known-input : tie.Need-enum-known-input
-enum-known-input c = search needs
-
-mul-place : tie.Need-mul-place
-mul-place c = search needs
-
-wide-requires : tie.Need-wide-requires
-wide-requires c κs = search needs
-
-add-place : tie.Need-add-place
-add-place c = search needs
-
-mul-result : tie.Need-mul-result
-mul-result c = search needs
-
 element-copy-out-result : tie.Need-element-copy-out-result
 element-copy-out-result c = omega (arith, subst InputOk (c .before .before .input .given .1) (c .before .before .before .before .pre .0))
 
@@ -48,12 +30,12 @@ pub ready-spec : {M : Type 1} → statement M
 ready-spec =
     tie.close
     (tie.spec
-    enum-told
-    enum-known-input
-    mul-place
-    wide-requires
-    add-place
-    mul-result
+    (λ c. search needs)
+    (λ c. search needs)
+    (λ c. search needs)
+    (λ c κs. search needs)
+    (λ c. search needs)
+    (λ c. search needs)
     element-copy-out-result
     returns
     returns-2)

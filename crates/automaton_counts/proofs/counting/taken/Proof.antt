@@ -7,18 +7,6 @@ use borrow.Author.Needs.{needs}
 use Rattle.automaton_counts.proofs.counting.taken.Statement.{statement}
 use Rattle.automaton_counts.proofs.counting.taken.Tie as tie
 
-enum-told : tie.Need-enum-told
-enum-told c = search needs
-
-enum-known-input : tie.Need-enum-known-input
-enum-known-input c = search needs
-
-wide-requires : tie.Need-wide-requires
-wide-requires c κs = search needs
-
-returns : tie.Need-returns
-returns c = search needs
-
 returns-2 : tie.Need-returns-2
 returns-2 c =
     let s = c .before .before .before .before .before in
@@ -31,4 +19,4 @@ returns-3 c =
 
 pub taken-spec : {M : Type 1} → statement M
 taken-spec =
-    tie.close (tie.spec enum-told enum-known-input wide-requires returns returns-2 returns-3)
+    tie.close (tie.spec (λ c. search needs) (λ c. search needs) (λ c κs. search needs) (λ c. search needs) returns-2 returns-3)

@@ -4,11 +4,8 @@ use borrow.Author.Needs.{needs}
 use Rattle.automaton_counts.proofs.final_states.is_final.Statement.{statement}
 use Rattle.automaton_counts.proofs.final_states.is_final.Tie as tie
 
-shr-result : tie.Need-shr-result
-shr-result c = search needs
-
 returns : tie.Need-returns
 returns c = refl
 
 pub is-final-spec : {M : Type 1} → statement M
-is-final-spec = tie.close (tie.spec shr-result returns)
+is-final-spec = tie.close (tie.spec (λ c. search needs) returns)

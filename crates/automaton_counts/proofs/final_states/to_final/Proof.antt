@@ -16,9 +16,6 @@ Inv-loop a done₀ done = Backing a done 0 done false
 abbrev μ-loop : tie.MeasureT-loop
 μ-loop a done₀ done = falses done
 
-finals-of-requires : tie.Need-finals-of-requires Inv-loop μ-loop
-finals-of-requires c κs = search needs
-
 loop-holds : tie.Need-loop-holds Inv-loop μ-loop
 loop-holds c = back-starts _ _ (c .finals-of .ensures .long) (c .finals-of .ensures .bits)
 
@@ -43,7 +40,7 @@ to-final-spec =
     (tie.spec
     Inv-loop
     μ-loop
-    finals-of-requires
+    (λ c κs. search needs)
     loop-holds
     mark-back-requires
     returns

@@ -19,29 +19,8 @@ Inv-loop bytes moves₀ i₀ off₀ moves i off =
 abbrev μ-loop : tie.MeasureT-loop
 μ-loop bytes moves₀ i₀ off₀ moves i off = 256 - i
 
-move-at-requires : tie.Need-move-at-requires Inv-loop μ-loop
-move-at-requires c κs = search needs
-
 loop-holds : tie.Need-loop-holds Inv-loop μ-loop
 loop-holds c = let a = c .before .before .args in (search needs, search needs, search needs, fills-none moveAt moveSize (now (a .bytes)) movesFrom 256 [])
-
-move-at-requires-2 : tie.Need-move-at-requires-2 Inv-loop μ-loop
-move-at-requires-2 c κs = search needs
-
-mul-moves : tie.Need-mul-moves Inv-loop μ-loop
-mul-moves c = search needs
-
-array-set-from-moves : tie.Need-array-set-from-moves Inv-loop μ-loop
-array-set-from-moves c = search needs
-
-add-off : tie.Need-add-off Inv-loop μ-loop
-add-off c = search needs
-
-add-i : tie.Need-add-i Inv-loop μ-loop
-add-i c = search needs
-
-loop-less : tie.Need-loop-less Inv-loop μ-loop
-loop-less c = search needs
 
 loop-again : tie.Need-loop-again Inv-loop μ-loop
 loop-again c = let l = c .before .before .loop in let a = c .before .before .before .before .before .args in (omega arith, omega arith, simp length-set (l .inv .2), fills-more moveAt moveSize (now (a .bytes)) movesFrom 256 (l .moves) (l .i) (l .off) (l .inv .3) _ (c .move-at2 .ensures) (c .before .loop-test .taken) (omega arith))
@@ -55,13 +34,13 @@ moves-of-spec =
     (tie.spec
     Inv-loop
     μ-loop
-    move-at-requires
+    (λ c κs. search needs)
     loop-holds
-    move-at-requires-2
-    mul-moves
-    array-set-from-moves
-    add-off
-    add-i
-    loop-less
+    (λ c κs. search needs)
+    (λ c. search needs)
+    (λ c. search needs)
+    (λ c. search needs)
+    (λ c. search needs)
+    (λ c. search needs)
     loop-again
     returns)

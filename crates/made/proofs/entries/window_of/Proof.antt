@@ -20,29 +20,8 @@ Inv-loop bytes window₀ i₀ off₀ window i off =
 abbrev μ-loop : tie.MeasureT-loop
 μ-loop bytes window₀ i₀ off₀ window i off = 512 - i
 
-entry-at-requires : tie.Need-entry-at-requires Inv-loop μ-loop
-entry-at-requires c κs = search needs
-
 loop-holds : tie.Need-loop-holds Inv-loop μ-loop
 loop-holds c = let a = c .before .before .args in (search needs, search needs, search needs, fills-none entryAt entrySize (now (a .bytes)) windowFrom 512 [])
-
-entry-at-requires-2 : tie.Need-entry-at-requires-2 Inv-loop μ-loop
-entry-at-requires-2 c κs = search needs
-
-mul-window : tie.Need-mul-window Inv-loop μ-loop
-mul-window c = search needs
-
-array-set-from-window : tie.Need-array-set-from-window Inv-loop μ-loop
-array-set-from-window c = search needs
-
-add-off : tie.Need-add-off Inv-loop μ-loop
-add-off c = search needs
-
-add-i : tie.Need-add-i Inv-loop μ-loop
-add-i c = search needs
-
-loop-less : tie.Need-loop-less Inv-loop μ-loop
-loop-less c = search needs
 
 loop-again : tie.Need-loop-again Inv-loop μ-loop
 loop-again c = let l = c .before .before .loop in let a = c .before .before .before .before .before .args in (omega arith, omega arith, simp length-set (l .inv .2), fills-more entryAt entrySize (now (a .bytes)) windowFrom 512 (l .window) (l .i) (l .off) (l .inv .3) _ (c .entry-at2 .ensures) (c .before .loop-test .taken) (omega arith))
@@ -57,13 +36,13 @@ window-of-spec =
     (tie.spec
     Inv-loop
     μ-loop
-    entry-at-requires
+    (λ c κs. search needs)
     loop-holds
-    entry-at-requires-2
-    mul-window
-    array-set-from-window
-    add-off
-    add-i
-    loop-less
+    (λ c κs. search needs)
+    (λ c. search needs)
+    (λ c. search needs)
+    (λ c. search needs)
+    (λ c. search needs)
+    (λ c. search needs)
     loop-again
     returns)

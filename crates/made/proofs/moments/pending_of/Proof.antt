@@ -19,29 +19,8 @@ Inv-loop bytes pending₀ i₀ off₀ pending i off =
 abbrev μ-loop : tie.MeasureT-loop
 μ-loop bytes pending₀ i₀ off₀ pending i off = 128 - i
 
-instance-at-requires : tie.Need-instance-at-requires Inv-loop μ-loop
-instance-at-requires c κs = search needs
-
 loop-holds : tie.Need-loop-holds Inv-loop μ-loop
 loop-holds c = let a = c .before .before .args in (search needs, search needs, search needs, fills-none instanceAt instanceSize (now (a .bytes)) pendingFrom 128 [])
-
-instance-at-requires-2 : tie.Need-instance-at-requires-2 Inv-loop μ-loop
-instance-at-requires-2 c κs = search needs
-
-mul-pending : tie.Need-mul-pending Inv-loop μ-loop
-mul-pending c = search needs
-
-array-set-from-pending : tie.Need-array-set-from-pending Inv-loop μ-loop
-array-set-from-pending c = search needs
-
-add-off : tie.Need-add-off Inv-loop μ-loop
-add-off c = search needs
-
-add-i : tie.Need-add-i Inv-loop μ-loop
-add-i c = search needs
-
-loop-less : tie.Need-loop-less Inv-loop μ-loop
-loop-less c = search needs
 
 loop-again : tie.Need-loop-again Inv-loop μ-loop
 loop-again c = let l = c .before .before .loop in let a = c .before .before .before .before .before .args in (omega arith, omega arith, simp length-set (l .inv .2), fills-more instanceAt instanceSize (now (a .bytes)) pendingFrom 128 (l .pending) (l .i) (l .off) (l .inv .3) _ (c .instance-at2 .ensures) (c .before .loop-test .taken) (omega arith))
@@ -55,13 +34,13 @@ pending-of-spec =
     (tie.spec
     Inv-loop
     μ-loop
-    instance-at-requires
+    (λ c κs. search needs)
     loop-holds
-    instance-at-requires-2
-    mul-pending
-    array-set-from-pending
-    add-off
-    add-i
-    loop-less
+    (λ c κs. search needs)
+    (λ c. search needs)
+    (λ c. search needs)
+    (λ c. search needs)
+    (λ c. search needs)
+    (λ c. search needs)
     loop-again
     returns)

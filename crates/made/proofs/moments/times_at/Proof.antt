@@ -22,24 +22,6 @@ abbrev μ-loop : tie.MeasureT-loop
 loop-holds : tie.Need-loop-holds Inv-loop μ-loop
 loop-holds c = let a = c .before .args in (search needs, search needs, search needs, fills-none timeAt timeSize (now (a .bytes)) (a .at) 16 [])
 
-time-requires : tie.Need-time-requires Inv-loop μ-loop
-time-requires c κs = search needs
-
-mul-times : tie.Need-mul-times Inv-loop μ-loop
-mul-times c = search needs
-
-array-set-from-times : tie.Need-array-set-from-times Inv-loop μ-loop
-array-set-from-times c = search needs
-
-add-off : tie.Need-add-off Inv-loop μ-loop
-add-off c = search needs
-
-add-i : tie.Need-add-i Inv-loop μ-loop
-add-i c = search needs
-
-loop-less : tie.Need-loop-less Inv-loop μ-loop
-loop-less c = search needs
-
 loop-again : tie.Need-loop-again Inv-loop μ-loop
 loop-again c = let l = c .before .before .loop in let a = c .before .before .before .before .args in (omega arith, omega arith, simp length-set (l .inv .2), fills-more timeAt timeSize (now (a .bytes)) (a .at) 16 (l .times) (l .i) (l .off) (l .inv .3) _ (c .time .ensures) (c .before .loop-test .taken) (omega arith))
 
@@ -53,11 +35,11 @@ times-at-spec =
     Inv-loop
     μ-loop
     loop-holds
-    time-requires
-    mul-times
-    array-set-from-times
-    add-off
-    add-i
-    loop-less
+    (λ c κs. search needs)
+    (λ c. search needs)
+    (λ c. search needs)
+    (λ c. search needs)
+    (λ c. search needs)
+    (λ c. search needs)
     loop-again
     returns)

@@ -19,29 +19,8 @@ Inv-loop bytes nodes₀ i₀ off₀ nodes i off =
 abbrev μ-loop : tie.MeasureT-loop
 μ-loop bytes nodes₀ i₀ off₀ nodes i off = 2048 - i
 
-node-at-requires : tie.Need-node-at-requires Inv-loop μ-loop
-node-at-requires c κs = search needs
-
 loop-holds : tie.Need-loop-holds Inv-loop μ-loop
 loop-holds c = let a = c .before .before .args in (search needs, search needs, search needs, fills-none nodeAt nodeSize (now (a .bytes)) nodesFrom 2048 [])
-
-node-at-requires-2 : tie.Need-node-at-requires-2 Inv-loop μ-loop
-node-at-requires-2 c κs = search needs
-
-mul-nodes : tie.Need-mul-nodes Inv-loop μ-loop
-mul-nodes c = search needs
-
-array-set-from-nodes : tie.Need-array-set-from-nodes Inv-loop μ-loop
-array-set-from-nodes c = search needs
-
-add-off : tie.Need-add-off Inv-loop μ-loop
-add-off c = search needs
-
-add-i : tie.Need-add-i Inv-loop μ-loop
-add-i c = search needs
-
-loop-less : tie.Need-loop-less Inv-loop μ-loop
-loop-less c = search needs
 
 loop-again : tie.Need-loop-again Inv-loop μ-loop
 loop-again c = let l = c .before .before .loop in let a = c .before .before .before .before .before .args in (omega arith, omega arith, simp length-set (l .inv .2), fills-more nodeAt nodeSize (now (a .bytes)) nodesFrom 2048 (l .nodes) (l .i) (l .off) (l .inv .3) _ (c .node-at2 .ensures) (c .before .loop-test .taken) (omega arith))
@@ -55,13 +34,13 @@ nodes-of-spec =
     (tie.spec
     Inv-loop
     μ-loop
-    node-at-requires
+    (λ c κs. search needs)
     loop-holds
-    node-at-requires-2
-    mul-nodes
-    array-set-from-nodes
-    add-off
-    add-i
-    loop-less
+    (λ c κs. search needs)
+    (λ c. search needs)
+    (λ c. search needs)
+    (λ c. search needs)
+    (λ c. search needs)
+    (λ c. search needs)
     loop-again
     returns)

@@ -21,26 +21,8 @@ abbrev μ-loop : tie.MeasureT-loop
 loop-holds : tie.Need-loop-holds Inv-loop μ-loop
 loop-holds c = let a = c .before .before .args in (search needs, search needs, search needs, fills-none byteAt 1 (now (a .bytes)) (a .at) (length (now (a .part))) [])
 
-byte-requires : tie.Need-byte-requires Inv-loop μ-loop
-byte-requires c κs = search needs
-
-slice-write-part : tie.Need-slice-write-part Inv-loop μ-loop
-slice-write-part c = search needs
-
-add-off : tie.Need-add-off Inv-loop μ-loop
-add-off c = search needs
-
-add-i : tie.Need-add-i Inv-loop μ-loop
-add-i c = search needs
-
-loop-less : tie.Need-loop-less Inv-loop μ-loop
-loop-less c = search needs
-
 loop-again : tie.Need-loop-again Inv-loop μ-loop
 loop-again c = let l = c .before .before .loop in let a = c .before .before .before .before .before .args in (omega arith, omega arith, simp length-set (l .inv .2), fills-more byteAt 1 (now (a .bytes)) (a .at) (length (now (a .part))) (l .part) (l .i) (l .off) (l .inv .3) _ (c .byte .ensures) (c .before .loop-test .taken) (omega arith))
-
-same-length : tie.Need-same-length Inv-loop μ-loop
-same-length c = search needs
 
 returns : tie.Need-returns Inv-loop μ-loop
 returns c = let l = c .before .loop in let a = c .before .before .before .before .args in fills-all byteAt 1 (now (a .bytes)) (a .at) (length (now (a .part))) (l .part) (l .i) (l .off) (l .inv .3) (l .inv .2) (omega arith) (omega arith)
@@ -52,11 +34,11 @@ fill-spec =
     Inv-loop
     μ-loop
     loop-holds
-    byte-requires
-    slice-write-part
-    add-off
-    add-i
-    loop-less
+    (λ c κs. search needs)
+    (λ c. search needs)
+    (λ c. search needs)
+    (λ c. search needs)
+    (λ c. search needs)
     loop-again
-    same-length
+    (λ c. search needs)
     returns)

@@ -5,11 +5,8 @@ use borrow.Author.Needs.{needs}
 use Rattle.made.proofs.numbers.time.Statement.{statement}
 use Rattle.made.proofs.numbers.time.Tie as tie
 
-eight-requires : tie.Need-eight-requires
-eight-requires c κs = search needs
-
 returns : tie.Need-returns
 returns c = ap (λ (n : ℕ). record { 0 = n }) (c .eight .ensures)
 
 pub time-spec : {M : Type 1} → statement M
-time-spec = tie.close (tie.spec eight-requires returns)
+time-spec = tie.close (tie.spec (λ c κs. search needs) returns)

@@ -6,9 +6,6 @@ use borrow.Author.Needs.{needs}
 use Rattle.plan_automaton.proofs.transitions.input_at.Statement.{statement}
 use Rattle.plan_automaton.proofs.transitions.input_at.Tie as tie
 
-outcome-at-requires : tie.Need-outcome-at-requires
-outcome-at-requires c κs = search needs
-
 returns : tie.Need-returns
 unfolding inputAt
 returns c = rw (bit-zero (c .before .before .before .args .m), eq-eqb _ _ (c .before .if1 .taken)) (c .outcome-at .ensures)
@@ -18,4 +15,4 @@ unfolding inputAt
 returns-2 c = rw (bit-zero (c .before .before .args .m), ne-eqb _ _ (c .if1 .left))
 
 pub input-at-spec : {M : Type 1} → statement M
-input-at-spec = tie.close (tie.spec outcome-at-requires returns returns-2)
+input-at-spec = tie.close (tie.spec (λ c κs. search needs) returns returns-2)

@@ -4,18 +4,6 @@ use borrow.Author.Needs.{needs}
 use Rattle.plan_automaton.proofs.transitions.move_at.Statement.{statement}
 use Rattle.plan_automaton.proofs.transitions.move_at.Tie as tie
 
-byte-in-requires : tie.Need-byte-in-requires
-byte-in-requires c κs = search needs
-
-enum-known-f : tie.Need-enum-known-f
-enum-known-f c = search needs
-
-enum-known-f-2 : tie.Need-enum-known-f-2
-enum-known-f-2 c = search needs
-
-move-from-requires : tie.Need-move-from-requires
-move-from-requires c κs = search needs
-
 returns : tie.Need-returns
 unfolding moveAt
 returns c = rw (← c .before .before .before .byte-in .ensures, c .before .f .given .1)
@@ -27,4 +15,4 @@ returns-2 c = rw (← c .before .before .before .before .byte-in .ensures, c .be
 pub move-at-spec : {M : Type 1} → statement M
 move-at-spec =
     tie.close
-    (tie.spec byte-in-requires enum-known-f enum-known-f-2 move-from-requires returns returns-2)
+    (tie.spec (λ c κs. search needs) (λ c. search needs) (λ c. search needs) (λ c κs. search needs) returns returns-2)

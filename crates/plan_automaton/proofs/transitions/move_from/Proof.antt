@@ -4,27 +4,6 @@ use borrow.Author.Needs.{needs}
 use Rattle.plan_automaton.proofs.transitions.move_from.Statement.{statement}
 use Rattle.plan_automaton.proofs.transitions.move_from.Tie as tie
 
-name-at-requires : tie.Need-name-at-requires
-name-at-requires c κs = search needs
-
-enum-known-f : tie.Need-enum-known-f
-enum-known-f c = search needs
-
-enum-known-f-2 : tie.Need-enum-known-f-2
-enum-known-f-2 c = search needs
-
-name-at-requires-2 : tie.Need-name-at-requires-2
-name-at-requires-2 c κs = search needs
-
-enum-known-g : tie.Need-enum-known-g
-enum-known-g c = search needs
-
-enum-known-g-2 : tie.Need-enum-known-g-2
-enum-known-g-2 c = search needs
-
-move-with-requires : tie.Need-move-with-requires
-move-with-requires c κs = search needs
-
 returns : tie.Need-returns
 unfolding moveFrom
 returns c = rw (← c .before .before .before .name-at .ensures, c .before .f .given .1)
@@ -41,13 +20,13 @@ pub move-from-spec : {M : Type 1} → statement M
 move-from-spec =
     tie.close
     (tie.spec
-    name-at-requires
-    enum-known-f
-    enum-known-f-2
-    name-at-requires-2
-    enum-known-g
-    enum-known-g-2
-    move-with-requires
+    (λ c κs. search needs)
+    (λ c. search needs)
+    (λ c. search needs)
+    (λ c κs. search needs)
+    (λ c. search needs)
+    (λ c. search needs)
+    (λ c κs. search needs)
     returns
     returns-2
     returns-3)

@@ -4,24 +4,6 @@ use borrow.Author.Needs.{needs}
 use Rattle.plan_automaton.proofs.transitions.move_with.Statement.{statement}
 use Rattle.plan_automaton.proofs.transitions.move_with.Tie as tie
 
-input-at-requires : tie.Need-input-at-requires
-input-at-requires c κs = search needs
-
-enum-known-f : tie.Need-enum-known-f
-enum-known-f c = search needs
-
-enum-known-f-2 : tie.Need-enum-known-f-2
-enum-known-f-2 c = search needs
-
-output-at-requires : tie.Need-output-at-requires
-output-at-requires c κs = search needs
-
-enum-known-g : tie.Need-enum-known-g
-enum-known-g c = search needs
-
-enum-known-g-2 : tie.Need-enum-known-g-2
-enum-known-g-2 c = search needs
-
 returns : tie.Need-returns
 unfolding moveWith
 returns c = rw (← c .before .before .before .input-at .ensures, c .before .f .given .1)
@@ -38,12 +20,12 @@ pub move-with-spec : {M : Type 1} → statement M
 move-with-spec =
     tie.close
     (tie.spec
-    input-at-requires
-    enum-known-f
-    enum-known-f-2
-    output-at-requires
-    enum-known-g
-    enum-known-g-2
+    (λ c κs. search needs)
+    (λ c. search needs)
+    (λ c. search needs)
+    (λ c κs. search needs)
+    (λ c. search needs)
+    (λ c. search needs)
     returns
     returns-2
     returns-3)

@@ -5,18 +5,9 @@ use borrow.Author.Needs.{needs}
 use Rattle.plan_automaton.proofs.transitions.output_at.Statement.{statement}
 use Rattle.plan_automaton.proofs.transitions.output_at.Tie as tie
 
-name-at-requires : tie.Need-name-at-requires
-name-at-requires c κs = search needs
-
-enum-known-f : tie.Need-enum-known-f
-enum-known-f c = search needs
-
 returns : tie.Need-returns
 unfolding outputAt
 returns c = rw (eq-eqb _ _ (c .before .before .before .before .if1 .taken), ← c .before .before .before .name-at .ensures, c .before .f .given .1)
-
-enum-known-f-2 : tie.Need-enum-known-f-2
-enum-known-f-2 c = search needs
 
 returns-2 : tie.Need-returns-2
 unfolding outputAt
@@ -28,4 +19,4 @@ returns-3 c = rw (ne-eqb _ _ (c .if1 .left))
 
 pub output-at-spec : {M : Type 1} → statement M
 output-at-spec =
-    tie.close (tie.spec name-at-requires enum-known-f returns enum-known-f-2 returns-2 returns-3)
+    tie.close (tie.spec (λ c κs. search needs) (λ c. search needs) returns (λ c. search needs) returns-2 returns-3)

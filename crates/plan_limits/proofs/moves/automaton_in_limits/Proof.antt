@@ -6,9 +6,6 @@ use Rattle.plan_limits.specs.Limits.{automatonInLimits}
 use Rattle.plan_limits.proofs.moves.automaton_in_limits.Statement.{statement}
 use Rattle.plan_limits.proofs.moves.automaton_in_limits.Tie as tie
 
-states-in-limits-requires : tie.Need-states-in-limits-requires
-states-in-limits-requires c κs = search needs
-
 returns : tie.Need-returns
 unfolding automatonInLimits
 returns c = rw (sym (c .before .states-in-limits .ensures) ∙ not-true (c .before .states-in-limits .result) (c .if1 .taken))
@@ -17,9 +14,6 @@ returns-2 : tie.Need-returns-2
 unfolding automatonInLimits
 returns-2 c = rw (sym (c .before .before .before .states-in-limits .ensures) ∙ not-false (c .before .before .before .states-in-limits .result) (c .before .before .if1 .left), lt-leb _ _ (c .if2 .taken))
 
-moves-in-limits-requires : tie.Need-moves-in-limits-requires
-moves-in-limits-requires c κs = search needs
-
 returns-3 : tie.Need-returns-3
 unfolding automatonInLimits
 returns-3 c = rw (sym (c .before .before .before .before .before .states-in-limits .ensures) ∙ not-false (c .before .before .before .before .before .states-in-limits .result) (c .before .before .before .before .if1 .left), le-leb _ _ (c .before .before .if2 .left)) (c .moves-in-limits .ensures)
@@ -27,4 +21,4 @@ returns-3 c = rw (sym (c .before .before .before .before .before .states-in-limi
 pub automaton-in-limits-spec : {M : Type 1} → statement M
 automaton-in-limits-spec =
     tie.close
-    (tie.spec states-in-limits-requires returns returns-2 moves-in-limits-requires returns-3)
+    (tie.spec (λ c κs. search needs) returns returns-2 (λ c κs. search needs) returns-3)

@@ -14,11 +14,8 @@ returns c =
     let e : c .before .args .states ≡ 64 = c .if1 .taken in
     rw e (sym (lt-ltb (c .before .args .finals) (2 ^ 64) (omega arith)))
 
-shr-result : tie.Need-shr-result
-shr-result c = search needs
-
 returns-2 : tie.Need-returns-2
 returns-2 c = quotient-zero (c .before .args .finals) (2 ^ c .before .args .states) (pow-pos (c .before .args .states))
 
 pub finals-in-limits-spec : {M : Type 1} → statement M
-finals-in-limits-spec = tie.close (tie.spec returns shr-result returns-2)
+finals-in-limits-spec = tie.close (tie.spec returns (λ c. search needs) returns-2)

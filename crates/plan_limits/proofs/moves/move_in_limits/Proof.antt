@@ -14,15 +14,9 @@ returns-2 : tie.Need-returns-2
 unfolding moveInLimits
 returns-2 c = rw (lt-ltb _ _ (c .before .before .if1 .left), le-ltb _ _ (c .if2 .taken))
 
-input-names-requires : tie.Need-input-names-requires
-input-names-requires c κs = search needs
-
 returns-3 : tie.Need-returns-3
 unfolding moveInLimits
 returns-3 c = rw (lt-ltb _ _ (c .before .before .before .before .if1 .left), lt-ltb _ _ (c .before .before .if2 .left), sym (c .before .input-names .ensures) ∙ not-true (c .before .input-names .result) (c .if3 .taken))
-
-output-names-requires : tie.Need-output-names-requires
-output-names-requires c κs = search needs
 
 returns-4 : tie.Need-returns-4
 unfolding moveInLimits
@@ -33,4 +27,4 @@ returns-4 c =
 pub move-in-limits-spec : {M : Type 1} → statement M
 move-in-limits-spec =
     tie.close
-    (tie.spec returns returns-2 input-names-requires returns-3 output-names-requires returns-4)
+    (tie.spec returns returns-2 (λ c κs. search needs) returns-3 (λ c κs. search needs) returns-4)

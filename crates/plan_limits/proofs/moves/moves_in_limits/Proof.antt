@@ -21,21 +21,6 @@ Inv-loop states activities events outcomes count moves left₀ left = (left ≤ 
 abbrev μ-loop : tie.MeasureT-loop
 μ-loop states activities events outcomes count moves left₀ left = left
 
-loop-holds : tie.Need-loop-holds Inv-loop μ-loop
-loop-holds c = search needs
-
-sub-i : tie.Need-sub-i Inv-loop μ-loop
-sub-i c = search needs
-
-mul-t : tie.Need-mul-t Inv-loop μ-loop
-mul-t c = search needs
-
-array-copy-out-t : tie.Need-array-copy-out-t Inv-loop μ-loop
-array-copy-out-t c = search needs
-
-move-in-limits-requires : tie.Need-move-in-limits-requires Inv-loop μ-loop
-move-in-limits-requires c κs = search needs
-
 returns : tie.Need-returns Inv-loop μ-loop
 unfolding movesInLimits
 returns c =
@@ -43,9 +28,6 @@ returns c =
     let l = c .before .before .before .before .loop in
     sym (every-off (λ i. moveInLimits (a .states) (a .activities) (a .events) (a .outcomes) (getD (a .t6) i pastMove)) (a .count) (l .left) (c .before .before .before .loop-test .taken) (l .inv .1)
     (sym (c .before .move-in-limits .ensures) ∙ not-true (c .before .move-in-limits .result) (c .if1 .taken)))
-
-loop-less : tie.Need-loop-less Inv-loop μ-loop
-loop-less c = search needs
 
 loop-again : tie.Need-loop-again Inv-loop μ-loop
 loop-again c =
@@ -69,12 +51,12 @@ moves-in-limits-spec =
     (tie.spec
     Inv-loop
     μ-loop
-    loop-holds
-    sub-i
-    mul-t
-    array-copy-out-t
-    move-in-limits-requires
+    (λ c. search needs)
+    (λ c. search needs)
+    (λ c. search needs)
+    (λ c. search needs)
+    (λ c κs. search needs)
     returns
-    loop-less
+    (λ c. search needs)
     loop-again
     returns-2)

@@ -3,17 +3,8 @@ use borrow.Author.Needs.{needs}
 use Rattle.plan_limits.proofs.moves.output_names.Statement.{statement}
 use Rattle.plan_limits.proofs.moves.output_names.Tie as tie
 
-enum-told : tie.Need-enum-told
-enum-told c = search needs
-
-enum-known-output : tie.Need-enum-known-output
-enum-known-output c = search needs
-
-returns : tie.Need-returns
-returns c = search needs
-
 returns-2 : tie.Need-returns-2
 returns-2 c = rw (c .before .output .given .1)
 
 pub output-names-spec : {M : Type 1} → statement M
-output-names-spec = tie.close (tie.spec enum-told enum-known-output returns returns-2)
+output-names-spec = tie.close (tie.spec (λ c. search needs) (λ c. search needs) (λ c. search needs) returns-2)

@@ -13,9 +13,6 @@ returns-2 c = rw (le-leb _ _ (c .before .if1 .left), lt-leb _ _ (c .if2 .taken))
 returns-3 : tie.Need-returns-3
 returns-3 c = rw (le-leb _ _ (c .before .before .if1 .left), le-leb _ _ (c .before .if2 .left), le-ltb _ _ (c .if3 .taken))
 
-finals-in-limits-requires : tie.Need-finals-in-limits-requires
-finals-in-limits-requires c κs = search needs
-
 returns-4 : tie.Need-returns-4
 returns-4 c =
     rw (le-leb _ _ (c .before .before .before .if1 .left), le-leb _ _ (c .before .before .if2 .left), lt-ltb _ _ (c .before .if3 .left))
@@ -23,4 +20,4 @@ returns-4 c =
 
 pub states-in-limits-spec : {M : Type 1} → statement M
 states-in-limits-spec =
-    tie.close (tie.spec returns returns-2 returns-3 finals-in-limits-requires returns-4)
+    tie.close (tie.spec returns returns-2 returns-3 (λ c κs. search needs) returns-4)

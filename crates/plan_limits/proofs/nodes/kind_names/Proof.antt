@@ -3,18 +3,6 @@ use borrow.Author.Needs.{needs}
 use Rattle.plan_limits.proofs.nodes.kind_names.Statement.{statement}
 use Rattle.plan_limits.proofs.nodes.kind_names.Tie as tie
 
-enum-known-kind : tie.Need-enum-known-kind
-enum-known-kind c = search needs
-
-enum-known-kind-2 : tie.Need-enum-known-kind-2
-enum-known-kind-2 c = search needs
-
-enum-known-kind-3 : tie.Need-enum-known-kind-3
-enum-known-kind-3 c = search needs
-
-enum-known-kind-4 : tie.Need-enum-known-kind-4
-enum-known-kind-4 c = search needs
-
 returns : tie.Need-returns
 returns c = rw (c .before .kind .given .1)
 
@@ -31,10 +19,10 @@ pub kind-names-spec : {M : Type 1} → statement M
 kind-names-spec =
     tie.close
     (tie.spec
-    enum-known-kind
-    enum-known-kind-2
-    enum-known-kind-3
-    enum-known-kind-4
+    (λ c. search needs)
+    (λ c. search needs)
+    (λ c. search needs)
+    (λ c. search needs)
     returns
     returns-2
     returns-3

@@ -9,9 +9,6 @@ use Rattle.plan_limits.specs.Limits.{nodeInLimits}
 use Rattle.plan_limits.proofs.nodes.node_in_limits.Statement.{statement}
 use Rattle.plan_limits.proofs.nodes.node_in_limits.Tie as tie
 
-kind-names-requires : tie.Need-kind-names-requires
-kind-names-requires c κs = search needs
-
 returns : tie.Need-returns
 unfolding nodeInLimits
 returns c = rw (sym (c .before .kind-names .ensures) ∙ not-true (c .before .kind-names .result) (c .if1 .taken))
@@ -23,9 +20,6 @@ returns-2 c = rw (sym (c .before .before .before .kind-names .ensures) ∙ not-f
 returns-3 : tie.Need-returns-3
 unfolding nodeInLimits
 returns-3 c = rw (sym (c .before .before .before .before .before .kind-names .ensures) ∙ not-false (c .before .before .before .before .before .kind-names .result) (c .before .before .before .before .if1 .left), le-leb _ _ (c .before .before .if2 .left), lt-leb _ _ (c .if3 .taken))
-
-slice-aggregate-within : tie.Need-slice-aggregate-within
-slice-aggregate-within c = search needs
 
 within-requires : tie.Need-within-requires
 within-requires c κs =
@@ -42,10 +36,10 @@ pub node-in-limits-spec : {M : Type 1} → statement M
 node-in-limits-spec =
     tie.close
     (tie.spec
-    kind-names-requires
+    (λ c κs. search needs)
     returns
     returns-2
     returns-3
-    slice-aggregate-within
+    (λ c. search needs)
     within-requires
     returns-4)

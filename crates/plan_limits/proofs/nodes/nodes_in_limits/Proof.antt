@@ -21,27 +21,6 @@ Inv-loop resources peripherals events activities sizes nodes left₀ left = (lef
 abbrev μ-loop : tie.MeasureT-loop
 μ-loop resources peripherals events activities sizes nodes left₀ left = left
 
-mul-left : tie.Need-mul-left Inv-loop μ-loop
-mul-left c = search needs
-
-loop-holds : tie.Need-loop-holds Inv-loop μ-loop
-loop-holds c = search needs
-
-sub-i : tie.Need-sub-i Inv-loop μ-loop
-sub-i c = search needs
-
-array-read-size : tie.Need-array-read-size Inv-loop μ-loop
-array-read-size c = search needs
-
-mul-node : tie.Need-mul-node Inv-loop μ-loop
-mul-node c = search needs
-
-array-copy-out-node : tie.Need-array-copy-out-node Inv-loop μ-loop
-array-copy-out-node c = search needs
-
-slot-in-limits-requires : tie.Need-slot-in-limits-requires Inv-loop μ-loop
-slot-in-limits-requires c κs = search needs
-
 returns : tie.Need-returns Inv-loop μ-loop
 unfolding nodesInLimits
 returns c =
@@ -49,9 +28,6 @@ returns c =
     let l = c .before .before .before .before .loop in
     sym (every-off (λ i. slotInLimits (a .resources) (a .peripherals) (a .events) (getD (a .t5) (i / 64) 0) (i % 64) (getD (a .t6) i pastNode)) (64 * a .activities) (l .left) (c .before .before .before .loop-test .taken) (l .inv .1)
     (sym (c .before .slot-in-limits .ensures) ∙ not-true (c .before .slot-in-limits .result) (c .if1 .taken)))
-
-loop-less : tie.Need-loop-less Inv-loop μ-loop
-loop-less c = search needs
 
 loop-again : tie.Need-loop-again Inv-loop μ-loop
 loop-again c =
@@ -75,14 +51,14 @@ nodes-in-limits-spec =
     (tie.spec
     Inv-loop
     μ-loop
-    mul-left
-    loop-holds
-    sub-i
-    array-read-size
-    mul-node
-    array-copy-out-node
-    slot-in-limits-requires
+    (λ c. search needs)
+    (λ c. search needs)
+    (λ c. search needs)
+    (λ c. search needs)
+    (λ c. search needs)
+    (λ c. search needs)
+    (λ c κs. search needs)
     returns
-    loop-less
+    (λ c. search needs)
     loop-again
     returns-2)

@@ -9,12 +9,9 @@ returns : tie.Need-returns
 unfolding slotInLimits
 returns c = rw (le-leb _ _ (c .if1 .taken))
 
-node-in-limits-requires : tie.Need-node-in-limits-requires
-node-in-limits-requires c κs = search needs
-
 returns-2 : tie.Need-returns-2
 unfolding slotInLimits
 returns-2 c = rw (lt-leb _ _ (c .before .if1 .left)) (c .node-in-limits .ensures)
 
 pub slot-in-limits-spec : {M : Type 1} → statement M
-slot-in-limits-spec = tie.close (tie.spec returns node-in-limits-requires returns-2)
+slot-in-limits-spec = tie.close (tie.spec returns (λ c κs. search needs) returns-2)

@@ -19,15 +19,6 @@ Inv-loop low below count numbers left₀ left = (left ≤ count)
 abbrev μ-loop : tie.MeasureT-loop
 μ-loop low below count numbers left₀ left = left
 
-loop-holds : tie.Need-loop-holds Inv-loop μ-loop
-loop-holds c = search needs
-
-sub-i : tie.Need-sub-i Inv-loop μ-loop
-sub-i c = search needs
-
-shared-slice-read-if1 : tie.Need-shared-slice-read-if1 Inv-loop μ-loop
-shared-slice-read-if1 c = search needs
-
 returns : tie.Need-returns Inv-loop μ-loop
 unfolding within
 returns c =
@@ -36,9 +27,6 @@ returns c =
     sym (every-off (λ i. isWithin (a .low) (a .below) (getD (a .numbers .now) i 0)) (a .count) (l .left) (c .before .before .loop-test .taken) (l .inv .1)
     (rw (lt-leb _ _ (c .if1 .taken))))
 
-shared-slice-read-if2 : tie.Need-shared-slice-read-if2 Inv-loop μ-loop
-shared-slice-read-if2 c = search needs
-
 returns-2 : tie.Need-returns-2 Inv-loop μ-loop
 unfolding within
 returns-2 c =
@@ -46,9 +34,6 @@ returns-2 c =
     let l = c .before .before .before .before .before .loop in
     sym (every-off (λ i. isWithin (a .low) (a .below) (getD (a .numbers .now) i 0)) (a .count) (l .left) (c .before .before .before .before .loop-test .taken) (l .inv .1)
     (rw (le-leb _ _ (c .before .before .if1 .left), le-ltb _ _ (c .if2 .taken))))
-
-loop-less : tie.Need-loop-less Inv-loop μ-loop
-loop-less c = search needs
 
 loop-again : tie.Need-loop-again Inv-loop μ-loop
 loop-again c =
@@ -72,12 +57,12 @@ within-spec =
     (tie.spec
     Inv-loop
     μ-loop
-    loop-holds
-    sub-i
-    shared-slice-read-if1
+    (λ c. search needs)
+    (λ c. search needs)
+    (λ c. search needs)
     returns
-    shared-slice-read-if2
+    (λ c. search needs)
     returns-2
-    loop-less
+    (λ c. search needs)
     loop-again
     returns-3)

@@ -28,21 +28,6 @@ returns c =
     let z : getD (a .t2) 8 0 ≡ 0 = List·getD-eq-default (a .t2) 0 (omega arith) in
     sym (every-not (λ i. ltb (getD (a .t2) i 0) (getD (a .t2) (i + 1) 0)) (a .count - 1) 7 (omega arith) (le-ltb (getD (a .t2) 7 0) (getD (a .t2) 8 0) (omega arith)))
 
-loop-holds : tie.Need-loop-holds Inv-loop μ-loop
-loop-holds c = search needs
-
-sub-i : tie.Need-sub-i Inv-loop μ-loop
-sub-i c = search needs
-
-sub-if2 : tie.Need-sub-if2 Inv-loop μ-loop
-sub-if2 c = search needs
-
-array-read-if2 : tie.Need-array-read-if2 Inv-loop μ-loop
-array-read-if2 c = search needs
-
-array-read-if2-2 : tie.Need-array-read-if2-2 Inv-loop μ-loop
-array-read-if2-2 c = search needs
-
 returns-2 : tie.Need-returns-2 Inv-loop μ-loop
 unfolding isRising
 returns-2 c =
@@ -50,9 +35,6 @@ returns-2 c =
     let l = c .before .before .loop in
     let e : l .left - 1 - 1 + 1 ≡ l .left - 1 = omega arith in
     sym (every-off (λ i. ltb (getD (a .t2) i 0) (getD (a .t2) (i + 1) 0)) (a .count - 1) (l .left - 1) (omega arith) (l .inv .1) (rw (e, le-ltb _ _ (c .if2 .taken))))
-
-loop-less : tie.Need-loop-less Inv-loop μ-loop
-loop-less c = search needs
 
 loop-again : tie.Need-loop-again Inv-loop μ-loop
 loop-again c =
@@ -77,12 +59,12 @@ is-rising-spec =
     Inv-loop
     μ-loop
     returns
-    loop-holds
-    sub-i
-    sub-if2
-    array-read-if2
-    array-read-if2-2
+    (λ c. search needs)
+    (λ c. search needs)
+    (λ c. search needs)
+    (λ c. search needs)
+    (λ c. search needs)
     returns-2
-    loop-less
+    (λ c. search needs)
     loop-again
     returns-3)

@@ -21,27 +21,6 @@ Inv-loop activities sizes nodes left₀ left = (left ≤ 64 * activities)
 abbrev μ-loop : tie.MeasureT-loop
 μ-loop activities sizes nodes left₀ left = left
 
-mul-left : tie.Need-mul-left Inv-loop μ-loop
-mul-left c = search needs
-
-loop-holds : tie.Need-loop-holds Inv-loop μ-loop
-loop-holds c = search needs
-
-sub-i : tie.Need-sub-i Inv-loop μ-loop
-sub-i c = search needs
-
-array-read-size : tie.Need-array-read-size Inv-loop μ-loop
-array-read-size c = search needs
-
-mul-node : tie.Need-mul-node Inv-loop μ-loop
-mul-node c = search needs
-
-array-copy-out-node : tie.Need-array-copy-out-node Inv-loop μ-loop
-array-copy-out-node c = search needs
-
-slot-written-requires : tie.Need-slot-written-requires Inv-loop μ-loop
-slot-written-requires c κs = search needs
-
 returns : tie.Need-returns Inv-loop μ-loop
 unfolding nodesWritten
 returns c =
@@ -49,9 +28,6 @@ returns c =
     let l = c .before .before .before .before .loop in
     sym (every-off (λ i. slotWritten (getD (a .t2) (i / 64) 0) (i % 64) (getD (a .t3) i pastNode)) (64 * a .activities) (l .left) (c .before .before .before .loop-test .taken) (l .inv .1)
     (sym (c .before .slot-written .ensures) ∙ not-true (c .before .slot-written .result) (c .if1 .taken)))
-
-loop-less : tie.Need-loop-less Inv-loop μ-loop
-loop-less c = search needs
 
 loop-again : tie.Need-loop-again Inv-loop μ-loop
 loop-again c =
@@ -75,14 +51,14 @@ nodes-written-spec =
     (tie.spec
     Inv-loop
     μ-loop
-    mul-left
-    loop-holds
-    sub-i
-    array-read-size
-    mul-node
-    array-copy-out-node
-    slot-written-requires
+    (λ c. search needs)
+    (λ c. search needs)
+    (λ c. search needs)
+    (λ c. search needs)
+    (λ c. search needs)
+    (λ c. search needs)
+    (λ c κs. search needs)
     returns
-    loop-less
+    (λ c. search needs)
     loop-again
     returns-2)

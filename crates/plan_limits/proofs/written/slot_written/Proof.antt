@@ -10,15 +10,9 @@ returns : tie.Need-returns
 unfolding slotWritten
 returns c = rw (le-leb _ _ (c .if1 .taken))
 
-is-rising-requires : tie.Need-is-rising-requires
-is-rising-requires c κs = search needs
-
 returns-2 : tie.Need-returns-2
 unfolding slotWritten
 returns-2 c = rw (lt-leb _ _ (c .before .before .before .if1 .left), sym (c .before .is-rising .ensures) ∙ not-true (c .before .is-rising .result) (c .if2 .taken))
-
-is-brief-requires : tie.Need-is-brief-requires
-is-brief-requires c κs = search needs
 
 returns-3 : tie.Need-returns-3
 unfolding slotWritten
@@ -26,4 +20,4 @@ returns-3 c = rw (lt-leb _ _ (c .before .before .before .before .if1 .left), sym
 
 pub slot-written-spec : {M : Type 1} → statement M
 slot-written-spec =
-    tie.close (tie.spec returns is-rising-requires returns-2 is-brief-requires returns-3)
+    tie.close (tie.spec returns (λ c κs. search needs) returns-2 (λ c κs. search needs) returns-3)

@@ -3,11 +3,8 @@ use borrow.Author.Needs.{needs}
 use Rattle.plan_sections.proofs.parts.no_part.Statement.{statement}
 use Rattle.plan_sections.proofs.parts.no_part.Tie as tie
 
-zero-node-requires : tie.Need-zero-node-requires
-zero-node-requires c κs = search needs
-
 returns : tie.Need-returns
 returns c = rw (c .zero-node .ensures)
 
 pub no-part-spec : {M : Type 1} → statement M
-no-part-spec = tie.close (tie.spec zero-node-requires returns)
+no-part-spec = tie.close (tie.spec (λ c κs. search needs) returns)

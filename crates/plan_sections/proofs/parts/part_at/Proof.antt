@@ -7,22 +7,13 @@ use borrow.Author.Needs.{needs}
 use Rattle.plan_sections.proofs.parts.part_at.Statement.{statement}
 use Rattle.plan_sections.proofs.parts.part_at.Tie as tie
 
-node-part-requires : tie.Need-node-part-requires
-node-part-requires c κs = search needs
-
 returns : tie.Need-returns
 unfolding partAt
 returns c = let l = c .before .before .before .args .left in let e : l ≡ suc (l - 1) = omega arith in rw e (c .node-part .ensures)
 
-count-part-requires : tie.Need-count-part-requires
-count-part-requires c κs = search needs
-
 returns-2 : tie.Need-returns-2
 unfolding partAt
 returns-2 c = let s = c .before .before .before .before in let e : s .args .left ≡ 0 = omega arith in let f : s .args .more ≡ suc (s .args .more - 1) = omega arith in rw (e, f) (c .count-part .ensures)
-
-zero-node-requires : tie.Need-zero-node-requires
-zero-node-requires c κs = search needs
 
 returns-3 : tie.Need-returns-3
 unfolding partAt
@@ -32,9 +23,9 @@ pub part-at-spec : {M : Type 1} → statement M
 part-at-spec =
     tie.close
     (tie.spec
-    node-part-requires
+    (λ c κs. search needs)
     returns
-    count-part-requires
+    (λ c κs. search needs)
     returns-2
-    zero-node-requires
+    (λ c κs. search needs)
     returns-3)

@@ -23,29 +23,11 @@ Inv-loop out₀ at plan count off₀ i₀ a₀ left₀ out off i a left =
 abbrev μ-loop : tie.MeasureT-loop
 μ-loop out₀ at plan count off₀ i₀ a₀ left₀ out off i a left = 66 * (count - a) + left
 
-cast-count : tie.Need-cast-count Inv-loop μ-loop
-cast-count c = search needs
-
 loop-holds : tie.Need-loop-holds Inv-loop μ-loop
 loop-holds c = (search needs, search needs, search needs, search needs, omega arith, c .before .pre .1, (λ j h. absurd (omega arith)), refl, left-begin _ _ _ _ (rw sub-zero))
 
-mul-node : tie.Need-mul-node Inv-loop μ-loop
-mul-node c = search needs
-
-element-copy-out-node : tie.Need-element-copy-out-node Inv-loop μ-loop
-element-copy-out-node c = search needs
-
 put-node-requires : tie.Need-put-node-requires Inv-loop μ-loop
 put-node-requires c κs = (omega arith, few-here (c .before .before .before .before .before .args .t3 .nodes) (c .before .before .before .loop .i) (c .before .before .before .loop .left) (omega arith) (c .before .before .before .loop .inv .6))
-
-add-i : tie.Need-add-i Inv-loop μ-loop
-add-i c = search needs
-
-sub-left : tie.Need-sub-left Inv-loop μ-loop
-sub-left c = search needs
-
-loop-less : tie.Need-loop-less Inv-loop μ-loop
-loop-less c = search needs
 
 loop-again : tie.Need-loop-again Inv-loop μ-loop
 loop-again c = (
@@ -60,23 +42,8 @@ loop-again c = (
   left-next _ _ _ (c .before .before .before .before .before .before .loop .out) _ (c .before .before .before .before .before .before .loop .off) _ _ _ _ (node-turn (c .before .before .before .before .before .before .before .before .args .t3) (c .before .before .before .before .before .before .loop .a) (c .before .before .before .before .before .before .loop .i) (c .before .before .before .before .before .before .loop .left) (c .before .before .before .before .before .before .loop .left - 1) (omega arith)) (c .before .before .before .before .before .before .loop .inv .8) (c .before .before .put-node .ensures),
 )
 
-same-length : tie.Need-same-length Inv-loop μ-loop
-same-length c = search needs
-
 returns : tie.Need-returns Inv-loop μ-loop
 returns c = (omega arith, left-done _ _ _ (c .before .before .loop .out) (c .before .before .loop .off) _ (activity-end (c .before .before .before .before .args .t3) (c .before .before .loop .a) (c .before .before .loop .i) (c .before .before .loop .left) (omega arith) (omega arith)) (c .before .before .loop .inv .8))
-
-element-copy-out-size : tie.Need-element-copy-out-size Inv-loop μ-loop
-element-copy-out-size c = search needs
-
-put-byte-requires : tie.Need-put-byte-requires Inv-loop μ-loop
-put-byte-requires c κs = search needs
-
-mul-i : tie.Need-mul-i Inv-loop μ-loop
-mul-i c = search needs
-
-add-a : tie.Need-add-a Inv-loop μ-loop
-add-a c = search needs
 
 loop-less-2 : tie.Need-loop-less-2 Inv-loop μ-loop
 loop-less-2 c = let s = c .before .before .before .before .before .before .before .loop .inv .5 .sizes (c .before .before .before .before .before .before .before .loop .a) (omega arith) in omega (arith, s .1)
@@ -100,20 +67,20 @@ put-activities-spec =
     (tie.spec
     Inv-loop
     μ-loop
-    cast-count
+    (λ c. search needs)
     loop-holds
-    mul-node
-    element-copy-out-node
+    (λ c. search needs)
+    (λ c. search needs)
     put-node-requires
-    add-i
-    sub-left
-    loop-less
+    (λ c. search needs)
+    (λ c. search needs)
+    (λ c. search needs)
     loop-again
-    same-length
+    (λ c. search needs)
     returns
-    element-copy-out-size
-    put-byte-requires
-    mul-i
-    add-a
+    (λ c. search needs)
+    (λ c κs. search needs)
+    (λ c. search needs)
+    (λ c. search needs)
     loop-less-2
     loop-again-2)

@@ -8,26 +8,11 @@ use borrow.Author.Needs.{needs}
 use Rattle.plan_write.proofs.bytes.put_automaton.Statement.{statement}
 use Rattle.plan_write.proofs.bytes.put_automaton.Tie as tie
 
-put-byte-requires : tie.Need-put-byte-requires
-put-byte-requires c κs = search needs
-
-put-byte-requires-2 : tie.Need-put-byte-requires-2
-put-byte-requires-2 c κs = search needs
-
-put-number-requires : tie.Need-put-number-requires
-put-number-requires c κs = search needs
-
-cast-put-number : tie.Need-cast-put-number
-cast-put-number c = search needs
-
 put-number-requires-2 : tie.Need-put-number-requires-2
 put-number-requires-2 c κs = (omega (arith, length-bytes 8 (c .before .before .before .before .before .before .before .before .before .before .before .before .before .before .before .args .t .finals)), search needs)
 
 put-moves-requires : tie.Need-put-moves-requires
 put-moves-requires c κs = (omega (arith, length-bytes 8 (c .before .before .before .before .before .before .before .before .before .before .before .before .before .before .before .before .before .before .before .args .t .finals), length-bytes 2 (c .before .before .before .before .before .before .before .before .before .before .before .before .before .before .before .before .before .before .before .args .t .count)), search needs)
-
-same-length : tie.Need-same-length
-same-length c = search needs
 
 returns : tie.Need-returns
 returns c =
@@ -38,11 +23,11 @@ pub put-automaton-spec : {M : Type 1} → statement M
 put-automaton-spec =
     tie.close
     (tie.spec
-    put-byte-requires
-    put-byte-requires-2
-    put-number-requires
-    cast-put-number
+    (λ c κs. search needs)
+    (λ c κs. search needs)
+    (λ c κs. search needs)
+    (λ c. search needs)
     put-number-requires-2
     put-moves-requires
-    same-length
+    (λ c. search needs)
     returns)

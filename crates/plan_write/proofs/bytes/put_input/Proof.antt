@@ -6,24 +6,9 @@ use borrow.Author.Needs.{needs}
 use Rattle.plan_write.proofs.bytes.put_input.Statement.{statement}
 use Rattle.plan_write.proofs.bytes.put_input.Tie as tie
 
-enum-told : tie.Need-enum-told
-enum-told c = search needs
-
-enum-known-input : tie.Need-enum-known-input
-enum-known-input c = search needs
-
-put-byte-requires : tie.Need-put-byte-requires
-put-byte-requires c κs = search needs
-
-put-byte-requires-2 : tie.Need-put-byte-requires-2
-put-byte-requires-2 c κs = search needs
-
 returns : tie.Need-returns
 unfolding inputBytes
 returns c = rw (c .enum-told .given .1) (puts-none _ _)
-
-same-length : tie.Need-same-length
-same-length c = search needs
 
 returns-2 : tie.Need-returns-2
 unfolding inputBytes
@@ -33,10 +18,10 @@ pub put-input-spec : {M : Type 1} → statement M
 put-input-spec =
     tie.close
     (tie.spec
-    enum-told
-    enum-known-input
-    put-byte-requires
-    put-byte-requires-2
+    (λ c. search needs)
+    (λ c. search needs)
+    (λ c κs. search needs)
+    (λ c κs. search needs)
     returns
-    same-length
+    (λ c. search needs)
     returns-2)

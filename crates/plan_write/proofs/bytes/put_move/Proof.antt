@@ -10,26 +10,8 @@ use borrow.Author.Needs.{needs}
 use Rattle.plan_write.proofs.bytes.put_move.Statement.{statement}
 use Rattle.plan_write.proofs.bytes.put_move.Tie as tie
 
-move-map-requires : tie.Need-move-map-requires
-move-map-requires c κs = search needs
-
-put-byte-requires : tie.Need-put-byte-requires
-put-byte-requires c κs = search needs
-
-put-byte-requires-2 : tie.Need-put-byte-requires-2
-put-byte-requires-2 c κs = search needs
-
-put-byte-requires-3 : tie.Need-put-byte-requires-3
-put-byte-requires-3 c κs = search needs
-
-put-input-requires : tie.Need-put-input-requires
-put-input-requires c κs = search needs
-
 put-output-requires : tie.Need-put-output-requires
 put-output-requires c κs = omega (arith, input-length (c .before .before .before .before .before .before .before .before .before .before .before .before .before .before .before .before .before .before .before .args .t .input))
-
-same-length : tie.Need-same-length
-same-length c = search needs
 
 returns : tie.Need-returns
 returns c =
@@ -40,11 +22,11 @@ pub put-move-spec : {M : Type 1} → statement M
 put-move-spec =
     tie.close
     (tie.spec
-    move-map-requires
-    put-byte-requires
-    put-byte-requires-2
-    put-byte-requires-3
-    put-input-requires
+    (λ c κs. search needs)
+    (λ c κs. search needs)
+    (λ c κs. search needs)
+    (λ c κs. search needs)
+    (λ c κs. search needs)
     put-output-requires
-    same-length
+    (λ c. search needs)
     returns)

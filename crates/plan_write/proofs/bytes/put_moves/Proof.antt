@@ -22,26 +22,11 @@ Inv-loop out₀ at t off₀ i₀ n out off i =
 abbrev μ-loop : tie.MeasureT-loop
 μ-loop out₀ at t off₀ i₀ n out off i = n - i
 
-cast-n : tie.Need-cast-n Inv-loop μ-loop
-cast-n c = search needs
-
 loop-holds : tie.Need-loop-holds Inv-loop μ-loop
 loop-holds c = (search needs, search needs, search needs, search needs, omega arith, refl, left-begin _ _ _ _ (rw sub-zero))
 
-mul-m : tie.Need-mul-m Inv-loop μ-loop
-mul-m c = search needs
-
-element-copy-out-m : tie.Need-element-copy-out-m Inv-loop μ-loop
-element-copy-out-m c = search needs
-
 put-move-requires : tie.Need-put-move-requires Inv-loop μ-loop
 put-move-requires c κs = omega arith
-
-add-i : tie.Need-add-i Inv-loop μ-loop
-add-i c = search needs
-
-loop-less : tie.Need-loop-less Inv-loop μ-loop
-loop-less c = search needs
 
 loop-again : tie.Need-loop-again Inv-loop μ-loop
 loop-again c = (
@@ -54,9 +39,6 @@ loop-again c = (
   left-next _ _ _ (c .before .before .before .before .before .before .loop .out) _ (c .before .before .before .before .before .before .loop .off) _ _ _ _ (moves-turn (c .before .before .before .before .before .before .before .before .args .t3 .moves) (c .before .before .before .before .before .before .before .before .args .t3 .count) (c .before .before .before .before .before .before .loop .i) (omega arith)) (c .before .before .before .before .before .before .loop .inv .6) (c .before .before .put-move .ensures),
 )
 
-same-length : tie.Need-same-length Inv-loop μ-loop
-same-length c = search needs
-
 returns : tie.Need-returns Inv-loop μ-loop
 returns c = left-done _ _ _ (c .before .loop .out) (c .before .loop .off) _ (moves-end (c .before .before .before .args .t3 .moves) (c .before .before .before .args .t3 .count) (c .before .loop .i) (omega arith)) (c .before .loop .inv .6)
 
@@ -66,13 +48,13 @@ put-moves-spec =
     (tie.spec
     Inv-loop
     μ-loop
-    cast-n
+    (λ c. search needs)
     loop-holds
-    mul-m
-    element-copy-out-m
+    (λ c. search needs)
+    (λ c. search needs)
     put-move-requires
-    add-i
-    loop-less
+    (λ c. search needs)
+    (λ c. search needs)
     loop-again
-    same-length
+    (λ c. search needs)
     returns)

@@ -7,26 +7,14 @@ use borrow.Author.Needs.{needs}
 use Rattle.plan_write.proofs.bytes.put_named.Statement.{statement}
 use Rattle.plan_write.proofs.bytes.put_named.Tie as tie
 
-put-optional-requires : tie.Need-put-optional-requires
-put-optional-requires c κs = search needs
-
-slice-aggregate-put-list : tie.Need-slice-aggregate-put-list
-slice-aggregate-put-list c = search needs
-
 put-list-requires : tie.Need-put-list-requires
 put-list-requires c κs = (omega (arith, length-optional 1 (c .before .before .before .before .before .before .before .args .peripherals)), search needs)
 
 put-optional-requires-2 : tie.Need-put-optional-requires-2
 put-optional-requires-2 c κs = omega (arith, length-optional 1 (c .before .before .before .before .before .before .before .before .before .before .before .args .peripherals), length-numbers (c .before .before .before .before .before .before .before .before .before .before .before .args .t4) 0 (c .before .before .before .before .before .before .before .before .before .before .before .args .peripherals))
 
-slice-aggregate-put-list-2 : tie.Need-slice-aggregate-put-list-2
-slice-aggregate-put-list-2 c = search needs
-
 put-list-requires-2 : tie.Need-put-list-requires-2
 put-list-requires-2 c κs = (omega (arith, length-optional 1 (c .before .before .before .before .before .before .before .before .before .before .before .before .before .before .before .before .args .peripherals), length-numbers (c .before .before .before .before .before .before .before .before .before .before .before .before .before .before .before .before .args .t4) 0 (c .before .before .before .before .before .before .before .before .before .before .before .before .before .before .before .before .args .peripherals), length-optional 1 (c .before .before .before .before .before .before .before .before .before .before .before .before .before .before .before .before .args .events)), search needs)
-
-same-length : tie.Need-same-length
-same-length c = search needs
 
 returns : tie.Need-returns
 returns c =
@@ -38,11 +26,11 @@ pub put-named-spec : {M : Type 1} → statement M
 put-named-spec =
     tie.close
     (tie.spec
-    put-optional-requires
-    slice-aggregate-put-list
+    (λ c κs. search needs)
+    (λ c. search needs)
     put-list-requires
     put-optional-requires-2
-    slice-aggregate-put-list-2
+    (λ c. search needs)
     put-list-requires-2
-    same-length
+    (λ c. search needs)
     returns)

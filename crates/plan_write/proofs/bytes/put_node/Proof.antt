@@ -10,23 +10,11 @@ use borrow.Author.Needs.{needs}
 use Rattle.plan_write.proofs.bytes.put_node.Statement.{statement}
 use Rattle.plan_write.proofs.bytes.put_node.Tie as tie
 
-node-map-requires : tie.Need-node-map-requires
-node-map-requires c κs = search needs
-
-put-byte-requires : tie.Need-put-byte-requires
-put-byte-requires c κs = search needs
-
-put-kind-requires : tie.Need-put-kind-requires
-put-kind-requires c κs = search needs
-
 put-optional-four-requires : tie.Need-put-optional-four-requires
 put-optional-four-requires c κs = omega (arith, kind-length (c .before .before .before .before .before .before .before .before .before .before .before .before .args .n .kind))
 
 put-preds-requires : tie.Need-put-preds-requires
 put-preds-requires c κs = (omega (arith, kind-length (c .before .before .before .before .before .before .before .before .before .before .before .before .before .before .before .before .args .n .kind), length-optional 4 (c .before .before .before .before .before .before .before .before .before .before .before .before .before .before .before .before .args .n .duration)), search needs)
-
-same-length : tie.Need-same-length
-same-length c = search needs
 
 returns : tie.Need-returns
 returns c =
@@ -37,10 +25,10 @@ pub put-node-spec : {M : Type 1} → statement M
 put-node-spec =
     tie.close
     (tie.spec
-    node-map-requires
-    put-byte-requires
-    put-kind-requires
+    (λ c κs. search needs)
+    (λ c κs. search needs)
+    (λ c κs. search needs)
     put-optional-four-requires
     put-preds-requires
-    same-length
+    (λ c. search needs)
     returns)

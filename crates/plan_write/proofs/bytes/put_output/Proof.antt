@@ -6,21 +6,9 @@ use borrow.Author.Needs.{needs}
 use Rattle.plan_write.proofs.bytes.put_output.Statement.{statement}
 use Rattle.plan_write.proofs.bytes.put_output.Tie as tie
 
-enum-told : tie.Need-enum-told
-enum-told c = search needs
-
-enum-known-output : tie.Need-enum-known-output
-enum-known-output c = search needs
-
-put-byte-requires : tie.Need-put-byte-requires
-put-byte-requires c κs = search needs
-
 returns : tie.Need-returns
 unfolding outputBytes
 returns c = rw (c .enum-told .given .1) (puts-none _ _)
-
-same-length : tie.Need-same-length
-same-length c = search needs
 
 returns-2 : tie.Need-returns-2
 unfolding outputBytes
@@ -29,4 +17,4 @@ returns-2 c = rw (c .before .before .before .before .before .output .given .1) (
 pub put-output-spec : {M : Type 1} → statement M
 put-output-spec =
     tie.close
-    (tie.spec enum-told enum-known-output put-byte-requires returns same-length returns-2)
+    (tie.spec (λ c. search needs) (λ c. search needs) (λ c κs. search needs) returns (λ c. search needs) returns-2)

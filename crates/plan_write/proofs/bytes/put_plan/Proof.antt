@@ -6,17 +6,11 @@ use borrow.Author.Needs.{needs}
 use Rattle.plan_write.proofs.bytes.put_plan.Statement.{statement}
 use Rattle.plan_write.proofs.bytes.put_plan.Tie as tie
 
-put-sections-requires : tie.Need-put-sections-requires
-put-sections-requires c κs = search needs
-
 put-activities-requires : tie.Need-put-activities-requires
 put-activities-requires c κs = (omega (arith, c .before .before .before .put-sections .ensures .0), c .before .before .before .before .before .before .pre)
 
 put-automaton-requires : tie.Need-put-automaton-requires
 put-automaton-requires c κs = (omega (arith, c .before .before .before .before .before .before .before .before .put-sections .ensures .0, c .before .before .before .before .put-activities .ensures .0, c .before .before .before .before .before .before .before .before .before .before .before .pre .activities), c .before .before .before .before .before .before .before .before .before .before .before .pre .transitions)
-
-same-length : tie.Need-same-length
-same-length c = search needs
 
 returns : tie.Need-returns
 returns c = rw (plan-print (c .before .before .before .before .before .before .before .before .before .before .before .before .before .before .args .plan)) (puts-join (c .before .before .before .before .before .before .before .before .before .before .before .put-sections .ensures .1) (puts-join (c .before .before .before .before .before .before .before .put-activities .ensures .1) (c .before .before .put-automaton .ensures)))
@@ -25,8 +19,8 @@ pub put-plan-spec : {M : Type 1} → statement M
 put-plan-spec =
     tie.close
     (tie.spec
-    put-sections-requires
+    (λ c κs. search needs)
     put-activities-requires
     put-automaton-requires
-    same-length
+    (λ c. search needs)
     returns)

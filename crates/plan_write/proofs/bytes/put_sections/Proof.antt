@@ -10,23 +10,11 @@ use borrow.Author.Needs.{needs}
 use Rattle.plan_write.proofs.bytes.put_sections.Statement.{statement}
 use Rattle.plan_write.proofs.bytes.put_sections.Tie as tie
 
-section-map-requires : tie.Need-section-map-requires
-section-map-requires c κs = search needs
-
-put-byte-requires : tie.Need-put-byte-requires
-put-byte-requires c κs = search needs
-
-put-optional-requires : tie.Need-put-optional-requires
-put-optional-requires c κs = search needs
-
 put-named-requires : tie.Need-put-named-requires
 put-named-requires c κs = (omega (arith, length-optional 1 (c .before .before .before .before .before .before .before .before .before .before .before .before .before .args .plan .resources)), c .before .before .before .before .before .before .before .before .before .before .before .before .before .pre .peripherals, c .before .before .before .before .before .before .before .before .before .before .before .before .before .pre .events)
 
 put-optional-requires-2 : tie.Need-put-optional-requires-2
 put-optional-requires-2 c κs = let p = c .before .before .before .before .before .before .before .before .before .before .before .before .before .before .before .before .before .args .plan in omega (arith, length-optional 1 (p .resources), c .before .before .before .put-named .ensures .0)
-
-same-length : tie.Need-same-length
-same-length c = search needs
 
 returns : tie.Need-returns
 unfolding sectionMap
@@ -40,10 +28,10 @@ pub put-sections-spec : {M : Type 1} → statement M
 put-sections-spec =
     tie.close
     (tie.spec
-    section-map-requires
-    put-byte-requires
-    put-optional-requires
+    (λ c κs. search needs)
+    (λ c κs. search needs)
+    (λ c κs. search needs)
     put-named-requires
     put-optional-requires-2
-    same-length
+    (λ c. search needs)
     returns)

@@ -10,9 +10,6 @@ use Rattle.run.proofs.Run.ask.Tie as tie
 check-call-requires : tie.Need-check-call-requires
 check-call-requires c κs = λ g. timed (c .before .args .self) g (c .before .args .t) .0
 
-enum-known-check : tie.Need-enum-known-check
-enum-known-check c = search needs
-
 asked-requires : tie.Need-asked-requires
 asked-requires c κs =
     let s = c .before .before .before .before .before in
@@ -25,12 +22,6 @@ returns c =
     let s = c .before .before .before .before .before .before in
     c .asked .ensures ∙ sym (answer-goes (s .args .self) (s .args .t) (Sought.Due (s .args .self .psi) (s .args .t)) _ (c .before .before .before .before .check-call .ensures) (asked (s .args .self) (s .args .t)) _ (c .before .before .check .given .1))
 
-enum-known-check-2 : tie.Need-enum-known-check-2
-enum-known-check-2 c = search needs
-
-objected-requires : tie.Need-objected-requires
-objected-requires c κs = search needs
-
 returns-2 : tie.Need-returns-2
 unfolding askOf
 returns-2 c =
@@ -42,9 +33,9 @@ ask-spec =
     tie.close
     (tie.spec
     check-call-requires
-    enum-known-check
+    (λ c. search needs)
     asked-requires
     returns
-    enum-known-check-2
-    objected-requires
+    (λ c. search needs)
+    (λ c κs. search needs)
     returns-2)

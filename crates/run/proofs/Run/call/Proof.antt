@@ -5,31 +5,13 @@ use borrow.Author.Needs.{needs}
 use Rattle.run.proofs.Run.call.Statement.{statement}
 use Rattle.run.proofs.Run.call.Tie as tie
 
-enum-known-c : tie.Need-enum-known-c
-enum-known-c c = search needs
-
-ask-requires : tie.Need-ask-requires
-ask-requires c κs = search needs
-
 returns : tie.Need-returns
 unfolding callOf
 returns c = c .ask .ensures ∙ ap (callOf (c .before .before .before .before .args .self)) (sym (c .before .before .c .given .1))
 
-enum-known-c-2 : tie.Need-enum-known-c-2
-enum-known-c-2 c = search needs
-
-completion-requires : tie.Need-completion-requires
-completion-requires c κs = search needs
-
 returns-2 : tie.Need-returns-2
 unfolding callOf
 returns-2 c = c .completion .ensures ∙ ap (callOf (c .before .before .before .before .args .self)) (sym (c .before .before .c2 .given .1))
-
-enum-known-c-3 : tie.Need-enum-known-c-3
-enum-known-c-3 c = search needs
-
-outcome-requires : tie.Need-outcome-requires
-outcome-requires c κs = search needs
 
 returns-3 : tie.Need-returns-3
 unfolding callOf
@@ -39,12 +21,12 @@ pub call-spec : {M : Type 1} → statement M
 call-spec =
     tie.close
     (tie.spec
-    enum-known-c
-    ask-requires
+    (λ c. search needs)
+    (λ c κs. search needs)
     returns
-    enum-known-c-2
-    completion-requires
+    (λ c. search needs)
+    (λ c κs. search needs)
     returns-2
-    enum-known-c-3
-    outcome-requires
+    (λ c. search needs)
+    (λ c κs. search needs)
     returns-3)

@@ -6,23 +6,11 @@ use borrow.Author.Needs.{needs}
 use Rattle.run.proofs.Run.open.Statement.{statement}
 use Rattle.run.proofs.Run.open.Tie as tie
 
-judge-requires : tie.Need-judge-requires
-judge-requires c κs = search needs
-
-enum-known-verdict : tie.Need-enum-known-verdict
-enum-known-verdict c = search needs
-
-unopened-requires : tie.Need-unopened-requires
-unopened-requires c κs = search needs
-
 returns : tie.Need-returns
 returns c =
     let s = c .before .before .before .before .before .before .before .args in
     let q = c .before .before .before .before .judge in
     c .unopened .ensures ∙ sym (refuses-plan (s .bytes .now) (q .result) (q .ensures) (s .psi) (s .slack) (s .availabilities .now) _ _ (c .before .before .verdict .given .1))
-
-enum-told : tie.Need-enum-told
-enum-told c = search needs
 
 open-plan-requires : tie.Need-open-plan-requires
 open-plan-requires c κs =
@@ -39,10 +27,10 @@ pub open-spec : {M : Type 1} → statement M
 open-spec =
     tie.close
     (tie.spec
-    judge-requires
-    enum-known-verdict
-    unopened-requires
+    (λ c κs. search needs)
+    (λ c. search needs)
+    (λ c κs. search needs)
     returns
-    enum-told
+    (λ c. search needs)
     open-plan-requires
     returns-2)

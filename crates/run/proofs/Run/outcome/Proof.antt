@@ -15,12 +15,6 @@ long c = search unmapped
 check-call-requires : tie.Need-check-call-requires
 check-call-requires c κs = λ g. tt
 
-enum-known-check : tie.Need-enum-known-check
-enum-known-check c = search needs
-
-report-of-requires : tie.Need-report-of-requires
-report-of-requires c κs = search needs
-
 learns-requires : tie.Need-learns-requires
 learns-requires c κs =
     let s = c .before .before .before .before .before in
@@ -36,12 +30,6 @@ returns c =
     ∙ (reported-report (s .args .self) (λ i e. learnsBy (s .args .self) (s .args .t) i e (s .args .o) (kindOf (s .args .self) e)) (s .args .position) (s .args .node) _ (h .found) _ (c .before .report-of .ensures)
     ∙ sym (answer-goes (s .args .self) (s .args .t) (Sought.Node (s .args .position) (s .args .node)) _ (c .before .before .before .before .before .check-call .ensures) (learns (s .args .self) (s .args .t) (s .args .position) (s .args .node) (s .args .o)) _ (c .before .before .before .check .given .1)))
 
-enum-known-check-2 : tie.Need-enum-known-check-2
-enum-known-check-2 c = search needs
-
-objected-requires : tie.Need-objected-requires
-objected-requires c κs = search needs
-
 returns-2 : tie.Need-returns-2
 unfolding outcomeOf
 returns-2 c =
@@ -53,10 +41,10 @@ outcome-spec =
     tie.close
     (tie.spec
     check-call-requires
-    enum-known-check
-    report-of-requires
+    (λ c. search needs)
+    (λ c κs. search needs)
     learns-requires
     returns
-    enum-known-check-2
-    objected-requires
+    (λ c. search needs)
+    (λ c κs. search needs)
     returns-2)

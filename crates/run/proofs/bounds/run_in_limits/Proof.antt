@@ -7,9 +7,6 @@ use borrow.Author.Needs.{needs}
 use Rattle.run.proofs.bounds.run_in_limits.Statement.{statement}
 use Rattle.run.proofs.bounds.run_in_limits.Tie as tie
 
-in-limits-requires : tie.Need-in-limits-requires
-in-limits-requires c κs = search needs
-
 returns : tie.Need-returns
 unfolding runInLimits
 returns c = rw (sym (c .before .in-limits .ensures) ∙ not-true (c .before .in-limits .result) (c .if1 .taken))
@@ -18,15 +15,9 @@ returns-2 : tie.Need-returns-2
 unfolding runInLimits
 returns-2 c = rw (sym (c .before .before .before .in-limits .ensures) ∙ not-false (c .before .before .before .in-limits .result) (c .before .before .if1 .left), lt-leb _ _ (c .if2 .taken))
 
-slack-in-limits-requires : tie.Need-slack-in-limits-requires
-slack-in-limits-requires c κs = search needs
-
 returns-3 : tie.Need-returns-3
 unfolding runInLimits
 returns-3 c = rw (sym (c .before .before .before .before .before .in-limits .ensures) ∙ not-false (c .before .before .before .before .before .in-limits .result) (c .before .before .before .before .if1 .left), le-leb _ _ (c .before .before .if2 .left), sym (c .before .slack-in-limits .ensures) ∙ not-true (c .before .slack-in-limits .result) (c .if3 .taken))
-
-stored-in-limits-requires : tie.Need-stored-in-limits-requires
-stored-in-limits-requires c κs = search needs
 
 returns-4 : tie.Need-returns-4
 unfolding runInLimits storedInLimits
@@ -36,10 +27,10 @@ pub run-in-limits-spec : {M : Type 1} → statement M
 run-in-limits-spec =
     tie.close
     (tie.spec
-    in-limits-requires
+    (λ c κs. search needs)
     returns
     returns-2
-    slack-in-limits-requires
+    (λ c κs. search needs)
     returns-3
-    stored-in-limits-requires
+    (λ c κs. search needs)
     returns-4)

@@ -6,22 +6,13 @@ use borrow.Author.Needs.{needs}
 use Rattle.run.proofs.bounds.stored_in_limits.Statement.{statement}
 use Rattle.run.proofs.bounds.stored_in_limits.Tie as tie
 
-progress-in-limits-requires : tie.Need-progress-in-limits-requires
-progress-in-limits-requires c κs = search needs
-
 returns : tie.Need-returns
 unfolding storedInLimits
 returns c = rw (sym (c .before .progress-in-limits .ensures) ∙ not-true (c .before .progress-in-limits .result) (c .if1 .taken))
 
-window-in-limits-requires : tie.Need-window-in-limits-requires
-window-in-limits-requires c κs = search needs
-
 returns-2 : tie.Need-returns-2
 unfolding storedInLimits
 returns-2 c = rw (sym (c .before .before .before .before .before .progress-in-limits .ensures) ∙ not-false (c .before .before .before .before .before .progress-in-limits .result) (c .before .before .before .before .if1 .left), sym (c .before .window-in-limits .ensures) ∙ not-true (c .before .window-in-limits .result) (c .if2 .taken))
-
-halt-in-limits-requires : tie.Need-halt-in-limits-requires
-halt-in-limits-requires c κs = search needs
 
 returns-3 : tie.Need-returns-3
 unfolding storedInLimits
@@ -31,9 +22,9 @@ pub stored-in-limits-spec : {M : Type 1} → statement M
 stored-in-limits-spec =
     tie.close
     (tie.spec
-    progress-in-limits-requires
+    (λ c κs. search needs)
     returns
-    window-in-limits-requires
+    (λ c κs. search needs)
     returns-2
-    halt-in-limits-requires
+    (λ c κs. search needs)
     returns-3)

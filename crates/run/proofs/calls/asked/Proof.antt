@@ -11,17 +11,11 @@ use Rattle.run.proofs.calls.asked.Tie as tie
 long : (c : tie.Start) → length (c .args .run .window) ≡ 512
 long c = search unmapped
 
-enum-told : tie.Need-enum-told
-enum-told c = search needs
-
 idle-requires : tie.Need-idle-requires
 idle-requires c κs = let s = c .before .before in (state-below (s .args .run) (s .pre .0 .0), s .pre .0 .1)
 
 returns : tie.Need-returns
 returns c = let s = c .before .before .before in c .idle .ensures ∙ sym (asked-idle (s .args .run) (s .args .t) (sym (s .pre .1) ∙ c .before .enum-told .given .1))
-
-enum-known-found : tie.Need-enum-known-found
-enum-known-found c = search needs
 
 starts-requires : tie.Need-starts-requires
 starts-requires c κs = let s = c .before .before .before in (found-within (isDue (s .args .run .psi) (s .args .t)) (s .args .run .window) _ _ (long s) (sym (s .pre .1) ∙ c .before .found .given .1), s .pre .0 .1)
@@ -33,9 +27,9 @@ pub asked-spec : {M : Type 1} → statement M
 asked-spec =
     tie.close
     (tie.spec
-    enum-told
+    (λ c. search needs)
     idle-requires
     returns
-    enum-known-found
+    (λ c. search needs)
     starts-requires
     returns-2)

@@ -5,9 +5,6 @@ use borrow.Author.Needs.{needs}
 use Rattle.run.proofs.calls.idle.Statement.{statement}
 use Rattle.run.proofs.calls.idle.Tie as tie
 
-is-done-requires : tie.Need-is-done-requires
-is-done-requires c κs = search needs
-
 returns : tie.Need-returns
 unfolding idle
 returns c = simp (sym (c .before .is-done .ensures) ∙ c .if1 .taken, c .before .before .pre .1)
@@ -20,6 +17,6 @@ pub idle-spec : {M : Type 1} → statement M
 idle-spec =
     tie.close
     (tie.spec
-    is-done-requires
+    (λ c κs. search needs)
     returns
     returns-2)

@@ -4,15 +4,6 @@ use borrow.Author.Needs.{needs}
 use Rattle.run.proofs.calls.is_done.Statement.{statement}
 use Rattle.run.proofs.calls.is_done.Tie as tie
 
-cast-if1 : tie.Need-cast-if1
-cast-if1 c = search needs
-
-shr-if1 : tie.Need-shr-if1
-shr-if1 c = search needs
-
-is-empty-requires : tie.Need-is-empty-requires
-is-empty-requires c κs = search needs
-
 returns : tie.Need-returns
 returns c = rw (eq-eqb _ _ (c .before .before .if1 .taken)) (c .is-empty .ensures)
 
@@ -20,4 +11,4 @@ returns-2 : tie.Need-returns-2
 returns-2 c = rw (ne-eqb _ _ (c .if1 .left))
 
 pub is-done-spec : {M : Type 1} → statement M
-is-done-spec = tie.close (tie.spec cast-if1 shr-if1 is-empty-requires returns returns-2)
+is-done-spec = tie.close (tie.spec (λ c. search needs) (λ c. search needs) (λ c κs. search needs) returns returns-2)

@@ -4,15 +4,6 @@ use borrow.Author.Needs.{needs}
 use Rattle.run.proofs.calls.starts.Statement.{statement}
 use Rattle.run.proofs.calls.starts.Tie as tie
 
-started-requires : tie.Need-started-requires
-started-requires c κs = search needs
-
-mul-s : tie.Need-mul-s
-mul-s c = search needs
-
-element-set-from-s : tie.Need-element-set-from-s
-element-set-from-s c = search needs
-
 returns : tie.Need-returns
 unfolding starts
 returns c = simp (c .started .ensures, c .before .pre .1)
@@ -21,7 +12,7 @@ pub starts-spec : {M : Type 1} → statement M
 starts-spec =
     tie.close
     (tie.spec
-    started-requires
-    mul-s
-    element-set-from-s
+    (λ c κs. search needs)
+    (λ c. search needs)
+    (λ c. search needs)
     returns)

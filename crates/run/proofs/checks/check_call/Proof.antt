@@ -6,9 +6,6 @@ use borrow.Author.Needs.{needs}
 use Rattle.run.proofs.checks.check_call.Statement.{statement}
 use Rattle.run.proofs.checks.check_call.Tie as tie
 
-run-in-limits-requires : tie.Need-run-in-limits-requires
-run-in-limits-requires c κs = search needs
-
 check-call-requires : tie.Need-check-call-requires
 check-call-requires c κs = λ b. let s = c .before .before .before .before in let g = sym (c .before .before .before .run-in-limits .ensures) ∙ b in (timed (s .args .run) g (s .args .t), s .pre g)
 
@@ -20,6 +17,6 @@ pub check-call-spec : {M : Type 1} → statement M
 check-call-spec =
     tie.close
     (tie.spec
-    run-in-limits-requires
+    (λ c κs. search needs)
     check-call-requires
     returns)

@@ -27,17 +27,8 @@ others run t i x o (Kind.Claim r) h = refl
 others run t i x o (Kind.Release r) h = refl
 others run t i x o (Kind.Event e) h = absurd (⊎-elim (λ e. omega arith) (⊎-elim (λ e. omega arith) (λ e. omega arith)) h)
 
-enum-known-kind : tie.Need-enum-known-kind
-enum-known-kind c = search needs
-
-refuse-requires : tie.Need-refuse-requires
-refuse-requires c κs = search needs
-
 returns : tie.Need-returns
 returns c = let a = c .before .before .args in c .refuse .ensures ∙ others (a .run) (a .t) (a .i) (a .x) (a .o) (a .kind) (c .before .match .keys2)
-
-cast-k : tie.Need-cast-k
-cast-k c = search needs
 
 array-read-if1 : tie.Need-array-read-if1
 array-read-if1 c =
@@ -55,9 +46,6 @@ returns-2 c =
     let z : learnt (toldRun (a .run) (a .t) (a .i) (a .x) (k .0 .0) (a .o)) ≡ learnsBy (a .run) (a .t) (a .i) (a .x) (a .o) (Kind.Event (k .0 .0)) = rw (lt-ltb _ _ (c .before .if1 .taken)) in
     c .learnt .ensures ∙ z ∙ ap (λ (x : Kind). learnsBy (a .run) (a .t) (a .i) (a .x) (a .o) x) (sym (k .1))
 
-refuse-requires-2 : tie.Need-refuse-requires-2
-refuse-requires-2 c κs = search needs
-
 returns-3 : tie.Need-returns-3
 returns-3 c =
     let a = c .before .before .before .before .before .before .args in
@@ -69,12 +57,12 @@ pub learns-by-spec : {M : Type 1} → statement M
 learns-by-spec =
     tie.close
     (tie.spec
-    enum-known-kind
-    refuse-requires
+    (λ c. search needs)
+    (λ c κs. search needs)
     returns
-    cast-k
+    (λ c. search needs)
     array-read-if1
     learnt-requires
     returns-2
-    refuse-requires-2
+    (λ c κs. search needs)
     returns-3)

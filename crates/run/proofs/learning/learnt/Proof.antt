@@ -17,23 +17,8 @@ use Rattle.run.proofs.learning.learnt.Tie as tie
 told-of-requires : tie.Need-told-of-requires
 told-of-requires c κs = let s = c .before in (omega (arith, s .pre .0 .plan .events, s .pre .2), s .pre .0 .progress .lengths _ (s .pre .2))
 
-vacant-requires : tie.Need-vacant-requires
-vacant-requires c κs = search needs
-
-mul-window : tie.Need-mul-window
-mul-window c = search needs
-
-array-set-from-window : tie.Need-array-set-from-window
-array-set-from-window c = search needs
-
 further-requires : tie.Need-further-requires
 further-requires c κs = let s = c .before .before .before .before .before in told-loads (s .args .run) (s .pre .0) _ (s .pre .2) _ (s .pre .3) (s .args .x) _ (c .before .before .before .told-of .ensures)
-
-reply-after-requires : tie.Need-reply-after-requires
-reply-after-requires c κs = search needs
-
-halt-after-requires : tie.Need-halt-after-requires
-halt-after-requires c κs = search needs
 
 returns : tie.Need-returns
 returns c =
@@ -51,10 +36,10 @@ learnt-spec =
     tie.close
     (tie.spec
     told-of-requires
-    vacant-requires
-    mul-window
-    array-set-from-window
+    (λ c κs. search needs)
+    (λ c. search needs)
+    (λ c. search needs)
     further-requires
-    reply-after-requires
-    halt-after-requires
+    (λ c κs. search needs)
+    (λ c κs. search needs)
     returns)

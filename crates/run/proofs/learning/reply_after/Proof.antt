@@ -3,18 +3,6 @@ use borrow.Author.Needs.{needs}
 use Rattle.run.proofs.learning.reply_after.Statement.{statement}
 use Rattle.run.proofs.learning.reply_after.Tie as tie
 
-enum-told : tie.Need-enum-told
-enum-told c = search needs
-
-enum-told-2 : tie.Need-enum-told-2
-enum-told-2 c = search needs
-
-enum-told-3 : tie.Need-enum-told-3
-enum-told-3 c = search needs
-
-returns : tie.Need-returns
-returns c = search needs
-
 returns-2 : tie.Need-returns-2
 returns-2 c = simp (c .enum-told2 .given .1)
 
@@ -23,4 +11,4 @@ returns-3 c = simp (c .enum-told3 .given .1)
 
 pub reply-after-spec : {M : Type 1} → statement M
 reply-after-spec =
-    tie.close (tie.spec enum-told enum-told-2 enum-told-3 returns returns-2 returns-3)
+    tie.close (tie.spec (λ c. search needs) (λ c. search needs) (λ c. search needs) (λ c. search needs) returns-2 returns-3)

@@ -21,15 +21,6 @@ use Rattle.run.proofs.openings.first_path.Tie as tie
 abbrev first : Plan → Clock → ℕ → List ℕ → Run
 first p psi slack ts = fresh p psi slack (atFirst (availabilities ts) (p .automaton .initial))
 
-short-from-requires : tie.Need-short-from-requires
-short-from-requires c κs = search needs
-
-enum-known-short : tie.Need-enum-known-short
-enum-known-short c = search needs
-
-unopened-requires : tie.Need-unopened-requires
-unopened-requires c κs = search needs
-
 returns : tie.Need-returns
 unfolding firstPath
 returns c =
@@ -38,23 +29,11 @@ returns c =
     c .unopened .ensures
     ∙ sym (one-short (shortFrom (s .plan) (s .slack) 0 (s .plan .activities)) (λ a. unopened (Unopened.Short a)) (begin (first (s .plan) (s .psi) (s .slack) (s .ts .now))) (q .result) (q .ensures) _ (c .before .before .short .given .1))
 
-enum-told : tie.Need-enum-told
-enum-told c = search needs
-
-given-requires : tie.Need-given-requires
-given-requires c κs = search needs
-
-at-first-requires : tie.Need-at-first-requires
-at-first-requires c κs = search needs
-
 first-requires : tie.Need-first-requires
 first-requires c κs =
     let s = c .before .before .before .before .before .before in
     subst (Loads (s .args .plan)) (sym (c .at-first .ensures ∙ ap (λ (x : List Specified). atFirst x (s .args .plan .automaton .initial)) (c .before .given .ensures)))
     (first-loads (s .args .plan) (s .pre .0) (s .args .ts .now) (s .pre .1 .1))
-
-after-first-requires : tie.Need-after-first-requires
-after-first-requires c κs = search needs
 
 returns-2 : tie.Need-returns-2
 unfolding firstPath
@@ -70,13 +49,13 @@ pub first-path-spec : {M : Type 1} → statement M
 first-path-spec =
     tie.close
     (tie.spec
-    short-from-requires
-    enum-known-short
-    unopened-requires
+    (λ c κs. search needs)
+    (λ c. search needs)
+    (λ c κs. search needs)
     returns
-    enum-told
-    given-requires
-    at-first-requires
+    (λ c. search needs)
+    (λ c κs. search needs)
+    (λ c κs. search needs)
     first-requires
-    after-first-requires
+    (λ c κs. search needs)
     returns-2)

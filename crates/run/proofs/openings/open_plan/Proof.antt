@@ -7,41 +7,20 @@ use borrow.Author.Needs.{needs}
 use Rattle.run.proofs.openings.open_plan.Statement.{statement}
 use Rattle.run.proofs.openings.open_plan.Tie as tie
 
-cast-resources : tie.Need-cast-resources
-cast-resources c = search needs
-
-unopened-requires : tie.Need-unopened-requires
-unopened-requires c κs = search needs
-
 returns : tie.Need-returns
 returns c =
     let s = c .before .before .before .before .args in
     c .unopened .ensures ∙ sym (wrong-count (s .plan) (s .psi) (s .slack) (s .ts .now) (c .before .if1 .taken))
-
-unopened-requires-2 : tie.Need-unopened-requires-2
-unopened-requires-2 c κs = search needs
 
 returns-2 : tie.Need-returns-2
 returns-2 c =
     let s = c .before .before .before .before .before .before .args in
     c .unopened2 .ensures ∙ sym (psi-above (s .plan) (s .psi) (s .slack) (s .ts .now) (omega (arith, c .before .before .before .if1 .left)) (c .before .if2 .taken))
 
-any-above-requires : tie.Need-any-above-requires
-any-above-requires c κs = search needs
-
-unopened-requires-3 : tie.Need-unopened-requires-3
-unopened-requires-3 c κs = search needs
-
 returns-3 : tie.Need-returns-3
 returns-3 c =
     let s = c .before .before .before .before .before .before .before .before .args in
     c .unopened3 .ensures ∙ sym (one-above (s .plan) (s .psi) (s .slack) (s .ts .now) (omega (arith, c .before .before .before .before .before .if1 .left)) (c .before .before .before .if2 .left) (sym (c .before .before .any-above .ensures) ∙ c .before .if3 .taken))
-
-slack-in-limits-requires : tie.Need-slack-in-limits-requires
-slack-in-limits-requires c κs = search needs
-
-unopened-requires-4 : tie.Need-unopened-requires-4
-unopened-requires-4 c κs = search needs
 
 returns-4 : tie.Need-returns-4
 returns-4 c =
@@ -62,16 +41,16 @@ pub open-plan-spec : {M : Type 1} → statement M
 open-plan-spec =
     tie.close
     (tie.spec
-    cast-resources
-    unopened-requires
+    (λ c. search needs)
+    (λ c κs. search needs)
     returns
-    unopened-requires-2
+    (λ c κs. search needs)
     returns-2
-    any-above-requires
-    unopened-requires-3
+    (λ c κs. search needs)
+    (λ c κs. search needs)
     returns-3
-    slack-in-limits-requires
-    unopened-requires-4
+    (λ c κs. search needs)
+    (λ c κs. search needs)
     returns-4
     first-path-requires
     returns-5)

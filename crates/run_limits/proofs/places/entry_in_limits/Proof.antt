@@ -6,9 +6,6 @@ use Rattle.run_limits.specs.Window.{entryInLimits}
 use Rattle.run_limits.proofs.places.entry_in_limits.Statement.{statement}
 use Rattle.run_limits.proofs.places.entry_in_limits.Tie as tie
 
-is-free-requires : tie.Need-is-free-requires
-is-free-requires c κs = search needs
-
 returns : tie.Need-returns
 unfolding entryInLimits
 returns c = rw (sym (c .before .is-free .ensures) ∙ c .if1 .taken)
@@ -16,9 +13,6 @@ returns c = rw (sym (c .before .is-free .ensures) ∙ c .if1 .taken)
 returns-2 : tie.Need-returns-2
 unfolding entryInLimits
 returns-2 c = rw (sym (c .before .before .before .is-free .ensures) ∙ c .before .before .if1 .left, lt-leb _ _ (c .if2 .taken))
-
-names-node-requires : tie.Need-names-node-requires
-names-node-requires c κs = search needs
 
 returns-3 : tie.Need-returns-3
 unfolding entryInLimits
@@ -35,4 +29,4 @@ returns-5 c = rw (sym (c .before .before .before .before .before .before .before
 pub entry-in-limits-spec : {M : Type 1} → statement M
 entry-in-limits-spec =
     tie.close
-    (tie.spec is-free-requires returns returns-2 names-node-requires returns-3 returns-4 returns-5)
+    (tie.spec (λ c κs. search needs) returns returns-2 (λ c κs. search needs) returns-3 returns-4 returns-5)

@@ -17,11 +17,8 @@ returns-2 c =
     let z : getD (a .t2) (a .a) 0 ≡ 0 = List·getD-eq-default (a .t2) 0 (omega arith) in
     rw (lt-ltb _ _ (c .before .if1 .left), le-ltb (a .n) (getD (a .t2) (a .a) 0) (omega arith))
 
-array-read-result : tie.Need-array-read-result
-array-read-result c = search needs
-
 returns-3 : tie.Need-returns-3
 returns-3 c = rw (lt-ltb _ _ (c .before .if1 .left))
 
 pub names-node-spec : {M : Type 1} → statement M
-names-node-spec = tie.close (tie.spec returns returns-2 array-read-result returns-3)
+names-node-spec = tie.close (tie.spec returns returns-2 (λ c. search needs) returns-3)

@@ -17,13 +17,10 @@ returns-3 : tie.Need-returns-3
 unfolding instanceInLimits
 returns-3 c = rw (le-leb _ _ (c .before .before .before .before .if1 .left), lt-ltb _ _ (c .before .before .if2 .left), lt-leb _ _ (c .if3 .taken))
 
-told-names-requires : tie.Need-told-names-requires
-told-names-requires c κs = search needs
-
 returns-4 : tie.Need-returns-4
 unfolding instanceInLimits
 returns-4 c = rw (le-leb _ _ (c .before .before .before .before .before .if1 .left), lt-ltb _ _ (c .before .before .before .if2 .left), le-leb _ _ (c .before .if3 .left)) (c .told-names .ensures)
 
 pub instance-in-limits-spec : {M : Type 1} → statement M
 instance-in-limits-spec =
-    tie.close (tie.spec returns returns-2 returns-3 told-names-requires returns-4)
+    tie.close (tie.spec returns returns-2 returns-3 (λ c κs. search needs) returns-4)

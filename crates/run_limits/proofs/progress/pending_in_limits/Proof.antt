@@ -21,30 +21,6 @@ Inv-loop events outcomes lengths pending left₀ left = (left ≤ 8 * events)
 abbrev μ-loop : tie.MeasureT-loop
 μ-loop events outcomes lengths pending left₀ left = left
 
-mul-left : tie.Need-mul-left Inv-loop μ-loop
-mul-left c = search needs
-
-loop-holds : tie.Need-loop-holds Inv-loop μ-loop
-loop-holds c = search needs
-
-sub-i : tie.Need-sub-i Inv-loop μ-loop
-sub-i c = search needs
-
-array-read-most : tie.Need-array-read-most Inv-loop μ-loop
-array-read-most c = search needs
-
-array-read-size : tie.Need-array-read-size Inv-loop μ-loop
-array-read-size c = search needs
-
-mul-x : tie.Need-mul-x Inv-loop μ-loop
-mul-x c = search needs
-
-array-copy-out-x : tie.Need-array-copy-out-x Inv-loop μ-loop
-array-copy-out-x c = search needs
-
-place-in-limits-requires : tie.Need-place-in-limits-requires Inv-loop μ-loop
-place-in-limits-requires c κs = search needs
-
 returns : tie.Need-returns Inv-loop μ-loop
 unfolding pendingInLimits
 returns c =
@@ -52,9 +28,6 @@ returns c =
     let l = c .before .before .before .before .loop in
     sym (every-off (λ i. placeInLimits (getD (a .t2) (i / 8) 0) (getD (a .t3) (i / 8) 0) (i % 8) (getD (a .t4) i noInstance)) (8 * a .events) (l .left) (c .before .before .before .loop-test .taken) (l .inv .1)
     (sym (c .before .place-in-limits .ensures) ∙ not-true (c .before .place-in-limits .result) (c .if1 .taken)))
-
-loop-less : tie.Need-loop-less Inv-loop μ-loop
-loop-less c = search needs
 
 loop-again : tie.Need-loop-again Inv-loop μ-loop
 loop-again c =
@@ -78,15 +51,15 @@ pending-in-limits-spec =
     (tie.spec
     Inv-loop
     μ-loop
-    mul-left
-    loop-holds
-    sub-i
-    array-read-most
-    array-read-size
-    mul-x
-    array-copy-out-x
-    place-in-limits-requires
+    (λ c. search needs)
+    (λ c. search needs)
+    (λ c. search needs)
+    (λ c. search needs)
+    (λ c. search needs)
+    (λ c. search needs)
+    (λ c. search needs)
+    (λ c κs. search needs)
     returns
-    loop-less
+    (λ c. search needs)
     loop-again
     returns-2)

@@ -9,12 +9,9 @@ returns : tie.Need-returns
 unfolding placeInLimits
 returns c = rw (le-leb _ _ (c .if1 .taken))
 
-instance-in-limits-requires : tie.Need-instance-in-limits-requires
-instance-in-limits-requires c κs = search needs
-
 returns-2 : tie.Need-returns-2
 unfolding placeInLimits
 returns-2 c = rw (lt-leb _ _ (c .before .if1 .left)) (c .instance-in-limits .ensures)
 
 pub place-in-limits-spec : {M : Type 1} → statement M
-place-in-limits-spec = tie.close (tie.spec returns instance-in-limits-requires returns-2)
+place-in-limits-spec = tie.close (tie.spec returns (λ c κs. search needs) returns-2)

@@ -9,22 +9,13 @@ use Rattle.run_limits.specs.Progress.{progressFits}
 use Rattle.run_limits.proofs.progress.progress_fits.Statement.{statement}
 use Rattle.run_limits.proofs.progress.progress_fits.Tie as tie
 
-times-in-limits-requires : tie.Need-times-in-limits-requires
-times-in-limits-requires c κs = search needs
-
 returns : tie.Need-returns
 unfolding progressFits
 returns c = rw (sym (c .before .times-in-limits .ensures) ∙ not-true (c .before .times-in-limits .result) (c .if1 .taken))
 
-times-in-limits-requires-2 : tie.Need-times-in-limits-requires-2
-times-in-limits-requires-2 c κs = search needs
-
 returns-2 : tie.Need-returns-2
 unfolding progressFits
 returns-2 c = rw (sym (c .before .before .before .before .times-in-limits .ensures) ∙ not-false (c .before .before .before .before .times-in-limits .result) (c .before .before .before .if1 .left), sym (c .before .times-in-limits2 .ensures) ∙ not-true (c .before .times-in-limits2 .result) (c .if2 .taken))
-
-slice-aggregate-within : tie.Need-slice-aggregate-within
-slice-aggregate-within c = search needs
 
 within-requires : tie.Need-within-requires
 within-requires c κs =
@@ -37,15 +28,9 @@ returns-3 : tie.Need-returns-3
 unfolding progressFits
 returns-3 c = rw (sym (c .before .before .before .before .before .before .before .before .times-in-limits .ensures) ∙ not-false (c .before .before .before .before .before .before .before .before .times-in-limits .result) (c .before .before .before .before .before .before .before .if1 .left), sym (c .before .before .before .before .before .times-in-limits2 .ensures) ∙ not-false (c .before .before .before .before .before .times-in-limits2 .result) (c .before .before .before .before .if2 .left), sym (c .before .within .ensures) ∙ not-true (c .before .within .result) (c .if3 .taken))
 
-pending-in-limits-requires : tie.Need-pending-in-limits-requires
-pending-in-limits-requires c κs = search needs
-
 returns-4 : tie.Need-returns-4
 unfolding progressFits
 returns-4 c = rw (sym (c .before .before .before .before .before .before .before .before .before .before .before .times-in-limits .ensures) ∙ not-false (c .before .before .before .before .before .before .before .before .before .before .before .times-in-limits .result) (c .before .before .before .before .before .before .before .before .before .before .if1 .left), sym (c .before .before .before .before .before .before .before .before .times-in-limits2 .ensures) ∙ not-false (c .before .before .before .before .before .before .before .before .times-in-limits2 .result) (c .before .before .before .before .before .before .before .if2 .left), sym (c .before .before .before .before .within .ensures) ∙ not-false (c .before .before .before .before .within .result) (c .before .before .before .if3 .left), sym (c .before .pending-in-limits .ensures) ∙ not-true (c .before .pending-in-limits .result) (c .if4 .taken))
-
-add-if5 : tie.Need-add-if5
-add-if5 c = search needs
 
 returns-5 : tie.Need-returns-5
 unfolding progressFits
@@ -59,15 +44,15 @@ pub progress-fits-spec : {M : Type 1} → statement M
 progress-fits-spec =
     tie.close
     (tie.spec
-    times-in-limits-requires
+    (λ c κs. search needs)
     returns
-    times-in-limits-requires-2
+    (λ c κs. search needs)
     returns-2
-    slice-aggregate-within
+    (λ c. search needs)
     within-requires
     returns-3
-    pending-in-limits-requires
+    (λ c κs. search needs)
     returns-4
-    add-if5
+    (λ c. search needs)
     returns-5
     returns-6)

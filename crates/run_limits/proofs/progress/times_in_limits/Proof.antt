@@ -22,18 +22,6 @@ Inv-loop count times left₀ left = (left ≤ count)
 abbrev μ-loop : tie.MeasureT-loop
 μ-loop count times left₀ left = left
 
-loop-holds : tie.Need-loop-holds Inv-loop μ-loop
-loop-holds c = search needs
-
-sub-i : tie.Need-sub-i Inv-loop μ-loop
-sub-i c = search needs
-
-mul-t : tie.Need-mul-t Inv-loop μ-loop
-mul-t c = search needs
-
-array-copy-out-t : tie.Need-array-copy-out-t Inv-loop μ-loop
-array-copy-out-t c = search needs
-
 returns : tie.Need-returns Inv-loop μ-loop
 unfolding timesInLimits
 returns c =
@@ -41,9 +29,6 @@ returns c =
     let l = c .before .before .before .before .loop in
     sym (every-off (λ i. leb (at (a .t2) i) horizon) (a .count) (l .left) (c .before .before .before .loop-test .taken) (l .inv .1)
     (lt-leb _ _ (c .if1 .taken)))
-
-loop-less : tie.Need-loop-less Inv-loop μ-loop
-loop-less c = search needs
 
 loop-again : tie.Need-loop-again Inv-loop μ-loop
 loop-again c =
@@ -67,11 +52,11 @@ times-in-limits-spec =
     (tie.spec
     Inv-loop
     μ-loop
-    loop-holds
-    sub-i
-    mul-t
-    array-copy-out-t
+    (λ c. search needs)
+    (λ c. search needs)
+    (λ c. search needs)
+    (λ c. search needs)
     returns
-    loop-less
+    (λ c. search needs)
     loop-again
     returns-2)

@@ -3,17 +3,8 @@ use borrow.Author.Needs.{needs}
 use Rattle.run_limits.proofs.progress.told_names.Statement.{statement}
 use Rattle.run_limits.proofs.progress.told_names.Tie as tie
 
-enum-told : tie.Need-enum-told
-enum-told c = search needs
-
-enum-known-told : tie.Need-enum-known-told
-enum-known-told c = search needs
-
-returns : tie.Need-returns
-returns c = search needs
-
 returns-2 : tie.Need-returns-2
 returns-2 c = rw (c .before .told .given .1)
 
 pub told-names-spec : {M : Type 1} → statement M
-told-names-spec = tie.close (tie.spec enum-told enum-known-told returns returns-2)
+told-names-spec = tie.close (tie.spec (λ c. search needs) (λ c. search needs) (λ c. search needs) returns-2)

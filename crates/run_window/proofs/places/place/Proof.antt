@@ -29,44 +29,8 @@ loop-holds c = (omega arith, omega arith, long c, from-start (c .args .t1) (take
 returns : tie.Need-returns Inv-loop μ-loop
 returns c = sym (c .before .before .loop .inv .3 ∙ rw (no-entry (c .before .before .before .args .t2) (c .before .before .loop .next) (c .before .before .before .args .count) (c .if1 .taken)) (from-spent (c .before .before .loop .at) (c .before .before .loop .window)))
 
-mul-w : tie.Need-mul-w Inv-loop μ-loop
-mul-w c = search needs
-
-array-copy-out-w : tie.Need-array-copy-out-w Inv-loop μ-loop
-array-copy-out-w c = search needs
-
-is-free-requires : tie.Need-is-free-requires Inv-loop μ-loop
-is-free-requires c κs = search needs
-
-mul-e : tie.Need-mul-e Inv-loop μ-loop
-mul-e c = search needs
-
-array-copy-out-e : tie.Need-array-copy-out-e Inv-loop μ-loop
-array-copy-out-e c = search needs
-
-mul-window : tie.Need-mul-window Inv-loop μ-loop
-mul-window c = search needs
-
-array-set-from-window : tie.Need-array-set-from-window Inv-loop μ-loop
-array-set-from-window c = search needs
-
-add-next : tie.Need-add-next Inv-loop μ-loop
-add-next c = search needs
-
-add-at : tie.Need-add-at Inv-loop μ-loop
-add-at c = search needs
-
-loop-less : tie.Need-loop-less Inv-loop μ-loop
-loop-less c = search needs
-
 loop-again : tie.Need-loop-again Inv-loop μ-loop
 loop-again c = (omega arith, omega arith, length-set (c .before .before .before .before .before .before .loop .window) (c .before .before .before .before .before .before .loop .at) _ ∙ c .before .before .before .before .before .before .loop .inv .2, c .before .before .before .before .before .before .loop .inv .3 ∙ rw (next-entry (c .before .before .before .before .before .before .before .args .t2) vacant (c .before .before .before .before .before .before .loop .next) (c .before .before .before .before .before .before .before .args .count) (c .before .before .before .before .if1 .left) (omega (arith, many (c .before .before .before .before .before .before .before)))) (from-free (c .before .before .before .before .before .before .loop .window) vacant (c .before .before .before .before .before .before .loop .at) (omega arith) _ _ (c .before .before .is-free .ensures) (c .before .if2 .taken)))
-
-add-at-2 : tie.Need-add-at-2 Inv-loop μ-loop
-add-at-2 c = search needs
-
-loop-less-2 : tie.Need-loop-less-2 Inv-loop μ-loop
-loop-less-2 c = search needs
 
 loop-again-2 : tie.Need-loop-again-2 Inv-loop μ-loop
 loop-again-2 c = (omega arith, omega arith, c .before .before .before .before .before .loop .inv .2, c .before .before .before .before .before .loop .inv .3 ∙ from-held (c .before .before .before .before .before .loop .window) _ (c .before .before .before .before .before .loop .at) (omega arith) _ (c .before .is-free .ensures) (c .if2 .left))
@@ -82,18 +46,18 @@ place-spec =
     μ-loop
     loop-holds
     returns
-    mul-w
-    array-copy-out-w
-    is-free-requires
-    mul-e
-    array-copy-out-e
-    mul-window
-    array-set-from-window
-    add-next
-    add-at
-    loop-less
+    (λ c. search needs)
+    (λ c. search needs)
+    (λ c κs. search needs)
+    (λ c. search needs)
+    (λ c. search needs)
+    (λ c. search needs)
+    (λ c. search needs)
+    (λ c. search needs)
+    (λ c. search needs)
+    (λ c. search needs)
     loop-again
-    add-at-2
-    loop-less-2
+    (λ c. search needs)
+    (λ c. search needs)
     loop-again-2
     returns-2)

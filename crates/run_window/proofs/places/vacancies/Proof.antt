@@ -22,29 +22,8 @@ long c = search unmapped
 loop-holds : tie.Need-loop-holds Inv-loop μ-loop
 loop-holds c = (omega arith, omega arith, vacancies-none (c .args .t1) 512 (omega (arith, long c)))
 
-sub-i : tie.Need-sub-i Inv-loop μ-loop
-sub-i c = search needs
-
-mul-e : tie.Need-mul-e Inv-loop μ-loop
-mul-e c = search needs
-
-array-copy-out-e : tie.Need-array-copy-out-e Inv-loop μ-loop
-array-copy-out-e c = search needs
-
-is-free-requires : tie.Need-is-free-requires Inv-loop μ-loop
-is-free-requires c κs = search needs
-
-add-n : tie.Need-add-n Inv-loop μ-loop
-add-n c = search needs
-
-loop-less : tie.Need-loop-less Inv-loop μ-loop
-loop-less c = search needs
-
 loop-again : tie.Need-loop-again Inv-loop μ-loop
 loop-again c = (omega arith, omega arith, rw (c .before .before .before .before .loop .inv .2) (vacancies-here (c .before .before .before .before .before .args .t1) _ (c .before .before .before .before .loop .i) (c .before .before .before .loop-test .taken) (omega (arith, long (c .before .before .before .before .before))) (c .before .is-free .ensures) (c .if1 .taken)))
-
-loop-less-2 : tie.Need-loop-less-2 Inv-loop μ-loop
-loop-less-2 c = search needs
 
 loop-again-2 : tie.Need-loop-again-2 Inv-loop μ-loop
 loop-again-2 c = (omega arith, omega arith, c .before .before .before .before .loop .inv .2 ∙ vacancies-past (c .before .before .before .before .before .args .t1) _ (c .before .before .before .before .loop .i) (c .before .before .before .loop-test .taken) (omega (arith, long (c .before .before .before .before .before))) (c .before .is-free .ensures) (c .if1 .left))
@@ -59,13 +38,13 @@ vacancies-spec =
     Inv-loop
     μ-loop
     loop-holds
-    sub-i
-    mul-e
-    array-copy-out-e
-    is-free-requires
-    add-n
-    loop-less
+    (λ c. search needs)
+    (λ c. search needs)
+    (λ c. search needs)
+    (λ c κs. search needs)
+    (λ c. search needs)
+    (λ c. search needs)
     loop-again
-    loop-less-2
+    (λ c. search needs)
     loop-again-2
     returns)

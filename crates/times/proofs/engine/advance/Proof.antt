@@ -17,9 +17,6 @@ floor-requires c κs = input-fits {E = c .pre .events} (c .args .input) (c .pre 
 processed-requires : tie.Need-processed-requires
 processed-requires c κs = input-fits {E = c .before .pre .events} (c .before .args .input) (c .before .pre .few-events) (c .before .pre .input)
 
-raised-requires : tie.Need-raised-requires
-raised-requires c κs = search needs
-
 -- every resource is held back
 held : (c : tie.After-raised) → withAvailable (c .before .before .processed .result) (c .raised .result) ≡ heldOf (c .before .before .before .before .args .resources) (floorOf (c .before .before .before .before .args .input) (c .before .before .before .before .args .progress)) (processedOf (c .before .before .before .before .args .input) (c .before .before .before .before .args .progress))
 held c = held-as _ _ _ (c .before .before .before .floor .ensures) (c .before .before .processed .ensures) (held-parts _ _ (c .before .before .processed .result) (c .raised .ensures))
@@ -54,7 +51,7 @@ advance-spec =
     (tie.spec
     floor-requires
     processed-requires
-    raised-requires
+    (λ c κs. search needs)
     scheduled-requires
     left-requires
     beyond-requires

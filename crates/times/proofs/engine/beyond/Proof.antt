@@ -10,19 +10,13 @@ returns : tie.Need-returns
 unfolding beyondOf
 returns c = simp (lt-ltb _ _ (c .if1 .taken))
 
-ends-above-requires : tie.Need-ends-above-requires
-ends-above-requires c κs = search needs
-
 returns-2 : tie.Need-returns-2
 unfolding beyondOf
 returns-2 c = simp (le-ltb _ _ (c .before .before .if1 .left), sym (c .before .ends-above .ensures) ∙ c .if2 .taken)
-
-above-requires : tie.Need-above-requires
-above-requires c κs = search needs
 
 returns-3 : tie.Need-returns-3
 unfolding beyondOf
 returns-3 c = simp (le-ltb _ _ (c .before .before .before .before .if1 .left), sym (c .before .before .before .ends-above .ensures) ∙ c .before .before .if2 .left, c .above .ensures)
 
 pub beyond-spec : {M : Type 1} → statement M
-beyond-spec = tie.close (tie.spec returns ends-above-requires returns-2 above-requires returns-3)
+beyond-spec = tie.close (tie.spec returns (λ c κs. search needs) returns-2 (λ c κs. search needs) returns-3)

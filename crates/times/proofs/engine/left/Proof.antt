@@ -21,20 +21,8 @@ Inv-loop a t count h₀ j₀ h j = (j ≤ t .count) × (count ≡ t .count) × (
 abbrev μ-loop : tie.MeasureT-loop
 μ-loop a t count h₀ j₀ h j = count - j
 
-wide-requires : tie.Need-wide-requires Inv-loop μ-loop
-wide-requires c κs = search needs
-
 loop-holds : tie.Need-loop-holds Inv-loop μ-loop
 loop-holds c = (omega arith, omega arith, rw sub-zero)
-
-element-copy-out-node : tie.Need-element-copy-out-node Inv-loop μ-loop
-element-copy-out-node c = search needs
-
-wide-requires-2 : tie.Need-wide-requires-2 Inv-loop μ-loop
-wide-requires-2 c κs = search needs
-
-add-j : tie.Need-add-j Inv-loop μ-loop
-add-j c = search needs
 
 inside : (c : tie.After-wide2 Inv-loop μ-loop) → c .wide2 .result < c .before .before .before .before .before .args .t1 .count
 inside c = omega (arith, c .wide2 .ensures, c .before .before .before .before .before .pre .within (c .before .before .before .loop .j) (omega arith))
@@ -56,23 +44,11 @@ mul-x c = omega (arith, inside (c .before), c .before .before .before .before .b
 element-copy-out-x : tie.Need-element-copy-out-x Inv-loop μ-loop
 element-copy-out-x c = omega (arith, inside (c .before), c .before .before .before .before .before .before .pre .activity .count)
 
-enum-told : tie.Need-enum-told Inv-loop μ-loop
-enum-told c = search needs
-
-loop-less : tie.Need-loop-less Inv-loop μ-loop
-loop-less c = search needs
-
 loop-again : tie.Need-loop-again Inv-loop μ-loop
 loop-again c = let a = c .before .before .before .before .before .before .before .before .before .args in
     let l = c .before .before .before .before .before .before .before .loop in
     let n = c .before .before .before .before .wide2 in
     (omega arith, omega arith, leaves (a .t1) (a .t2) (l .j) (n .result) (l .h) (n .ensures) (inside (c .before .before .before .before)) (omega arith) (l .inv .2) (leaves-action (n .result) (at (a .t2 .end) (n .result)) (getD (a .t1 .nodes) (n .result) pastNode .kind) (l .h) _ _ (c .enum-told .given .1)))
-
-enum-told-2 : tie.Need-enum-told-2 Inv-loop μ-loop
-enum-told-2 c = search needs
-
-loop-less-2 : tie.Need-loop-less-2 Inv-loop μ-loop
-loop-less-2 c = search needs
 
 loop-again-2 : tie.Need-loop-again-2 Inv-loop μ-loop
 loop-again-2 c = let a = c .before .before .before .before .before .before .before .before .before .args in
@@ -80,20 +56,8 @@ loop-again-2 c = let a = c .before .before .before .before .before .before .befo
     let n = c .before .before .before .before .wide2 in
     (omega arith, omega arith, leaves (a .t1) (a .t2) (l .j) (n .result) (l .h) (n .ensures) (inside (c .before .before .before .before)) (omega arith) (l .inv .2) (leaves-claim (n .result) (at (a .t2 .end) (n .result)) (getD (a .t1 .nodes) (n .result) pastNode .kind) (l .h) _ (c .enum-told2 .given .1)))
 
-enum-known-k : tie.Need-enum-known-k Inv-loop μ-loop
-enum-known-k c = search needs
-
-wide-requires-3 : tie.Need-wide-requires-3 Inv-loop μ-loop
-wide-requires-3 c κs = search needs
-
-mul-end-2 : tie.Need-mul-end-2 Inv-loop μ-loop
-mul-end-2 c = search needs
-
 element-set-from-end : tie.Need-element-set-from-end Inv-loop μ-loop
 element-set-from-end c = omega (arith, c .wide3 .ensures, subst (KindFits 16 16) (c .before .before .k .given .1) (named (c .before .before .before .before .before .before)))
-
-loop-less-3 : tie.Need-loop-less-3 Inv-loop μ-loop
-loop-less-3 c = search needs
 
 loop-again-3 : tie.Need-loop-again-3 Inv-loop μ-loop
 loop-again-3 c = let a = c .before .before .before .before .before .before .before .before .before .before .before .args in
@@ -101,26 +65,11 @@ loop-again-3 c = let a = c .before .before .before .before .before .before .befo
     let n = c .before .before .before .before .before .before .wide2 in
     (omega arith, omega arith, leaves (a .t1) (a .t2) (l .j) (n .result) (l .h) (n .ensures) (inside (c .before .before .before .before .before .before)) (omega arith) (l .inv .2) (leaves-release (n .result) (at (a .t2 .end) (n .result)) (getD (a .t1 .nodes) (n .result) pastNode .kind) (l .h) _ _ (c .before .before .k .given .1) (c .wide3 .ensures)))
 
-enum-known-k-2 : tie.Need-enum-known-k-2 Inv-loop μ-loop
-enum-known-k-2 c = search needs
-
-wide-requires-4 : tie.Need-wide-requires-4 Inv-loop μ-loop
-wide-requires-4 c κs = search needs
-
-mul-last : tie.Need-mul-last Inv-loop μ-loop
-mul-last c = search needs
-
 known : (c : tie.After-wide4 Inv-loop μ-loop) → c .wide4 .result < 16
 known c = omega (arith, c .wide4 .ensures, subst (KindFits 16 16) (c .before .before .k2 .given .1) (named (c .before .before .before .before .before .before)))
 
 element-copy-out-last : tie.Need-element-copy-out-last Inv-loop μ-loop
 element-copy-out-last c = known c
-
-later-requires : tie.Need-later-requires Inv-loop μ-loop
-later-requires c κs = search needs
-
-mul-t35 : tie.Need-mul-t35 Inv-loop μ-loop
-mul-t35 c = search needs
 
 element-set-from-h : tie.Need-element-set-from-h Inv-loop μ-loop
 element-set-from-h c = known (c .before .before)
@@ -128,38 +77,17 @@ element-set-from-h c = known (c .before .before)
 element-copy-out-length : tie.Need-element-copy-out-length Inv-loop μ-loop
 element-copy-out-length c = known (c .before .before)
 
-mul-t48 : tie.Need-mul-t48 Inv-loop μ-loop
-mul-t48 c = search needs
-
-wide-requires-5 : tie.Need-wide-requires-5 Inv-loop μ-loop
-wide-requires-5 c κs = search needs
-
-add-t50 : tie.Need-add-t50 Inv-loop μ-loop
-add-t50 c = search needs
-
-mul-t51 : tie.Need-mul-t51 Inv-loop μ-loop
-mul-t51 c = search needs
-
 element-set-from-h-2 : tie.Need-element-set-from-h-2 Inv-loop μ-loop
 element-set-from-h-2 c = omega (arith, c .wide5 .ensures, known (c .before .before .before .before .before), c .before .if1 .taken)
 
-add-h : tie.Need-add-h Inv-loop μ-loop
-add-h c = search needs
-
 element-write-h : tie.Need-element-write-h Inv-loop μ-loop
 element-write-h c = known (c .before .before .before .before .before)
-
-loop-less-4 : tie.Need-loop-less-4 Inv-loop μ-loop
-loop-less-4 c = search needs
 
 loop-again-4 : tie.Need-loop-again-4 Inv-loop μ-loop
 loop-again-4 c = let a = c .before .before .before .before .before .before .before .before .before .before .before .before .before .before .before .before .args in
     let l = c .before .before .before .before .before .before .before .before .before .before .before .before .before .before .loop in
     let n = c .before .before .before .before .before .before .before .before .before .before .before .wide2 in
     (omega arith, omega arith, leaves (a .t1) (a .t2) (l .j) (n .result) (l .h) (n .ensures) (inside (c .before .before .before .before .before .before .before .before .before .before .before)) (omega arith) (l .inv .2) (leaves-joined (n .result) (at (a .t2 .end) (n .result)) (getD (a .t1 .nodes) (n .result) pastNode .kind) (l .h) _ _ _ _ _ (c .before .before .before .before .before .before .before .k2 .given .1) (c .before .before .before .before .before .wide4 .ensures) (c .before .before .before .later .ensures) (c .wide5 .ensures) (n .ensures) (c .before .if1 .taken)))
-
-loop-less-5 : tie.Need-loop-less-5 Inv-loop μ-loop
-loop-less-5 c = search needs
 
 loop-again-5 : tie.Need-loop-again-5 Inv-loop μ-loop
 loop-again-5 c = let a = c .before .before .before .before .before .before .before .before .before .before .before .before .before .before .before .args in
@@ -178,44 +106,44 @@ left-spec =
     (tie.spec
     Inv-loop
     μ-loop
-    wide-requires
+    (λ c κs. search needs)
     loop-holds
-    element-copy-out-node
-    wide-requires-2
-    add-j
+    (λ c. search needs)
+    (λ c κs. search needs)
+    (λ c. search needs)
     mul-end
     element-copy-out-end
     mul-x
     element-copy-out-x
-    enum-told
-    loop-less
+    (λ c. search needs)
+    (λ c. search needs)
     loop-again
-    enum-told-2
-    loop-less-2
+    (λ c. search needs)
+    (λ c. search needs)
     loop-again-2
-    enum-known-k
-    wide-requires-3
-    mul-end-2
+    (λ c. search needs)
+    (λ c κs. search needs)
+    (λ c. search needs)
     element-set-from-end
-    loop-less-3
+    (λ c. search needs)
     loop-again-3
-    enum-known-k-2
-    wide-requires-4
-    mul-last
+    (λ c. search needs)
+    (λ c κs. search needs)
+    (λ c. search needs)
     element-copy-out-last
-    later-requires
-    mul-t35
+    (λ c κs. search needs)
+    (λ c. search needs)
     element-set-from-h
     element-copy-out-length
-    mul-t48
-    wide-requires-5
-    add-t50
-    mul-t51
+    (λ c. search needs)
+    (λ c κs. search needs)
+    (λ c. search needs)
+    (λ c. search needs)
     element-set-from-h-2
-    add-h
+    (λ c. search needs)
     element-write-h
-    loop-less-4
+    (λ c. search needs)
     loop-again-4
-    loop-less-5
+    (λ c. search needs)
     loop-again-5
     returns)

@@ -9,26 +9,11 @@ use Rattle.times.specs.Queues.{floorOf}
 use Rattle.times.proofs.queues.floor.Statement.{statement}
 use Rattle.times.proofs.queues.floor.Tie as tie
 
-enum-told : tie.Need-enum-told
-enum-told c = search needs
-
-enum-known-input : tie.Need-enum-known-input
-enum-known-input c = search needs
-
-wide-requires : tie.Need-wide-requires
-wide-requires c κs = search needs
-
 inside : (c : tie.After-wide) → c .wide .result < 16
 inside c = omega (arith, c .wide .ensures, subst (InputFits 16) (c .before .before .input .given .1) (c .before .before .before .before .pre))
 
 element-copy-out-if1 : tie.Need-element-copy-out-if1
 element-copy-out-if1 c = inside c
-
-mul-x : tie.Need-mul-x
-mul-x c = search needs
-
-mul-x-2 : tie.Need-mul-x-2
-mul-x-2 c = search needs
 
 element-copy-out-x : tie.Need-element-copy-out-x
 element-copy-out-x c = omega (arith, inside (c .before .before))
@@ -49,12 +34,12 @@ pub floor-spec : {M : Type 1} → statement M
 floor-spec =
     tie.close
     (tie.spec
-    enum-told
-    enum-known-input
-    wide-requires
+    (λ c. search needs)
+    (λ c. search needs)
+    (λ c κs. search needs)
     element-copy-out-if1
-    mul-x
-    mul-x-2
+    (λ c. search needs)
+    (λ c. search needs)
     element-copy-out-x
     returns
     returns-2

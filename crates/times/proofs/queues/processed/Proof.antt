@@ -23,17 +23,8 @@ Inv-loop e i n h₀ last j₀ h j =
 abbrev μ-loop : tie.MeasureT-loop
 μ-loop e i n h₀ last j₀ h j = last - j
 
-enum-known-input : tie.Need-enum-known-input Inv-loop μ-loop
-enum-known-input c = search needs
-
-enum-told : tie.Need-enum-told Inv-loop μ-loop
-enum-told c = search needs
-
 returns : tie.Need-returns Inv-loop μ-loop
 returns c = processed-nothing _ _ (c .enum-told .given .1)
-
-wide-requires : tie.Need-wide-requires Inv-loop μ-loop
-wide-requires c κs = search needs
 
 inside : (c : tie.After-wide Inv-loop μ-loop) → c .wide .result < 16
 inside c = omega (arith, c .wide .ensures, subst (InputFits 16) (c .before .before .input .given .1) (c .before .before .before .before .pre))
@@ -83,9 +74,6 @@ element-set-from-x c = omega (arith, inside (c .before .before .before .before .
 add-j : tie.Need-add-j Inv-loop μ-loop
 add-j c = omega (arith, inside (c .before .before .before .before .before))
 
-loop-less : tie.Need-loop-less Inv-loop μ-loop
-loop-less c = search needs
-
 loop-again : tie.Need-loop-again Inv-loop μ-loop
 loop-again c =
     let l = c .before .before .loop in
@@ -120,10 +108,10 @@ processed-spec =
     (tie.spec
     Inv-loop
     μ-loop
-    enum-known-input
-    enum-told
+    (λ c. search needs)
+    (λ c. search needs)
     returns
-    wide-requires
+    (λ c κs. search needs)
     element-copy-out-n
     returns-2
     sub-h
@@ -138,7 +126,7 @@ processed-spec =
     mul-x-2
     element-set-from-x
     add-j
-    loop-less
+    (λ c. search needs)
     loop-again
     mul-t18
     element-set-from-h

@@ -24,17 +24,8 @@ Inv-loop ends x count best₀ j₀ best j =
 abbrev μ-loop : tie.MeasureT-loop
 μ-loop ends x count best₀ j₀ best j = count - j
 
-wide-requires : tie.Need-wide-requires Inv-loop μ-loop
-wide-requires c κs = search needs
-
 loop-holds : tie.Need-loop-holds Inv-loop μ-loop
 loop-holds c = (omega arith, omega arith, λ end e. rw sub-zero (omega arith))
-
-element-copy-out-wide : tie.Need-element-copy-out-wide Inv-loop μ-loop
-element-copy-out-wide c = search needs
-
-wide-requires-2 : tie.Need-wide-requires-2 Inv-loop μ-loop
-wide-requires-2 c κs = search needs
 
 inside : (c : tie.After-wide2 Inv-loop μ-loop) → c .wide2 .result < 64
 inside c =
@@ -46,15 +37,6 @@ mul-t c = omega (arith, inside c)
 
 element-copy-out-t : tie.Need-element-copy-out-t Inv-loop μ-loop
 element-copy-out-t c = inside c
-
-larger-requires : tie.Need-larger-requires Inv-loop μ-loop
-larger-requires c κs = search needs
-
-add-j : tie.Need-add-j Inv-loop μ-loop
-add-j c = search needs
-
-loop-less : tie.Need-loop-less Inv-loop μ-loop
-loop-less c = search needs
 
 loop-again : tie.Need-loop-again Inv-loop μ-loop
 loop-again c =
@@ -81,14 +63,14 @@ largest-spec =
     (tie.spec
     Inv-loop
     μ-loop
-    wide-requires
+    (λ c κs. search needs)
     loop-holds
-    element-copy-out-wide
-    wide-requires-2
+    (λ c. search needs)
+    (λ c κs. search needs)
     mul-t
     element-copy-out-t
-    larger-requires
-    add-j
-    loop-less
+    (λ c κs. search needs)
+    (λ c. search needs)
+    (λ c. search needs)
     loop-again
     returns)

@@ -23,12 +23,6 @@ Inv-loop a available latest count u₀ ends₀ rounds₀ from₀ n₀ u ends rou
 abbrev μ-loop : tie.MeasureT-loop
 μ-loop a available latest count u₀ ends₀ rounds₀ from₀ n₀ u ends rounds from n = 65 * rounds + (count - n)
 
-wide-requires : tie.Need-wide-requires Inv-loop μ-loop
-wide-requires c κs = search needs
-
-unstarted-requires : tie.Need-unstarted-requires Inv-loop μ-loop
-unstarted-requires c κs = search needs
-
 loop-holds : tie.Need-loop-holds Inv-loop μ-loop
 loop-holds c =
     let a = c .before .before .args in
@@ -38,9 +32,6 @@ returns : tie.Need-returns Inv-loop μ-loop
 returns c =
     let l = c .before .before .before .loop in
     rounding-stops _ _ _ (l .rounds) (l .from) (l .n) (l .u) (omega arith) (l .inv .3) (omega arith) (c .if2 .taken)
-
-sub-rounds : tie.Need-sub-rounds Inv-loop μ-loop
-sub-rounds c = search needs
 
 loop-less : tie.Need-loop-less Inv-loop μ-loop
 loop-less c = omega (arith, c .before .before .before .before .before .before .pre .activity .count)
@@ -65,9 +56,6 @@ loop-again-2 c =
     let low : l .n < c .before .before .before .before .before .before .before .args .t1 .count = omega (arith, c .before .before .if1 .left) in
     (omega arith, l .inv .1, l .inv .2, rounding-turn _ _ _ (l .rounds) (l .from) (l .n) (l .u) (omega arith) (l .inv .3) (l .u) low (visit-done _ _ _ _ _ (c .if3 .taken)) (l .inv .3 .sound))
 
-mul-x : tie.Need-mul-x Inv-loop μ-loop
-mul-x c = search needs
-
 element-copy-out-x : tie.Need-element-copy-out-x Inv-loop μ-loop
 element-copy-out-x c = omega (arith, c .before .before .if1 .left, c .before .before .before .before .before .before .before .pre .activity .count)
 
@@ -87,9 +75,6 @@ loop-again-3 c =
     let low : l .n < c .before .before .before .before .before .before .before .before .before .before .before .before .args .t1 .count = omega (arith, c .before .before .before .before .before .before .before .if1 .left) in
     (omega arith, l .inv .1, l .inv .2, rounding-turn _ _ _ (l .rounds) (l .from) (l .n) (l .u) (omega arith) (l .inv .3) (l .u) low (visit-waits _ _ _ _ _ (c .before .before .before .before .before .if3 .left) (sym (c .before .ready .ensures) ∙ not-true _ (c .if4 .taken))) (l .inv .3 .sound))
 
-claim-of-requires : tie.Need-claim-of-requires Inv-loop μ-loop
-claim-of-requires c κs = search needs
-
 claim-inside : (c : tie.After-claim-of Inv-loop μ-loop) → c .claim-of .result < 16
 claim-inside c =
     let p = c .before .before .before .before .before .before .before .before .before .before .before .before .before .pre in
@@ -103,9 +88,6 @@ mul-free c = omega (arith, claim-inside c)
 
 array-copy-out-free : tie.Need-array-copy-out-free Inv-loop μ-loop
 array-copy-out-free c = claim-inside c
-
-event-of-requires : tie.Need-event-of-requires Inv-loop μ-loop
-event-of-requires c κs = search needs
 
 event-inside : (c : tie.After-event-of Inv-loop μ-loop) → c .event-of .result < 16
 event-inside c =
@@ -128,12 +110,6 @@ largest-requires c κs =
     let low : l .n < c .before .before .before .before .before .before .before .before .before .before .before .before .before .before .before .before .before .args .t1 .count = omega (arith, c .before .before .before .before .before .before .before .before .before .before .before .before .if1 .left) in
     arrows-fit (p .activity .nodes (l .n) low) (p .activity .count)
 
-starting-requires : tie.Need-starting-requires Inv-loop μ-loop
-starting-requires c κs = search needs
-
-long-requires : tie.Need-long-requires Inv-loop μ-loop
-long-requires c κs = search needs
-
 add-end : tie.Need-add-end Inv-loop μ-loop
 add-end c =
     let s = c .before .before .before .before .before .before .before .before .before .before .before .before .before .before .before .before .before .before .before .before .before in
@@ -142,23 +118,11 @@ add-end c =
     let start = ap (λ (z : Specified). z .0) (c .before .before .starting .ensures ∙ ap specified (start-found (s .args .t2) (s .args .t3) (l .u .end) (getD (s .args .t1 .nodes) (l .n) pastNode) (c .before .before .before .largest .ensures (l .u .end) (l .inv .2)) (c .before .before .before .before .before .before .before .before .claim-of .ensures) (c .before .before .before .before .before .before .event-of .ensures))) in
     omega (arith, start, c .before .long .ensures, start-small _ _ _ (s .pre) (l .n) low (l .u) (l .inv .3 .sound), s .pre .activity .nodes (l .n) low .duration, room _ _ _ (s .pre) (l .n) low (l .u) (l .inv .3 .sound) (c .before .before .before .before .before .before .before .before .before .before .before .before .before .before .if3 .left))
 
-wide-requires-2 : tie.Need-wide-requires-2 Inv-loop μ-loop
-wide-requires-2 c κs = search needs
-
-mul-ends : tie.Need-mul-ends Inv-loop μ-loop
-mul-ends c = search needs
-
 array-write-ends : tie.Need-array-write-ends Inv-loop μ-loop
 array-write-ends c = omega (arith, c .before .before .before .before .before .before .before .before .before .before .before .before .before .before .before .before .before .if1 .left, c .before .before .before .before .before .before .before .before .before .before .before .before .before .before .before .before .before .before .before .before .before .before .pre .activity .count)
 
-mul-s : tie.Need-mul-s Inv-loop μ-loop
-mul-s c = search needs
-
 element-set-from-s : tie.Need-element-set-from-s Inv-loop μ-loop
 element-set-from-s c = omega (arith, c .before .before .before .before .before .before .before .before .before .before .before .before .before .before .before .before .before .if1 .left, c .before .before .before .before .before .before .before .before .before .before .before .before .before .before .before .before .before .before .before .before .before .before .pre .activity .count)
-
-mul-t29 : tie.Need-mul-t29 Inv-loop μ-loop
-mul-t29 c = search needs
 
 element-set-from-u : tie.Need-element-set-from-u Inv-loop μ-loop
 element-set-from-u c = omega (arith, c .before .before .before .before .before .before .before .before .before .before .before .before .before .before .before .before .before .if1 .left, c .before .before .before .before .before .before .before .before .before .before .before .before .before .before .before .before .before .before .before .before .before .before .pre .activity .count)
@@ -213,38 +177,38 @@ scheduled-spec =
     (tie.spec
     Inv-loop
     μ-loop
-    wide-requires
-    unstarted-requires
+    (λ c κs. search needs)
+    (λ c κs. search needs)
     loop-holds
     returns
-    sub-rounds
+    (λ c. search needs)
     loop-less
     loop-again
     add-n
     element-copy-out-if3
     loop-less-2
     loop-again-2
-    mul-x
+    (λ c. search needs)
     element-copy-out-x
     ready-requires
     loop-less-3
     loop-again-3
-    claim-of-requires
+    (λ c κs. search needs)
     mul-free
     array-copy-out-free
-    event-of-requires
+    (λ c κs. search needs)
     mul-last
     array-copy-out-last
     largest-requires
-    starting-requires
-    long-requires
+    (λ c κs. search needs)
+    (λ c κs. search needs)
     add-end
-    wide-requires-2
-    mul-ends
+    (λ c κs. search needs)
+    (λ c. search needs)
     array-write-ends
-    mul-s
+    (λ c. search needs)
     element-set-from-s
-    mul-t29
+    (λ c. search needs)
     element-set-from-u
     element-write-u
     cast-u

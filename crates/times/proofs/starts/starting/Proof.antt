@@ -7,21 +7,6 @@ use borrow.Author.Needs.{needs}
 use Rattle.times.proofs.starts.starting.Statement.{statement}
 use Rattle.times.proofs.starts.starting.Tie as tie
 
-enum-told : tie.Need-enum-told
-enum-told c = search needs
-
-enum-told-2 : tie.Need-enum-told-2
-enum-told-2 c = search needs
-
-enum-told-3 : tie.Need-enum-told-3
-enum-told-3 c = search needs
-
-enum-told-4 : tie.Need-enum-told-4
-enum-told-4 c = search needs
-
-later-requires : tie.Need-later-requires
-later-requires c κs = search needs
-
 returns : tie.Need-returns
 returns c = let a = c .before .before .args in sym (ap (λ (k : Kind). specified (startOn k (a .m) (a .free .0) (a .last .0))) (c .enum-told .given .1))
 
@@ -38,11 +23,11 @@ pub starting-spec : {M : Type 1} → statement M
 starting-spec =
     tie.close
     (tie.spec
-    enum-told
-    enum-told-2
-    enum-told-3
-    enum-told-4
-    later-requires
+    (λ c. search needs)
+    (λ c. search needs)
+    (λ c. search needs)
+    (λ c. search needs)
+    (λ c κs. search needs)
     returns
     returns-2
     returns-3

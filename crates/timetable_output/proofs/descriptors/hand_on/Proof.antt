@@ -9,14 +9,8 @@ use borrow.Author.Needs.{needs}
 use Rattle.timetable_output.proofs.descriptors.hand_on.Statement.{statement}
 use Rattle.timetable_output.proofs.descriptors.hand_on.Tie as tie
 
-add-handed : tie.Need-add-handed
-add-handed c = search needs
-
 slice-aggregate-write-all : tie.Need-slice-aggregate-write-all
 slice-aggregate-write-all c = let a = c .before .before .before in let u = length-take (a .args .o .gathered) (now (a .args .out)) in omega (arith, a .pre .0)
-
-write-all-requires : tie.Need-write-all-requires
-write-all-requires c κs = search needs
 
 returns : tie.Need-returns
 returns c = let a = c .before .before .before .before .before .args in (hands-all (now (a .out)) (a .o) _ false refl, refl)
@@ -26,4 +20,4 @@ returns-2 c = let a = c .before .before .before .before .before .args in (hands-
 
 pub hand-on-spec : {M : Type 1} → statement M
 hand-on-spec =
-    tie.close (tie.spec add-handed slice-aggregate-write-all write-all-requires returns returns-2)
+    tie.close (tie.spec (λ c. search needs) slice-aggregate-write-all (λ c κs. search needs) returns returns-2)

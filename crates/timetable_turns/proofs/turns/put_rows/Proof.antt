@@ -14,45 +14,6 @@ Inv-loop out₀ at position number times activity size next₀ n₀ out next n =
 abbrev μ-loop : tie.MeasureT-loop
 μ-loop out₀ at position number times activity size next₀ n₀ out next n = size - n
 
-wide-requires : tie.Need-wide-requires Inv-loop μ-loop
-wide-requires c κs = search needs
-
-loop-holds : tie.Need-loop-holds Inv-loop μ-loop
-loop-holds c = search needs
-
-add-n : tie.Need-add-n Inv-loop μ-loop
-add-n c = search needs
-
-mul-x : tie.Need-mul-x Inv-loop μ-loop
-mul-x c = search needs
-
-element-copy-out-x : tie.Need-element-copy-out-x Inv-loop μ-loop
-element-copy-out-x c = search needs
-
-is-work-requires : tie.Need-is-work-requires Inv-loop μ-loop
-is-work-requires c κs = search needs
-
-mul-start : tie.Need-mul-start Inv-loop μ-loop
-mul-start c = search needs
-
-element-copy-out-start : tie.Need-element-copy-out-start Inv-loop μ-loop
-element-copy-out-start c = search needs
-
-mul-end : tie.Need-mul-end Inv-loop μ-loop
-mul-end c = search needs
-
-element-copy-out-end : tie.Need-element-copy-out-end Inv-loop μ-loop
-element-copy-out-end c = search needs
-
-cast-t32 : tie.Need-cast-t32 Inv-loop μ-loop
-cast-t32 c = search needs
-
-put-row-requires : tie.Need-put-row-requires Inv-loop μ-loop
-put-row-requires c κs = search needs
-
-loop-less : tie.Need-loop-less Inv-loop μ-loop
-loop-less c = search needs
-
 loop-again : tie.Need-loop-again Inv-loop μ-loop
 loop-again c =
     let a = c .before .before .before .before .before .before .before .before .before .before .before .before .before .args in
@@ -65,9 +26,6 @@ loop-again c =
       putting-row (a .position) (a .number) (a .t5) (a .t6 .nodes) (a .t6 .count) _ (a .at) (l .out) (l .next) (l .n) (omega arith) (l .inv .5) _ _ (omega arith) (omega arith) (omega arith)
           (sym (c .before .before .before .before .before .before .before .is-work .ensures) ∙ c .before .before .before .before .before .before .if1 .taken) (c .before .before .put-row .ensures),
     )
-
-loop-less-2 : tie.Need-loop-less-2 Inv-loop μ-loop
-loop-less-2 c = search needs
 
 loop-again-2 : tie.Need-loop-again-2 Inv-loop μ-loop
 loop-again-2 c =
@@ -82,9 +40,6 @@ loop-again-2 c =
           (sym (c .before .is-work .ensures) ∙ c .if1 .left),
     )
 
-same-length : tie.Need-same-length Inv-loop μ-loop
-same-length c = search needs
-
 returns : tie.Need-returns Inv-loop μ-loop
 returns c =
     let a = c .before .before .before .before .args in
@@ -97,21 +52,21 @@ put-rows-spec =
     (tie.spec
     Inv-loop
     μ-loop
-    wide-requires
-    loop-holds
-    add-n
-    mul-x
-    element-copy-out-x
-    is-work-requires
-    mul-start
-    element-copy-out-start
-    mul-end
-    element-copy-out-end
-    cast-t32
-    put-row-requires
-    loop-less
+    (λ c κs. search needs)
+    (λ c. search needs)
+    (λ c. search needs)
+    (λ c. search needs)
+    (λ c. search needs)
+    (λ c κs. search needs)
+    (λ c. search needs)
+    (λ c. search needs)
+    (λ c. search needs)
+    (λ c. search needs)
+    (λ c. search needs)
+    (λ c κs. search needs)
+    (λ c. search needs)
     loop-again
-    loop-less-2
+    (λ c. search needs)
     loop-again-2
-    same-length
+    (λ c. search needs)
     returns)

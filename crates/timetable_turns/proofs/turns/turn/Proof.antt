@@ -9,20 +9,11 @@ use borrow.Author.Needs.{needs}
 use Rattle.timetable_turns.proofs.turns.turn.Statement.{statement}
 use Rattle.timetable_turns.proofs.turns.turn.Tie as tie
 
-slice-aggregate-turn-by : tie.Need-slice-aggregate-turn-by
-slice-aggregate-turn-by c = search needs
-
 turn-by-requires : tie.Need-turn-by-requires
 turn-by-requires c κs = record { within = c .before .before .pre; room = omega arith }
 
-slice-aggregate-lend : tie.Need-slice-aggregate-lend
-slice-aggregate-lend c = search needs
-
 lend-requires : tie.Need-lend-requires
 lend-requires c κs = let s = c .before .before .before .before .before .before in let u = turn-short (s .args .plan) (s .args .progress) (s .pre) (s .args .read) (s .args .heard) in front-there _ _ _ _ (omega arith) (c .before .before .before .turn-by .ensures .text)
-
-same-length : tie.Need-same-length
-same-length c = search needs
 
 returns : tie.Need-returns
 returns c =
@@ -42,9 +33,9 @@ pub turn-spec : {M : Type 1} → statement M
 turn-spec =
     tie.close
     (tie.spec
-    slice-aggregate-turn-by
+    (λ c. search needs)
     turn-by-requires
-    slice-aggregate-lend
+    (λ c. search needs)
     lend-requires
-    same-length
+    (λ c. search needs)
     returns)

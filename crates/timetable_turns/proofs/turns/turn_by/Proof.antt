@@ -12,9 +12,6 @@ use Rattle.timetable_turns.proofs.turns.turn_by.Tie as tie
 step-of-requires : tie.Need-step-of-requires
 step-of-requires c κs = let s = c .before .before .before in named (s .args .plan) (s .pre .within .plan) (s .args .progress .state)
 
-output-of-requires : tie.Need-output-of-requires
-output-of-requires c κs = search needs
-
 emitted-requires : tie.Need-emitted-requires
 emitted-requires c κs =
     let s = c .before .before .before .before .before in
@@ -30,9 +27,6 @@ put-step-requires c κs =
       fits = step-fitting (s .args .plan) (s .args .progress) (s .pre .within) (s .args .heard) _ _ (c .before .before .before .step-of .ensures) e;
     }
 
-same-length : tie.Need-same-length
-same-length c = search needs
-
 returns : tie.Need-returns
 returns c =
     let s = c .before .before .before .before .before .before .before .before .before .before .args in
@@ -44,8 +38,8 @@ turn-by-spec =
     tie.close
     (tie.spec
     step-of-requires
-    output-of-requires
+    (λ c κs. search needs)
     emitted-requires
     put-step-requires
-    same-length
+    (λ c. search needs)
     returns)

@@ -7,9 +7,6 @@ use borrow.Author.Needs.{needs}
 use Rattle.timetable_turns.proofs.whole.heard_at.Statement.{statement}
 use Rattle.timetable_turns.proofs.whole.heard_at.Tie as tie
 
-shared-slice-read-t6 : tie.Need-shared-slice-read-t6
-shared-slice-read-t6 c = search needs
-
 returns : tie.Need-returns
 returns c = sym (head-there (c .before .before .args .at) (now (c .before .before .args .input)) (c .before .if1 .taken))
 
@@ -17,4 +14,4 @@ returns-2 : tie.Need-returns-2
 returns-2 c = sym (head-none (c .before .args .at) (now (c .before .args .input)) (omega (arith, c .if1 .left)))
 
 pub heard-at-spec : {M : Type 1} → statement M
-heard-at-spec = tie.close (tie.spec shared-slice-read-t6 returns returns-2)
+heard-at-spec = tie.close (tie.spec (λ c. search needs) returns returns-2)

@@ -10,37 +10,10 @@ use borrow.Author.Needs.{needs}
 use Rattle.timetable_turns.proofs.whole.put_table.Statement.{statement}
 use Rattle.timetable_turns.proofs.whole.put_table.Tie as tie
 
-add-end : tie.Need-add-end
-add-end c = search needs
-
-slice-aggregate-begin : tie.Need-slice-aggregate-begin
-slice-aggregate-begin c = search needs
-
-sub-begin : tie.Need-sub-begin
-sub-begin c = search needs
-
-part-begin-start : tie.Need-part-begin-start
-part-begin-start c = search needs
-
-part-begin-end : tie.Need-part-begin-end
-part-begin-end c = search needs
-
-begin-requires : tie.Need-begin-requires
-begin-requires c κs = search needs
-
-past-requires : tie.Need-past-requires
-past-requires c κs = search needs
-
-slice-aggregate-copy : tie.Need-slice-aggregate-copy
-slice-aggregate-copy c = search needs
-
 copy-requires : tie.Need-copy-requires
 copy-requires c κs =
     let f = size-few _ (now (c .before .before .before .before .before .before .before .before .before .args .input)) (c .before .before .before .before .before .before .before .before .before .args .n) _ _ (c .before .before .before .before .begin .result) (c .before .before .before .before .begin .ensures) _ (c .before .before .past .ensures) (omega arith) in
     (omega arith, omega (arith, c .before .before .before .before .begin .kept .0))
-
-turns-of-requires : tie.Need-turns-of-requires
-turns-of-requires c κs = search needs
 
 put-turns-requires : tie.Need-put-turns-requires
 put-turns-requires c κs =
@@ -48,9 +21,6 @@ put-turns-requires c κs =
     let k = c .before .before .before .before .before .before .copy in
     let u = length-take (c .before .before .before .before .before .before .before .before .before .past .result) (c .before .before .before .before .before .before .before .before .before .before .before .begin .last .0) in
     (omega (arith, c .before .before .before .before .before .before .before .before .before .before .before .before .before .before .before .before .pre .0), stands-first _ (now (c .before .before .before .before .before .before .before .before .before .before .before .before .before .before .before .before .args .input)) (c .before .before .before .before .before .before .before .before .before .before .before .before .before .before .before .before .args .n) _ _ (c .before .before .before .before .before .before .before .before .before .before .before .begin .result) (c .before .before .before .before .before .before .before .before .before .before .before .begin .ensures) _ (c .before .before .before .before .before .before .before .before .before .past .ensures) (omega arith) _ (c .before .turns-of .ensures) _ (omega (arith, k .ensures .past)))
-
-same-length : tie.Need-same-length
-same-length c = search needs
 
 returns : tie.Need-returns
 returns c =
@@ -63,16 +33,16 @@ pub put-table-spec : {M : Type 1} → statement M
 put-table-spec =
     tie.close
     (tie.spec
-    add-end
-    slice-aggregate-begin
-    sub-begin
-    part-begin-start
-    part-begin-end
-    begin-requires
-    past-requires
-    slice-aggregate-copy
+    (λ c. search needs)
+    (λ c. search needs)
+    (λ c. search needs)
+    (λ c. search needs)
+    (λ c. search needs)
+    (λ c κs. search needs)
+    (λ c κs. search needs)
+    (λ c. search needs)
     copy-requires
-    turns-of-requires
+    (λ c κs. search needs)
     put-turns-requires
-    same-length
+    (λ c. search needs)
     returns)

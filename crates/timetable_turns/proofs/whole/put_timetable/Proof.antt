@@ -8,26 +8,11 @@ use borrow.Author.Needs.{needs}
 use Rattle.timetable_turns.proofs.whole.put_timetable.Statement.{statement}
 use Rattle.timetable_turns.proofs.whole.put_timetable.Tie as tie
 
-put-refused-requires : tie.Need-put-refused-requires
-put-refused-requires c κs = search needs
-
-same-length : tie.Need-same-length
-same-length c = search needs
-
 returns : tie.Need-returns
 returns c = puts-as _ 0 _ _ _ _ (sym (whole-none (now (c .before .before .before .before .before .before .before .args .input)) (c .before .before .before .before .if1 .taken))) (c .before .before .put-refused .ensures)
 
 plan-length-requires : tie.Need-plan-length-requires
 plan-length-requires c κs = omega (arith, c .if1 .left)
-
-sub-present : tie.Need-sub-present
-sub-present c = search needs
-
-put-refused-requires-2 : tie.Need-put-refused-requires-2
-put-refused-requires-2 c κs = search needs
-
-same-length-2 : tie.Need-same-length-2
-same-length-2 c = search needs
 
 returns-2 : tie.Need-returns-2
 returns-2 c =
@@ -36,9 +21,6 @@ returns-2 c =
 
 put-table-requires : tie.Need-put-table-requires
 put-table-requires c κs = (c .before .before .plan-length .ensures .1, omega (arith, c .before .if2 .left, c .before .before .before .if1 .left))
-
-same-length-3 : tie.Need-same-length-3
-same-length-3 c = search needs
 
 returns-3 : tie.Need-returns-3
 returns-3 c =
@@ -49,14 +31,14 @@ pub put-timetable-spec : {M : Type 1} → statement M
 put-timetable-spec =
     tie.close
     (tie.spec
-    put-refused-requires
-    same-length
+    (λ c κs. search needs)
+    (λ c. search needs)
     returns
     plan-length-requires
-    sub-present
-    put-refused-requires-2
-    same-length-2
+    (λ c. search needs)
+    (λ c κs. search needs)
+    (λ c. search needs)
     returns-2
     put-table-requires
-    same-length-3
+    (λ c. search needs)
     returns-3)

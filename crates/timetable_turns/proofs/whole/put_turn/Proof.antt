@@ -7,23 +7,8 @@ use borrow.Author.Needs.{needs}
 use Rattle.timetable_turns.proofs.whole.put_turn.Statement.{statement}
 use Rattle.timetable_turns.proofs.whole.put_turn.Tie as tie
 
-cast-heard-at : tie.Need-cast-heard-at
-cast-heard-at c = search needs
-
-add-heard-at : tie.Need-add-heard-at
-add-heard-at c = search needs
-
-heard-at-requires : tie.Need-heard-at-requires
-heard-at-requires c κs = search needs
-
-slice-aggregate-turn-by : tie.Need-slice-aggregate-turn-by
-slice-aggregate-turn-by c = search needs
-
 turn-by-requires : tie.Need-turn-by-requires
 turn-by-requires c κs = let s = c .before .before .before .before .before .before .pre .1 in record { within = s .0 .within (s .1); room = omega arith }
-
-slice-aggregate-copy : tie.Need-slice-aggregate-copy
-slice-aggregate-copy c = search needs
 
 copy-requires : tie.Need-copy-requires
 copy-requires c κs =
@@ -32,15 +17,6 @@ copy-requires c κs =
     let u = next-few (s .args .plan) (s .args .start) (now (s .args .input)) (s .args .w) (s .pre .1 .0) (s .pre .1 .1) _ _ _ (t .result) (t .ensures) in
     let v = s .pre .1 .0 .few in
     (omega arith, omega (arith, t .kept .0))
-
-counted-requires : tie.Need-counted-requires
-counted-requires c κs = search needs
-
-left-after-requires : tie.Need-left-after-requires
-left-after-requires c κs = search needs
-
-same-length : tie.Need-same-length
-same-length c = search needs
 
 returns : tie.Need-returns
 returns c =
@@ -61,14 +37,14 @@ pub put-turn-spec : {M : Type 1} → statement M
 put-turn-spec =
     tie.close
     (tie.spec
-    cast-heard-at
-    add-heard-at
-    heard-at-requires
-    slice-aggregate-turn-by
+    (λ c. search needs)
+    (λ c. search needs)
+    (λ c κs. search needs)
+    (λ c. search needs)
     turn-by-requires
-    slice-aggregate-copy
+    (λ c. search needs)
     copy-requires
-    counted-requires
-    left-after-requires
-    same-length
+    (λ c κs. search needs)
+    (λ c κs. search needs)
+    (λ c. search needs)
     returns)

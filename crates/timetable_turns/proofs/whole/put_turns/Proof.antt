@@ -34,9 +34,6 @@ loop-again c =
     let g = c .before .before .put-turn in
     (l .inv .0, g .ensures .0, g .kept .0 ∙ l .inv .2, λ after next p. l .inv .3 after next (g .ensures .2 after next p))
 
-same-length : tie.Need-same-length Inv-loop μ-loop
-same-length c = search needs
-
 returns : tie.Need-returns Inv-loop μ-loop
 returns c =
     let a = c .before .before .before .before .before .args in
@@ -53,5 +50,5 @@ put-turns-spec =
     put-turn-requires
     loop-less
     loop-again
-    same-length
+    (λ c. search needs)
     returns)

@@ -7,18 +7,6 @@ use borrow.Author.Needs.{needs}
 use Rattle.timetable_turns.proofs.whole.timetable.Statement.{statement}
 use Rattle.timetable_turns.proofs.whole.timetable.Tie as tie
 
-slice-aggregate-put-timetable : tie.Need-slice-aggregate-put-timetable
-slice-aggregate-put-timetable c = search needs
-
-put-timetable-requires : tie.Need-put-timetable-requires
-put-timetable-requires c κs = search needs
-
-put-timetable-requires-2 : tie.Need-put-timetable-requires-2
-put-timetable-requires-2 c κs = search needs
-
-same-length : tie.Need-same-length
-same-length c = search needs
-
 returns : tie.Need-returns
 returns c =
     let a = c .before .before .before .before .before .before .before .before .before .before .args in
@@ -35,9 +23,9 @@ pub timetable-spec : {M : Type 1} → statement M
 timetable-spec =
     tie.close
     (tie.spec
-    slice-aggregate-put-timetable
-    put-timetable-requires
-    put-timetable-requires-2
-    same-length
+    (λ c. search needs)
+    (λ c κs. search needs)
+    (λ c κs. search needs)
+    (λ c. search needs)
     returns
     returns-2)

@@ -23,21 +23,6 @@ abbrev μ-loop : tie.MeasureT-loop
 loop-holds : tie.Need-loop-holds Inv-loop μ-loop
 loop-holds c = (search needs, search needs, search needs, search needs, omega arith, refl, rw sub-zero)
 
-shared-slice-read-put : tie.Need-shared-slice-read-put Inv-loop μ-loop
-shared-slice-read-put c = search needs
-
-put-requires : tie.Need-put-requires Inv-loop μ-loop
-put-requires c κs = search needs
-
-add-off : tie.Need-add-off Inv-loop μ-loop
-add-off c = search needs
-
-add-i : tie.Need-add-i Inv-loop μ-loop
-add-i c = search needs
-
-loop-less : tie.Need-loop-less Inv-loop μ-loop
-loop-less c = search needs
-
 loop-again : tie.Need-loop-again Inv-loop μ-loop
 loop-again c = (
   omega arith,
@@ -49,9 +34,6 @@ loop-again c = (
   c .before .before .before .before .before .before .loop .inv .6 ∙ list-next (c .before .before .before .before .before .before .loop .out) _ (now (c .before .before .before .before .before .before .before .before .before .args .xs)) (c .before .before .before .before .before .before .loop .off) (c .before .before .before .before .before .before .before .before .before .args .k) (c .before .before .before .before .before .before .loop .i) (omega arith) (omega (arith, c .before .before .before .shared-slice-known2 .given (c .before .before .before .before .before .before .loop .i))) (c .before .before .put .ensures),
 )
 
-same-length : tie.Need-same-length Inv-loop μ-loop
-same-length c = search needs
-
 returns : tie.Need-returns Inv-loop μ-loop
 returns c = list-done (now (c .before .before .before .before .args .out)) (c .before .loop .out) (now (c .before .before .before .before .args .xs)) (c .before .before .before .before .args .at) (c .before .before .before .before .args .k) (c .before .loop .off) (c .before .loop .i) (omega arith) (omega arith) (c .before .loop .inv .6)
 
@@ -62,11 +44,11 @@ put-list-spec =
     Inv-loop
     μ-loop
     loop-holds
-    shared-slice-read-put
-    put-requires
-    add-off
-    add-i
-    loop-less
+    (λ c. search needs)
+    (λ c κs. search needs)
+    (λ c. search needs)
+    (λ c. search needs)
+    (λ c. search needs)
     loop-again
-    same-length
+    (λ c. search needs)
     returns)

@@ -22,21 +22,6 @@ abbrev μ-loop : tie.MeasureT-loop
 loop-holds : tie.Need-loop-holds Inv-loop μ-loop
 loop-holds c = (search needs, search needs, search needs, search needs, refl, refl)
 
-low-byte-requires : tie.Need-low-byte-requires Inv-loop μ-loop
-low-byte-requires c κs = search needs
-
-put-requires : tie.Need-put-requires Inv-loop μ-loop
-put-requires c κs = search needs
-
-add-off : tie.Need-add-off Inv-loop μ-loop
-add-off c = search needs
-
-sub-left : tie.Need-sub-left Inv-loop μ-loop
-sub-left c = search needs
-
-loop-less : tie.Need-loop-less Inv-loop μ-loop
-loop-less c = search needs
-
 loop-again : tie.Need-loop-again Inv-loop μ-loop
 loop-again c = (
   omega arith,
@@ -46,9 +31,6 @@ loop-again c = (
   c .before .before .put .kept .0 ∙ c .before .before .before .before .before .before .loop .inv .4,
   c .before .before .before .before .before .before .loop .inv .5 ∙ number-next (c .before .before .before .before .before .before .loop .out) _ (c .before .before .before .before .before .before .loop .off) (c .before .before .before .before .before .before .loop .left) (c .before .before .before .before .before .before .loop .left - 1) (c .before .before .before .before .before .before .loop .rest) _ (omega arith) (c .before .before .before .before .low-byte .ensures) (c .before .before .put .ensures),
 )
-
-same-length : tie.Need-same-length Inv-loop μ-loop
-same-length c = search needs
 
 returns : tie.Need-returns Inv-loop μ-loop
 returns c = number-done (now (c .before .before .before .args .out)) (c .before .loop .out) (c .before .before .before .args .at) (c .before .before .before .args .w) (c .before .before .before .args .x) (c .before .loop .off) (c .before .loop .left) (c .before .loop .rest) (omega arith) (c .before .loop .inv .3) (c .before .loop .inv .5)
@@ -60,11 +42,11 @@ put-number-spec =
     Inv-loop
     μ-loop
     loop-holds
-    low-byte-requires
-    put-requires
-    add-off
-    sub-left
-    loop-less
+    (λ c κs. search needs)
+    (λ c κs. search needs)
+    (λ c. search needs)
+    (λ c. search needs)
+    (λ c. search needs)
     loop-again
-    same-length
+    (λ c. search needs)
     returns)

@@ -13,15 +13,9 @@ returns : tie.Need-returns
 unfolding optionalBytes
 returns c = rw (eq-eqb _ _ (c .if1 .taken)) (puts-none _ _)
 
-put-byte-requires : tie.Need-put-byte-requires
-put-byte-requires c κs = search needs
-
-same-length : tie.Need-same-length
-same-length c = search needs
-
 returns-2 : tie.Need-returns-2
 unfolding optionalBytes
 returns-2 c = let z : c .before .before .before .before .before .before .args .x % 256 ≡ c .before .before .before .before .before .before .args .x = omega arith in rw (ne-eqb _ _ (c .before .before .before .before .if1 .left), z) (c .before .before .put-byte .ensures)
 
 pub put-optional-spec : {M : Type 1} → statement M
-put-optional-spec = tie.close (tie.spec returns put-byte-requires same-length returns-2)
+put-optional-spec = tie.close (tie.spec returns (λ c κs. search needs) (λ c. search needs) returns-2)

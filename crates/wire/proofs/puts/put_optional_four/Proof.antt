@@ -10,15 +10,9 @@ returns : tie.Need-returns
 unfolding optionalBytes
 returns c = rw (eq-eqb _ _ (c .if1 .taken)) (puts-none _ _)
 
-put-number-requires : tie.Need-put-number-requires
-put-number-requires c κs = search needs
-
-same-length : tie.Need-same-length
-same-length c = search needs
-
 returns-2 : tie.Need-returns-2
 unfolding optionalBytes
 returns-2 c = rw (ne-eqb _ _ (c .before .before .before .before .if1 .left)) (c .before .before .put-number .ensures)
 
 pub put-optional-four-spec : {M : Type 1} → statement M
-put-optional-four-spec = tie.close (tie.spec returns put-number-requires same-length returns-2)
+put-optional-four-spec = tie.close (tie.spec returns (λ c κs. search needs) (λ c. search needs) returns-2)
