@@ -6,7 +6,7 @@ use Prim.Native.Nat.{ℕ}
 use Rattle.plan.specs.declared.Plan.{Plan}
 use Rattle.plan_file.specs.Laws.Accepted as F
 use Rattle.plan_file.specs.Laws.HoldsPlan.{plan-iff}
-use Rattle.activity.specs.Activities as A
+use Rattle.activity.specs.Laws.Activities as A
 use Rattle.automaton.specs.Laws.Decides as D
 use Rattle.plan_write.specs.Laws.Back as B
 use Rattle.judge.specs.Laws.Judge.{Passes, passed, passing}

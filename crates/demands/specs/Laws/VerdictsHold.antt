@@ -23,7 +23,7 @@ use Rattle.plan_file.specs.Laws.Accepted as W
 use Rattle.plan_file.specs.Laws.HoldsPlan.{plan-iff}
 use Rattle.plan_file.specs.Laws.Refused.{refused-exactly}
 use Rattle.activity.specs.Number.{activitiesVerdict}
-use Rattle.activity.specs.Activities as A
+use Rattle.activity.specs.Laws.Activities as A
 use Rattle.activity.specs.Activities.{FirstAt}
 use Rattle.activity.specs.Judged.{Rule}
 use Rattle.automaton.specs.Number.{automatonVerdict}

@@ -1,7 +1,7 @@
 -- Bytes that are accepted as a plan: the plan meets the file's rules, those of each activity, and those of the automaton.
 use mathlib.Core.List.{List}
 use Rattle.judge.specs.Laws.Judge.{passed}
-use Rattle.activity.specs.Activities as Activities
+use Rattle.activity.specs.Laws.Activities as Activities
 use Rattle.automaton.specs.Laws.Decides as Automaton
 use Rattle.format.specs.Writing.{Bytes}
 use Rattle.plan_file.specs.Laws.Accepted.{accepted-rules}
