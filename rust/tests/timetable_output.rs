@@ -167,6 +167,8 @@ fn a_reader_at_a_pipe_sees_every_settled_row_before_the_program_waits() {
     std::thread::spawn(move || {
         let mut seen = vec![0; size];
         let _ = sender.send(stdout.read_exact(&mut seen).map(|()| seen));
+        // its last lines have a reader too
+        let _ = std::io::copy(&mut stdout, &mut std::io::sink());
     });
     let seen = receiver.recv_timeout(Duration::from_secs(20)).expect("the rows come before the input ends");
     assert_eq!(seen.expect("the rows are whole"), settled.as_bytes());

@@ -1,5 +1,4 @@
--- "Then activities in order, place = activity": what the verdict over a plan's activities says, and that it is right.
--- Assumes nothing.
+-- "Then activities in order, place = activity": an activity of a plan that meets the rules, and the first that does not.
 use Prim.Native.Nat.{ℕ, _<_}
 use Rattle.plan.specs.Plan.{resourceOf, activityOf}
 use Rattle.plan.specs.declared.Fault.{Fault}

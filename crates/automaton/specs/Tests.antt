@@ -1,4 +1,4 @@
--- Tests by Bool and what they tell; numbers and flags in a list.
+-- A number in a list, and a test of all numbers below n.
 use mathlib.Core.Bool.{Bool, true, _&&_}
 use mathlib.Core.List.{List}
 use Prim.Native.Nat.{ℕ, zero, suc}

@@ -1,4 +1,4 @@
--- Places of the window: what is held where, in an empty window, after a store at one place, and after a place is cleared.
+-- What a place of the window holds.
 use mathlib.Core.Path.{_≡_}
 use mathlib.Core.Bool.{true}
 use mathlib.Core.List.{List}

@@ -5,7 +5,7 @@ use crate::Output;
 use timetable_steps::Heard;
 use timetable_steps::Step;
 ghost use mathlib.Core.Path.{_≡_};
-ghost use Prim.Native.Nat.{_+_, _≤_, _<_};
+ghost use Prim.Native.Nat.{_+_, _-_, _≤_, _<_};
 ghost use lib.ListN.{length};
 ghost use Rattle.timetable_output.specs.Inner.Between.{HandsOn, Held, Asks, Listens};
 
@@ -48,14 +48,17 @@ pub fn untaken() -> Outcomes
     }
 }
 
-// "Spare outcomes are not read": those of a block that were not taken are given back.
-pub fn give_back(u: Outcomes)
+// "Spare outcomes are not read": those of a block that were not taken are given back, so many bytes.
+pub fn give_back(u: Outcomes) -> usize
     requires { ⌜ Held u ⌝ }
+    ensures { λ r. ⌜ r ≡ u .end - u .at ⌝ }
 {
-    if u.at < u.end {
-        let spare = (u.end - u.at) as i64;
-        libc::lseek(libc::STDIN_FILENO, -spare, libc::SEEK_CUR);
+    let spare = u.end - u.at;
+    let back = spare as i64;
+    if 0 < spare {
+        libc::lseek(libc::STDIN_FILENO, -back, libc::SEEK_CUR);
     }
+    spare
 }
 
 // The next outcome byte, if there is one; the text is handed on before a read, which may wait.

@@ -152,7 +152,7 @@ fn all_turns(out: &mut [u8], block: &mut [u8], plan: Plan, first: Between, unrea
 }
 
 // The table of a plan that is there whole.
-fn print_table(bytes: &[u8]) -> Output
+pub fn print_table(bytes: &[u8]) -> Output
     ensures { λ r. ⌜ Printed (now (bytes .entry)) r ⌝ }
 {
     let mut out = io::large_buffer();
@@ -185,7 +185,7 @@ fn print_table(bytes: &[u8]) -> Output
 }
 
 // "input that ends inside the length or the plan"
-fn print_cut(present: usize) -> Output
+pub fn print_cut(present: usize) -> Output
     ensures { λ r. ⌜ r .handed ≡ length (refused (numberOf Fault.Ends) present) ⌝ }
 {
     let mut out = io::large_buffer();
@@ -206,27 +206,10 @@ fn wide(x: u8) -> usize
 }
 
 // "the plan's length (two bytes)", the lowest byte first.
-fn length_of(size: [u8; 2]) -> usize
+pub fn length_of(size: [u8; 2]) -> usize
     ensures { λ r. ⌜ (r ≡ getD size 0 0 + 256 * getD size 1 0) × (r ≤ 65_535) ⌝ }
 {
     let low = wide(size[0]);
     let high = wide(size[1]);
     low + 256 * high
-}
-
-// The timetable of the standard input.
-pub fn print_timetable() {
-    let mut size = [0u8; 2];
-    if io::read_full(libc::STDIN_FILENO, &mut size) < 2 {
-        print_cut(0);
-        return;
-    }
-    let n = length_of(size);
-    let mut file = io::large_buffer();
-    let present = io::read_full(libc::STDIN_FILENO, &mut file[..n]);
-    if present < n {
-        print_cut(present);
-        return;
-    }
-    print_table(&file[..n]);
 }

@@ -1,4 +1,4 @@
--- Tests by Bool and what they tell; numbers and flags in a list.
+-- What the tests of all numbers below n tell.
 use mathlib.Core.Path.{_≡_, refl, sym, subst}
 use mathlib.Core.Bool.{Bool, true, false, _&&_}
 use Prim.Native.Nat.{ℕ, zero, suc, _<_}

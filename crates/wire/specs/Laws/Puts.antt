@@ -1,4 +1,4 @@
--- Bytes put into a lent buffer: past its end nothing is put, and bytes after those put are unchanged.
+-- Bytes put one after another join; a buffer keeps its length.
 use mathlib.Core.Path.{_≡_, refl, sym, _∙_, ap, ap₂}
 use mathlib.Core.List.{List, [], _∷_, _++_}
 use Prim.Native.Nat.{ℕ, suc, _+_, _%_, _<_}

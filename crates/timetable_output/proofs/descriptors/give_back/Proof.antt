@@ -1,4 +1,4 @@
--- `give_back` is safe. Assumes nothing.
+-- `give_back` gives back what was not taken: at most a block, which an offset holds.
 use Prim.Native.Nat.{_-_}
 use native.Mathlib.Omega.{arith}
 use Rattle.timetable_output.proofs.Giving.{back-fits}
@@ -7,7 +7,7 @@ use Rattle.timetable_output.proofs.descriptors.give_back.Statement.{sta
 use Rattle.timetable_output.proofs.descriptors.give_back.Tie as tie
 
 sub-lseek : tie.Need-sub-lseek
-sub-lseek c = let s = c .before .before .before in let v = s .pre .within in back-fits (s .args .u .end - s .args .u .at) (omega arith)
+sub-lseek c = let s = c .before .before in let v = s .pre .within in back-fits (s .args .u .end - s .args .u .at) (omega arith)
 
 pub give-back-spec : {M : Type 1} → statement M
 give-back-spec =

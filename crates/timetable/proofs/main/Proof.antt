@@ -1,10 +1,10 @@
--- `print_timetable` is safe: two bytes name at most 65,535 bytes of plan. Assumes nothing.
+-- `main` is safe: two bytes name at most 65,535 bytes of plan. Assumes nothing.
 use mathlib.Core.List.{_++_}
 use native.Mathlib.Omega.{arith}
 use lib.ListN.{drop, length-append, length-take}
 use borrow.Author.Needs.{needs}
-use Rattle.timetable_output.proofs.print_timetable.Statement.{statement}
-use Rattle.timetable_output.proofs.print_timetable.Tie as tie
+use Rattle.timetable.proofs.main.Statement.{statement}
+use Rattle.timetable.proofs.main.Tie as tie
 
 slice-aggregate-read-full-2 : tie.Need-slice-aggregate-read-full-2
 slice-aggregate-read-full-2 c = let n = c .before .before .length-of in let u = length-take (n .result) (c .before .large-buffer .result) in omega (arith, n .ensures .1, c .before .large-buffer .ensures)
@@ -24,8 +24,8 @@ slice-aggregate-print-table c =
     let l = r .last .1 .0 ++ drop (n .result) (f .result) in
     omega (arith, length-take (n .result) l, length-append (r .last .1 .0) (drop (n .result) (f .result)), r .kept .1 .0, length-take (n .result) (f .result), n .ensures .1, f .ensures)
 
-pub print-timetable-spec : {M : Type 1} → statement M
-print-timetable-spec =
+pub main-spec : {M : Type 1} → statement M
+main-spec =
     tie.close
     (tie.spec
     (λ c. search needs)
