@@ -4,15 +4,14 @@ use mathlib.Core.Path.{_≡_, refl, sym, _∙_, ap, subst}
 use mathlib.Core.Bool.{Bool, true, false, true≢false}
 use mathlib.Core.List.{List, [], _∷_}
 use mathlib.Core.Logic.{⊎-elim}
-use Prim.Native.Nat.{ℕ, zero, suc, _≤_, _<_}
+use Prim.Native.Nat.{ℕ, zero, suc, _+_, _*_, _≤_, _<_}
 use native.Mathlib.Omega.{arith}
 use lib.ListN.{length, getD}
 use Rattle.basis.specs.Inner.Tells.{Tells, holds, fails}
 use Rattle.basis.specs.Laws.Tells.{told-true, tells-and, tells-or, tells-ltb, tells-leb}
-use Rattle.basis.specs.Laws.Bools.{by-test}
 use Rattle.time.specs.Time.{horizon}
 use Rattle.time.specs.declared.Clock.{Clock}
-use Rattle.plan.specs.Limits.{InLimits}
+use Rattle.plan.specs.Limits.{KindNames, InLimits}
 use Rattle.times.specs.Engine.{lastPosition}
 use Rattle.times.specs.Limits.{ProgressInLimits}
 use Rattle.run_limits.specs.Window.{entryInLimits}
@@ -22,22 +21,19 @@ use Rattle.run_limits.specs.Laws.Places.{tells-window}
 use Rattle.run_window.specs.declared.Entry.{Entry}
 use Rattle.run_window.specs.declared.Found.{Found}
 use Rattle.run_window.specs.declared.Sought.{Sought}
-use Rattle.run_window.specs.Window.{vacant, isFree, isHeld, isStarted, isNode, isDue, startsBefore, first}
+use Rattle.run_window.specs.Window.{vacant, isFree, isHeld}
 use Rattle.run_window.specs.Inner.Search.{firstOf}
-use Rattle.run_window.specs.Laws.Tests.{started-true, held-unfree}
-use Rattle.run_window.specs.Laws.Order.{starts-order}
-use Rattle.run_window.specs.Laws.Firsts.{First, first-found, by-first}
-use Rattle.run_checks.specs.declared.Refusal.{Refusal}
+use Rattle.run_window.specs.Laws.Tests.{held-unfree}
+use Rattle.run_window.specs.Places.{Holds}
 use Rattle.run_checks.specs.declared.Objection.{Objection}
 use Rattle.run_checks.specs.declared.Check.{Check}
-use Rattle.run_checks.specs.declared.Report.{Report}
-use Rattle.run_checks.specs.Order.{Timed, calledBy, startedThen, reportedBy}
-use Rattle.run_checks.specs.Laws.Checks.{Passed, passed, called-goes, called-objects, onReport, reported-said}
+use Rattle.run_checks.specs.Order.{Timed, calledBy}
+use Rattle.run_checks.specs.Laws.Checks.{Passed, passed, called-goes, called-objects}
 use Rattle.run.specs.declared.Run.{Run}
 use Rattle.run.specs.declared.Answer.{Answer}
 use Rattle.run.specs.Limits.{haltInLimits, runInLimits}
-use Rattle.run.specs.Calls.{refuse, objected, momentOf, called, reported, asked}
-use Rattle.run.specs.Inner.Checks.{checkOf, Named, idle, starts}
+use Rattle.run.specs.Calls.{objected, momentOf, called, kindOf}
+use Rattle.run.specs.Inner.Checks.{checkOf}
 use Rattle.run.specs.Inner.Loads.{Loads}
 
 -- ---- the answer by the checks
@@ -56,23 +52,6 @@ module _ (run : Run) (t : Clock) (sought : Sought) (check : Check) (q : check �
 
     pub answer-objects : (o : Objection) → check ≡ Check.Objects o → called run t go ≡ objected run t o
     answer-objects o g = called-objects (runInLimits run) (run .halt) (momentOf run t) (run .window) (firstOf sought (run .window)) check said (objected run t) go o g
-
--- ---- reports and asks, by what is found
-
-pub reported-report : (run : Run) (f : ℕ → Entry → Answer) (position node : ℕ) (k : Found) → k ≡ firstOf (Sought.Node position node) (run .window) → (r : Report) → r ≡ reportedBy k Report.Names Report.Refuses
-    → onReport r f (refuse run) ≡ reported run position node f
-reported-report run f position node k e r s =
-    ap (λ (x : Report). onReport x f (refuse run)) s
-    ∙ (sym (reported-said f (refuse run) k) ∙ ap (λ (x : Found). reportedBy x f (refuse run)) e)
-
-module _ (run : Run) (t : Clock) where
-  pub asked-idle : first (isDue (run .psi) t) startsBefore 0 (run .window) ≡ Found.Nothing → asked run t ≡ idle run t
-  unfolding asked idle
-  asked-idle q = rw q
-
-  pub asked-starts : (i : ℕ) (e : Entry) → first (isDue (run .psi) t) startsBefore 0 (run .window) ≡ Found.At i e → asked run t ≡ starts run t i e
-  unfolding asked starts
-  asked-starts i e q = rw q
 
 -- ---- a run in limits
 
@@ -139,25 +118,12 @@ module _ (run : Run) (good : runInLimits run ≡ true) where
   pub loads-in-limits : Loads run
   loads-in-limits = record { plan = parts .0; progress = parts .1 .1 .1 .0 .2 }
 
-  module _ (long : length (run .window) ≡ 512) (position node : ℕ) where
-    started : (i : ℕ) (e : Entry) → First (isNode position node) startsBefore (run .window) i e → isStarted (e .phase) ≡ true → Named run (Report.Names i e)
-    started i e f s =
-        let k = known (run .plan .activities) (run .plan .sizes) e (ap isHeld (started-true (e .phase) s)) (subst Good (f .stands) (parts .1 .1 .1 .1 .0 i (f .within))) in
-        let a = parts .0 .activities in
-        let z = parts .0 .sizes (e .activity) (k .1 .0 .0) .1 in
-        let n = k .1 .0 .1 in
-        let l = f .within in
-        (omega arith, (let b = k .1 .0 .0 in omega arith), omega arith, parts .0 .nodes (e .activity) (e .node) (k .1 .0 .0) n .names)
-
-    named : Named run (reportedBy (first (isNode position node) startsBefore 0 (run .window)) Report.Names Report.Refuses)
-    named =
-        by-first (isNode position node) startsBefore starts-order (run .window) (Named run) (λ i e. startedThen i e Report.Names Report.Refuses) (Report.Refuses Refusal.NoSuchNode)
-        (λ i e f. by-test (Named run) (isStarted (e .phase)) (Report.Names i e) (Report.Refuses Refusal.NotStarted) (λ s. started i e f s) (λ s. tt))
-        (λ n. tt)
-
-    pub named-report : (k : Found) → k ≡ firstOf (Sought.Node position node) (run .window) → (r : Report) → r ≡ reportedBy k Report.Names Report.Refuses → Named run r
-    named-report k e r s = subst (Named run) (sym (s ∙ ap (λ (x : Found). reportedBy x Report.Names Report.Refuses) e)) named
-
--- a place that is found is one of the window
-pub found-within : (p : Entry → Bool) (w : List Entry) (i : ℕ) (e : Entry) → length w ≡ 512 → first p startsBefore 0 w ≡ Found.At i e → i < 512
-found-within p w i e l q = let h = first-found p startsBefore starts-order w i e q .within in omega arith
+  -- a node that the window holds is one of the plan's
+  pub named-held : length (run .window) ≡ 512 → (i : ℕ) (e : Entry) → Holds (run .window) i e × (i < length (run .window)) → (i < 512) × (64 * e .activity + e .node < 2048) × KindNames (run .plan) (kindOf run e)
+  named-held long i e (h, l) =
+      let k = known (run .plan .activities) (run .plan .sizes) e (h .held) (subst Good (h .entry) (parts .1 .1 .1 .1 .0 i l)) in
+      let a = parts .0 .activities in
+      let b = k .1 .0 .0 in
+      let n = k .1 .0 .1 in
+      let z = parts .0 .sizes (e .activity) b .1 in
+      (omega arith, omega arith, parts .0 .nodes (e .activity) (e .node) b n .names)

@@ -1,3 +1,4 @@
+pub mod Acting
 pub mod Checking
 pub mod Loaded
 pub mod Opens

@@ -1,9 +1,9 @@
 // "50 a run in which a stored count, number or time lies outside this paper's or its plan's limits".
 use crate::Run;
 ghost use mathlib.Core.Path.{_≡_};
+ghost use Rattle.plan_limits.specs.Limits.{inLimits};
 ghost use Rattle.run.specs.Limits.{runInLimits};
 ghost use Rattle.run.specs.Inner.Checks.{storedInLimits};
-
 pub use run_checks::bounds::slack_in_limits;
 
 // Where the behaviour stands, the window and the stop.
@@ -24,12 +24,12 @@ fn stored_in_limits(run: Run) -> bool
     run_checks::bounds::halt_in_limits(halt)
 }
 
-// The whole run; its last reading is any number.
-pub fn run_in_limits(run: Run) -> bool
+// The whole run, where its plan is known to be `good` or not; its last reading is any number.
+pub fn run_in_limits(good: bool, run: Run) -> bool
+    requires { ⌜ good ≡ inLimits (run .plan) ⌝ }
     ensures { λ r. ⌜ r ≡ runInLimits run ⌝ }
 {
-    let plan = run.plan;
-    if !plan_limits::in_limits(plan) {
+    if !good {
         return false;
     }
     if run.psi.0 > Run::HORIZON {

@@ -1,7 +1,8 @@
 // "Order at a call: 50, kept stop, 51, 42, 41, 52 to 55.": the parts of a run that the checks need.
+use crate::Checked;
 use crate::Run;
 use crate::bounds;
-use run_checks::Check;
+use crate::effects;
 use run_checks::Moment;
 use run_window::Sought;
 use time::Clock;
@@ -9,13 +10,16 @@ ghost use mathlib.Core.Bool.{true};
 ghost use mathlib.Core.Path.{_≡_};
 ghost use Rattle.run_window.specs.Inner.Search.{SoughtInTime};
 ghost use Rattle.run.specs.Limits.{runInLimits};
-ghost use Rattle.run.specs.Inner.Checks.{checkOf};
+ghost use Rattle.run.specs.Inner.Effects.{checkedOf};
 
-pub fn check_call(run: Run, t: Clock, sought: Sought) -> Check
+// The plan is copied out of the run once, for its limits and for the node that was found.
+pub fn check_call(run: Run, t: Clock, sought: Sought) -> Checked
     requires { ⌜ (runInLimits run ≡ true → SoughtInTime sought) ⌝ }
-    ensures { λ r. ⌜ r ≡ checkOf run t sought ⌝ }
+    ensures { λ r. ⌜ r ≡ checkedOf run t sought ⌝ }
 {
-    let limits = bounds::run_in_limits(run);
+    let plan = run.plan;
+    let good = plan_limits::in_limits(plan);
+    let limits = bounds::run_in_limits(good, run);
     let halt = run.halt;
     let psi = run.psi;
     let last = run.last;
@@ -26,5 +30,11 @@ pub fn check_call(run: Run, t: Clock, sought: Sought) -> Check
         t,
     };
     let window = run.window;
-    run_checks::check_call(limits, halt, m, window, sought)
+    let check = run_checks::check_call(limits, halt, m, window, sought);
+    let k = effects::place_of(check);
+    let node = plan.nodes[k];
+    let kind = node.kind;
+    let outcomes = plan.outcomes;
+    let most = effects::outcomes_for(kind, outcomes);
+    Checked { check, kind, most }
 }

@@ -1,20 +1,16 @@
 // The outcome of an event: "An accepted report is taken; if loading after it fails the answer is stopped".
 use crate::Answer;
 use crate::Halt;
-use crate::Refusal;
 use crate::Reply;
 use crate::Run;
 use crate::Stop;
-use crate::calls;
-use plan::Kind;
-use time::Clock;
 use run_loading::Failure;
 use run_window::Entry;
+use time::Clock;
 ghost use mathlib.Core.Path.{_≡_};
 ghost use Prim.Native.Nat.{_<_};
 ghost use Rattle.plan.specs.Plan.{outcomesOf};
-ghost use Rattle.plan.specs.Limits.{KindNames};
-ghost use Rattle.run.specs.Calls.{learnt, learnsBy};
+ghost use Rattle.run.specs.Calls.{learnt};
 ghost use Rattle.run.specs.Inner.Loads.{Loads};
 ghost use Rattle.run.specs.Inner.Calls.{toldRun, replyAfter, haltAfter};
 
@@ -40,7 +36,7 @@ fn halt_after(failure: Failure) -> Halt
 
 // The outcome o of event e is known, the reported node leaves the window, and the next paths are loaded: "the report and any path
 // loaded before still count".
-fn learnt(run: Run, t: Clock, i: usize, x: Entry, e: u8, o: u8) -> Answer
+pub fn learnt(run: Run, t: Clock, i: usize, x: Entry, e: u8, o: u8) -> Answer
     requires { ⌜ Loads run × (i < 512) × (e < run .plan .events) × (o < outcomesOf (run .plan) e) ⌝ }
     ensures { λ r. ⌜ r ≡ learnt (toldRun run t i x e o) ⌝ }
 {
@@ -67,20 +63,4 @@ fn learnt(run: Run, t: Clock, i: usize, x: Entry, e: u8, o: u8) -> Answer
             halt: halt_after(failure),
         },
     }
-}
-
-// 54: "outcome of an action"; 55: "outcome the event lacks".
-pub fn learns_by(run: Run, t: Clock, i: usize, x: Entry, o: u8, kind: Kind) -> Answer
-    requires { ⌜ Loads run × (i < 512) × KindNames (run .plan) kind ⌝ }
-    ensures { λ r. ⌜ r ≡ learnsBy run t i x o kind ⌝ }
-{
-    let Kind::Event(e) = kind else {
-        return calls::refuse(run, Refusal::OtherKind);
-    };
-    let outcomes = run.plan.outcomes;
-    let k = e as usize;
-    if o < outcomes[k] {
-        return learnt(run, t, i, x, e, o);
-    }
-    calls::refuse(run, Refusal::OutcomeLacking)
 }

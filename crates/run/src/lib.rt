@@ -6,21 +6,21 @@ ghost use Rattle.run.specs.Opening.{openOf};
 mod bounds;
 mod calls;
 mod checks;
+mod effects;
 mod learning;
 mod openings;
 
 use plan::Fault;
+use plan::Kind;
 use plan::Plan;
 use plan::Verdict;
-use time::Clock;
-use times::Progress;
 use run_checks::Check;
-use run_window::Entry;
-use run_window::Sought;
-
 pub use run_checks::Halt;
 pub use run_checks::Refusal;
 pub use run_checks::Stop;
+use run_window::Entry;
+use time::Clock;
+use times::Progress;
 
 pub struct Run {
     pub plan: Plan,
@@ -67,6 +67,27 @@ pub enum Call {
     Ask(Clock),
     Completion(Clock, u32, u8),
     Outcome(Clock, u32, u8, u8),
+}
+
+// What the checks say at a call; of the node that they found, its kind and how many outcomes it has.
+pub struct Checked {
+    pub check: Check,
+    pub kind: Kind,
+    pub most: u8,
+}
+
+// What a call does to the run.
+pub enum Effect {
+    // nothing: it was refused, or the run keeps a stop
+    Stays(Reply),
+    // the run keeps this stop from now on
+    Stops(Stop),
+    // nothing is due: done, or wait
+    Rests,
+    // place, what stands there then, reply
+    Stores(usize, Entry, Reply),
+    // place and entry of the reported node, event, outcome
+    Learns(usize, Entry, u8, u8),
 }
 
 // Why an opening is refused.
@@ -117,63 +138,53 @@ impl Run {
     pub fn ask(mut self, t: Clock) -> Answer
         ensures { λ r. ⌜ r ≡ askOf self t ⌝ }
     {
-        let psi = self.psi;
-        let check = checks::check_call(self, t, Sought::Due(psi, t));
-        match check {
-            Check::Goes(found) => {
-                return calls::asked(self, t, found);
-            }
-            Check::Objects(o) => {
-                return calls::objected(self, t, o);
-            }
-        }
+        self.call(Call::Ask(t))
     }
 
     // The completion of an action.
     pub fn completion(mut self, t: Clock, position: u32, node: u8) -> Answer
         ensures { λ r. ⌜ r ≡ completionOf self t position node ⌝ }
     {
-        let check = checks::check_call(self, t, Sought::Node(position, node));
-        match check {
-            Check::Goes(found) => {
-                let report = run_checks::report_of(found);
-                return calls::completed(self, t, report);
-            }
-            Check::Objects(objection) => {
-                return calls::objected(self, t, objection);
-            }
-        }
+        self.call(Call::Completion(t, position, node))
     }
 
     // The outcome of an event, "which completes it".
     pub fn outcome(mut self, t: Clock, position: u32, node: u8, o: u8) -> Answer
         ensures { λ r. ⌜ r ≡ outcomeOf self t position node o ⌝ }
     {
-        let check = checks::check_call(self, t, Sought::Node(position, node));
-        match check {
-            Check::Goes(found) => {
-                let report = run_checks::report_of(found);
-                return calls::learns(self, t, report, o);
-            }
-            Check::Objects(objection) => {
-                return calls::objected(self, t, objection);
-            }
-        }
+        self.call(Call::Outcome(t, position, node, o))
     }
 
-    // "Calls carry a clock reading: ask, completion of an action, outcome of an event".
+    // "Calls carry a clock reading: ask, completion of an action, outcome of an event". The run is changed here alone, in place:
+    // each function that takes it and hands it back copies it twice.
     pub fn call(mut self, c: Call) -> Answer
         ensures { λ r. ⌜ r ≡ callOf self c ⌝ }
     {
-        match c {
-            Call::Ask(t) => {
-                return self.ask(t);
+        let psi = self.psi;
+        let t = effects::reading_of(c);
+        let checked = checks::check_call(self, t, effects::sought_by(psi, c));
+        let effect = effects::effect_of(c, checked);
+        match effect {
+            Effect::Stays(reply) => {
+                return Answer { reply, run: self };
             }
-            Call::Completion(t, p, n) => {
-                return self.completion(t, p, n);
+            Effect::Stops(s) => {
+                return calls::stops(self, t, s);
             }
-            Call::Outcome(t, p, n, o) => {
-                return self.outcome(t, p, n, o);
+            Effect::Rests => {
+                let finals = self.plan.automaton.finals;
+                let window = self.window;
+                let reply = calls::at_rest(finals, self.progress.state, window);
+                self.last = t;
+                return Answer { reply, run: self };
+            }
+            Effect::Stores(i, e, reply) => {
+                self.window[i] = e;
+                self.last = t;
+                return Answer { reply, run: self };
+            }
+            Effect::Learns(i, x, e, o) => {
+                return learning::learnt(self, t, i, x, e, o);
             }
         }
     }

@@ -25,6 +25,9 @@ module _ (p : Entry → Bool) (goes : Entry → Entry → Bool) (w : List Entry)
   first-turn d zero z h = absurd (omega arith)
   first-turn d (suc j) z h = rw (sub-one, drop-cons w j d)
 
+  pub first-passed : (d : Entry) (i : ℕ) → 0 < i → i ≤ length w → p (getD w (i - 1) d) ≡ false → first p goes i (drop i w) ≡ first p goes (i - 1) (drop (i - 1) w)
+  first-passed d i z h fails = rw fails at (first-turn d i z h)
+
 -- ---- whether every place is free, from the front
 
 module _ (w : List Entry) (d : Entry) (i : ℕ) where

@@ -6,7 +6,7 @@ ghost use Prim.Native.Nat.{_≤_, _<_};
 ghost use Rattle.time.specs.Time.{horizon};
 ghost use Rattle.run_window.specs.Window.{vacant, isFree, startedOf, isOverdue, isLate, isDue, isNode, before, better};
 ghost use Rattle.run_window.specs.Inner.Times.{InTime, AllInTime};
-ghost use Rattle.run_window.specs.Inner.Search.{isSought, SoughtInTime, timeOf, sooner, kept, seenOf};
+ghost use Rattle.run_window.specs.Inner.Search.{isSought, SoughtInTime, isNoticed, timeOf, sooner, kept, seenOf};
 
 mod places; // the whole window
 
@@ -230,6 +230,20 @@ fn kept(sought: Sought, i: usize, e: Entry, rest: Found) -> Found
     rest
 }
 
+// Whether an entry is overdue, late, or what is sought. Most of a window is none of these, and `look` passes it by.
+fn is_noticed(psi: Clock, slack: u64, t: Clock, sought: Sought, e: Entry) -> bool
+    requires { ⌜ (psi .0 ≤ horizon) × (slack ≤ horizon) × SoughtInTime sought × InTime e ⌝ }
+    ensures { λ r. ⌜ r ≡ isNoticed psi slack t sought e ⌝ }
+{
+    if is_overdue(psi, t, e) {
+        return true;
+    }
+    if is_late(psi, slack, t, e) {
+        return true;
+    }
+    is_sought(sought, e)
+}
+
 // Of those that are overdue, of those that are late and of what is sought, the first in the order of ties; of two like places
 // the lower one.
 pub fn look(window: [Entry; WINDOW], psi: Clock, slack: u64, t: Clock, sought: Sought) -> Seen
@@ -243,6 +257,9 @@ pub fn look(window: [Entry; WINDOW], psi: Clock, slack: u64, t: Clock, sought: S
     while 0 < i {
         i -= 1;
         let e = window[i];
+        if !is_noticed(psi, slack, t, sought, e) {
+            continue;
+        }
         overdue = kept(Sought::Overdue(psi, t), i, e, overdue);
         late = kept(Sought::Late(psi, slack, t), i, e, late);
         found = kept(sought, i, e, found);

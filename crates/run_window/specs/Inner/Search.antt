@@ -1,5 +1,5 @@
 -- What a call looks for in the window, and the first place that holds it: one definition for all of them.
-use mathlib.Core.Bool.{Bool, cond}
+use mathlib.Core.Bool.{Bool, cond, _||_}
 use mathlib.Core.List.{List}
 use Prim.Native.Nat.{ℕ, _≤_}
 use Rattle.time.specs.Time.{horizon}
@@ -33,6 +33,10 @@ firstOf sought w = first (isSought sought) (sooner sought) 0 w
 -- of place i with entry e and of what was found behind it
 abbrev pub kept : Sought → ℕ → Entry → Found → Found
 kept sought i e rest = cond (isSought sought e) (better (sooner sought) i e rest) rest
+
+-- whether entry e is overdue, late, or what is sought
+abbrev pub isNoticed : Clock → ℕ → Clock → Sought → Entry → Bool
+isNoticed psi slack t sought e = isOverdue psi t e || (isLate psi slack t e || isSought sought e)
 
 -- what a call finds in the window
 abbrev pub seenOf : Clock → ℕ → Clock → Sought → List Entry → Seen

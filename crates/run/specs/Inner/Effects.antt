@@ -1,0 +1,127 @@
+-- What a call does to a run, and the answer that it then gets.
+use mathlib.Core.Path.{_≡_}
+use mathlib.Core.Bool.{true, cond}
+use mathlib.Core.List.{List}
+use Prim.Native.Nat.{ℕ, _+_, _*_, _<_}
+use lib.Dec.{ltb}
+use lib.ListN.{getD, set}
+use Rattle.time.specs.declared.Clock.{Clock}
+use Rattle.plan.specs.Plan.{pastNode, outcomesOf}
+use Rattle.plan.specs.declared.Kind.{Kind}
+use Rattle.run_window.specs.declared.Entry.{Entry}
+use Rattle.run_window.specs.declared.Found.{Found}
+use Rattle.run_window.specs.declared.Sought.{Sought}
+use Rattle.run_window.specs.Window.{vacant, startedOf, onFound}
+use Rattle.run_checks.specs.declared.Halt.{Halt}
+use Rattle.run_checks.specs.declared.Refusal.{Refusal}
+use Rattle.run_checks.specs.declared.Objection.{Objection}
+use Rattle.run_checks.specs.declared.Check.{Check}
+use Rattle.run_checks.specs.Order.{reportedBy}
+use Rattle.run.specs.declared.Run.{Run}
+use Rattle.run.specs.declared.Reply.{Reply}
+use Rattle.run.specs.declared.Answer.{Answer}
+use Rattle.run.specs.declared.Call.{Call}
+use Rattle.run.specs.declared.Checked.{Checked}
+use Rattle.run.specs.declared.Effect.{Effect}
+use Rattle.run.specs.Limits.{runInLimits}
+use Rattle.run.specs.Calls.{answer, heard, stops, isDone, learnt}
+use Rattle.run.specs.Inner.Calls.{toldRun}
+use Rattle.run.specs.Inner.Checks.{checkOf}
+
+-- ---- what the checks are given and what they found
+
+-- an ask looks for the first due node, a report for the node that it names
+abbrev pub soughtBy : Clock → Call → Sought
+soughtBy psi (Call.Ask t) = Sought.Due psi t
+soughtBy psi (Call.Completion t p n) = Sought.Node p n
+soughtBy psi (Call.Outcome t p n o) = Sought.Node p n
+
+abbrev pub foundBy : Check → Found
+foundBy (Check.Goes found) = found
+foundBy (Check.Objects o) = Found.Nothing
+
+-- where its node stands among the nodes of the plan
+abbrev pub placeOf : Found → ℕ
+placeOf Found.Nothing = 0
+placeOf (Found.At i e) = 64 * e .activity + e .node
+
+-- how many outcomes the event of a node has
+abbrev pub outcomesFor : List ℕ → Kind → ℕ
+outcomesFor outcomes (Kind.Action a x) = 0
+outcomesFor outcomes (Kind.Claim r) = 0
+outcomesFor outcomes (Kind.Release r) = 0
+outcomesFor outcomes (Kind.Event e) = getD outcomes e 0
+
+-- what the checks say, the kind of the node that they found, and how many outcomes it has
+abbrev pub kindFound : Run → Check → Kind
+kindFound run check = getD (run .plan .nodes) (placeOf (foundBy check)) pastNode .kind
+
+abbrev pub checkedOf : Run → Clock → Sought → Checked
+checkedOf run t sought = record {
+  check = checkOf run t sought;
+  kind = kindFound run (checkOf run t sought);
+  most = outcomesFor (run .plan .outcomes) (kindFound run (checkOf run t sought));
+}
+
+-- ---- the effect
+
+abbrev pub refusing : Refusal → Effect
+refusing f = Effect.Stays (Reply.Refused f)
+
+-- the reported action leaves the window; 54 completion of an event
+abbrev pub completesBy : ℕ → Kind → Effect
+completesBy i (Kind.Action a x) = Effect.Stores i vacant Reply.Taken
+completesBy i (Kind.Claim r) = refusing Refusal.OtherKind
+completesBy i (Kind.Release r) = refusing Refusal.OtherKind
+completesBy i (Kind.Event e) = refusing Refusal.OtherKind
+
+-- 54 outcome of an action; 55 outcome the event lacks
+abbrev pub learnsAs : ℕ → Entry → ℕ → ℕ → Kind → Effect
+learnsAs i x o most (Kind.Action a y) = refusing Refusal.OtherKind
+learnsAs i x o most (Kind.Claim r) = refusing Refusal.OtherKind
+learnsAs i x o most (Kind.Release r) = refusing Refusal.OtherKind
+learnsAs i x o most (Kind.Event e) = cond (ltb o most) (Effect.Learns i x e o) (refusing Refusal.OutcomeLacking)
+
+-- the due node is started, or nothing is due
+abbrev pub startsBy : Found → Effect
+startsBy found = onFound found (λ i e. Effect.Stores i (startedOf e) (Reply.Start (e .position) (e .activity) (e .node))) Effect.Rests
+
+-- of a call that passes its checks, by what it found, the kind of its node and how many outcomes that has
+abbrev pub effectOn : Call → Found → Kind → ℕ → Effect
+effectOn (Call.Ask t) found kind most = startsBy found
+effectOn (Call.Completion t p n) found kind most = reportedBy found (λ i e. completesBy i kind) refusing
+effectOn (Call.Outcome t p n o) found kind most = reportedBy found (λ i e. learnsAs i e o most kind) refusing
+
+abbrev pub effectFor : Objection → Effect
+effectFor (Objection.Refuses f) = refusing f
+effectFor (Objection.Keeps s) = Effect.Stays (Reply.Stopped s)
+effectFor (Objection.Stops s) = Effect.Stops s
+
+abbrev pub effectBy : Call → Check → Kind → ℕ → Effect
+effectBy c (Check.Goes found) kind most = effectOn c found kind most
+effectBy c (Check.Objects o) kind most = effectFor o
+
+abbrev pub effectOf : Call → Checked → Effect
+effectOf c checked = effectBy c (checked .check) (checked .kind) (checked .most)
+
+-- ---- the answer
+
+abbrev pub acted : Run → Clock → Effect → Answer
+acted run t (Effect.Stays reply) = answer reply run
+acted run t (Effect.Stops s) = stops run t s
+acted run t Effect.Rests = answer (cond (isDone run) Reply.Done Reply.Wait) (heard run t Halt.Going (run .progress) (run .window))
+acted run t (Effect.Stores i e reply) = answer reply (heard run t Halt.Going (run .progress) (set (run .window) i e))
+acted run t (Effect.Learns i x e o) = learnt (toldRun run t i x e o)
+
+-- neither 50 nor a kept stop
+abbrev pub Passes : Run → Type 0
+Passes run = (runInLimits run ≡ true) × (run .halt ≡ Halt.Going)
+
+-- what is known of an effect that changes the run: it passes its checks, the place is one of the window, the event and the
+-- outcome are the plan's
+abbrev pub Named : Run → Effect → Type 0
+Named run (Effect.Stays reply) = Unit {0}
+Named run (Effect.Stops s) = Unit {0}
+Named run Effect.Rests = Passes run
+Named run (Effect.Stores i e reply) = (i < 512) × Passes run
+Named run (Effect.Learns i x e o) = (i < 512) × (e < run .plan .events) × (o < outcomesOf (run .plan) e) × Passes run
