@@ -1,8 +1,8 @@
 // The events pending along the paths from the initial state: one count of each event for each state reached.
 use automaton::Explored;
-use basis::u16_to_usize;
 use basis::u8_to_u16;
 use basis::u8_to_usize;
+use basis::u16_to_usize;
 use plan::Automaton;
 use plan::Input;
 use plan::Output;

@@ -1,6 +1,6 @@
 // Number 24: every state has a path to a final one.
-use basis::u16_to_usize;
 use basis::u8_to_usize;
+use basis::u16_to_usize;
 use plan::Automaton;
 use plan::is_final;
 ghost use mathlib.Core.Bool.{false};

@@ -7,7 +7,6 @@ ghost use Rattle.wire.specs.Puts.{Puts};
 ghost use Rattle.drive_input.specs.Input.{headOf};
 ghost use Rattle.drive_input.specs.declared.HeadRead.{HeadRead};
 ghost use Rattle.drive.specs.Drive.{openedBy, callsFrom, callsOf, recordsFrom, textOf, joined, recordedOf, bufferOf};
-
 use basis::u8_to_usize;
 use drive_input::CallRead;
 use drive_input::Head;

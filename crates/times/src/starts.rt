@@ -1,7 +1,7 @@
 // The times of the nodes of one activity, in rounds.
 use super::Schedule;
-use basis::u32_to_u64;
 use basis::u8_to_usize;
+use basis::u32_to_u64;
 use plan::Activity;
 use plan::Kind;
 use plan::Node;

@@ -97,7 +97,7 @@ returns-3 c =
     let i = c .before .before .before .before .u8-to-usize .result in
     let e : l .j ≡ 8 * i + 7 = omega arith in
     let q : shiftedOf (8 * i) 7 (g .pending) ≡ set (l .h .pending) (8 * i + 7) noInstance =
-        l .inv .3 ∙ shifted-end (l .h .pending) (l .j) (8 * i + 7) (omega arith) ∙ ap (λ (k : ℕ). set (l .h .pending) k noInstance) e in
+    l .inv .3 ∙ shifted-end (l .h .pending) (l .j) (8 * i + 7) (omega arith) ∙ ap (λ (k : ℕ). set (l .h .pending) k noInstance) e in
     ap (λ (f : Progress). withPending f (set (l .h .pending) (8 * i + 7) noInstance)) (l .inv .2)
     ∙ sym (ap (λ (p : List Instance). record { available = g .available; latest = g .latest; lengths = set (g .lengths) i (pendingOf g i - 1); pending = p; position = g .position; state = g .state }) q)
     ∙ processed-oldest _ _ _ _ _ (c .before .before .before .before .before .before .input .given .1) (c .before .before .before .before .u8-to-usize .ensures) (omega (arith, c .before .before .if1 .left))
