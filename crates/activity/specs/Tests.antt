@@ -6,6 +6,7 @@ use lib.ListN.{length, getD}
 use lib.Dec.{eqb}
 use lib.Bits.{bitOr}
 use Rattle.plan.specs.Plan.{predecessors}
+pub use Rattle.plan.specs.Plan.{isEvent}
 use Rattle.plan.specs.declared.Kind.{Kind}
 use Rattle.plan.specs.declared.Node.{Node}
 
@@ -39,13 +40,6 @@ isRelease s (Kind.Action x q) = false
 isRelease s (Kind.Claim r) = false
 isRelease s (Kind.Release r) = eqb r s
 isRelease s (Kind.Event e) = false
-
--- a node of event f
-abbrev pub isEvent : ℕ → Kind → Bool
-isEvent f (Kind.Action x q) = false
-isEvent f (Kind.Claim r) = false
-isEvent f (Kind.Release r) = false
-isEvent f (Kind.Event e) = eqb e f
 
 -- an action's peripheral passes; any other kind does
 abbrev pub ofAction : Kind → (ℕ → Bool) → Bool

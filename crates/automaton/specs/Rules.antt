@@ -1,18 +1,15 @@
 -- "What the automaton must satisfy", in the words and the order of document 01, and what each of the numbers 21 to 26 means.
 use mathlib.Core.Path.{_≡_}
-use mathlib.Core.Bool.{Bool, true, false}
-use mathlib.Core.List.{List, [], _∷_}
+use mathlib.Core.Bool.{Bool, true, cond}
 use Prim.Native.Nat.{ℕ, _+_, _-_, _≤_, _<_}
 use lib.Dec.{eqb}
-use Rattle.plan.specs.declared.Kind.{Kind}
-use Rattle.plan.specs.declared.Node.{Node}
 use Rattle.plan.specs.declared.Input.{Input}
 use Rattle.plan.specs.declared.Output.{Output}
 use Rattle.plan.specs.declared.Automaton.{Automaton}
 use Rattle.plan.specs.declared.Plan.{Plan}
 use Rattle.plan.specs.declared.Fault.{Fault}
 use Rattle.plan.specs.declared.Verdict.{Verdict}
-use Rattle.plan.specs.Plan.{move, isFinal, outcomesOf, emittedBy}
+use Rattle.plan.specs.Plan.{move, isFinal, outcomesOf, emittedBy, eventsIn}
 
 -- ---- states and transitions
 
@@ -66,24 +63,12 @@ EveryState a P = (s : ℕ) → s < a .states → P s
 -- ---- events along a path
 
 abbrev pub one : Bool → ℕ
-one true = 1
-one false = 0
+one b = cond b 1 0
 
 -- how many of event e an input processes
 abbrev pub takes : Input → ℕ → ℕ
 takes Input.Nothing e = 0
 takes (Input.Outcome f o) e = one (eqb f e)
-
-abbrev pub ofEvent : ℕ → Kind → ℕ
-ofEvent e (Kind.Action n x) = 0
-ofEvent e (Kind.Claim r) = 0
-ofEvent e (Kind.Release r) = 0
-ofEvent e (Kind.Event f) = one (eqb f e)
-
--- how many nodes of event e there are
-abbrev pub eventsIn : ℕ → List Node → ℕ
-eventsIn e [] = 0
-eventsIn e (n ∷ ns) = ofEvent e (n .kind) + eventsIn e ns
 
 -- how many of event e an output emits: the nodes of e in its activity
 abbrev pub emits : Plan → Output → ℕ → ℕ

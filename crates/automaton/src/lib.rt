@@ -2,6 +2,7 @@
 ghost use mathlib.Core.Path.{_≡_};
 ghost use Prim.Native.Nat.{_≤_};
 ghost use Rattle.automaton.specs.Next.{onInput, nextOf, carries, chosenOf};
+use basis::u16_to_usize;
 use plan::Automaton;
 use plan::Input;
 
@@ -27,12 +28,6 @@ pub struct Explored {
     pub counts: [u16; 1024],
 }
 
-fn long(x: u16) -> usize
-    ensures { λ r. ⌜ r ≡ x ⌝ }
-{
-    x as usize
-}
-
 fn on_input(input: Input, i: u16) -> Next
     ensures { λ r. ⌜ r ≡ onInput input i ⌝ }
 {
@@ -47,7 +42,7 @@ pub fn next_of(a: Automaton, s: u8) -> Next
     requires { ⌜ a .count ≤ 256 ⌝ }
     ensures { λ r. ⌜ r ≡ nextOf a s ⌝ }
 {
-    let count = long(a.count);
+    let count = u16_to_usize(a.count);
     let mut i: usize = 0;
     while i < count {
         let t = a.moves[i];
@@ -74,7 +69,7 @@ pub fn chosen_of(a: Automaton, s: u8, e: u8, o: u8) -> Chosen
     requires { ⌜ a .count ≤ 256 ⌝ }
     ensures { λ r. ⌜ r ≡ chosenOf a s e o ⌝ }
 {
-    let count = long(a.count);
+    let count = u16_to_usize(a.count);
     let mut i: usize = 0;
     while i < count {
         let here = i;

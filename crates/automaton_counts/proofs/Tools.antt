@@ -12,7 +12,7 @@ use Rattle.plan.specs.declared.Input.{Input}
 use Rattle.plan.specs.declared.Automaton.{Automaton}
 use Rattle.plan.specs.declared.Fault.{Fault}
 use Rattle.plan.specs.declared.Verdict.{Verdict}
-use Rattle.plan.specs.Plan.{move, isFinal}
+use Rattle.plan.specs.Plan.{move, finalBit, isFinal}
 use Rattle.automaton.specs.Tests.{at}
 use Rattle.automaton.specs.Rules.{ToFinal}
 use Rattle.automaton.specs.Number.{lowest, toFinal, pathVerdict, wayVerdict}
@@ -20,7 +20,7 @@ use Rattle.automaton.specs.Laws.Lowest.{none-found}
 use Rattle.automaton.specs.Laws.Decides.{tells-24}
 use Rattle.automaton.specs.Inner.Counts.{InRange, MoveOk, Ready, Left, Crowd}
 use Rattle.automaton.specs.Laws.OnPaths.{same-on-paths, path-verdict}
-use Rattle.automaton_counts.specs.Inner.Emits.{finalBit, Either, gives, Few, Judged}
+use Rattle.automaton_counts.specs.Inner.Emits.{Either, gives, Few, Judged}
 use Rattle.automaton_counts.specs.Laws.Emits.{gives-small, gives-bounded}
 
 pub sure : {P Q : Type 0} → P → Either true P Q

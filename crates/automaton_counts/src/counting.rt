@@ -1,8 +1,8 @@
 // The events pending along the paths from the initial state: one count of each event for each state reached.
-use crate::widths::long;
-use crate::widths::short;
-use crate::widths::wide;
 use automaton::Explored;
+use basis::u8_to_u16;
+use basis::u8_to_usize;
+use basis::u16_to_usize;
 use plan::Automaton;
 use plan::Input;
 use plan::Output;
@@ -22,7 +22,7 @@ pub(crate) fn taken(input: Input, e: usize) -> u16
 {
     match input {
         Input::Nothing => 0,
-        Input::Outcome(f, _) => { if wide(f) == e { 1 } else { 0 } }
+        Input::Outcome(f, _) => { if u8_to_usize(f) == e { 1 } else { 0 } }
     }
 }
 
@@ -34,8 +34,8 @@ pub(crate) fn given(output: Output, emits: &[u8; 512], e: usize) -> u16
     match output {
         Output::Empty => 0,
         Output::Activity(k) => {
-            let place = 16 * wide(k) + e;
-            short(emits[place])
+            let place = 16 * u8_to_usize(k) + e;
+            u8_to_u16(emits[place])
         }
     }
 }
@@ -49,7 +49,7 @@ fn ready(input: Input, counts: &[u16; 1024], s: usize) -> bool
     match input {
         Input::Nothing => true,
         Input::Outcome(f, _) => {
-            let place = 16 * s + wide(f);
+            let place = 16 * s + u8_to_usize(f);
             0 < counts[place]
         }
     }
@@ -96,14 +96,14 @@ fn pass(a: Automaton, emits: &[u8; 512], reached: &mut [bool; 64], counts: &mut 
     requires { ⌜ Going a (gives (now emits)) (now reached) 0 (now reached) (now counts) false ⌝ }
     ensures { λ r. ⌜ Going a (gives (now (emits .entry))) (now (reached .entry)) (a .count) (now (reached .exit)) (now (counts .exit)) r ⌝ }
 {
-    let count = long(a.count);
+    let count = u16_to_usize(a.count);
     let mut changed = false;
     let mut i: usize = 0;
     while i < count {
         let t = a.moves[i];
         i += 1;
-        let from = wide(t.from);
-        let to = wide(t.to);
+        let from = u8_to_usize(t.from);
+        let to = u8_to_usize(t.to);
         if !reached[from] {
             continue;
         }
@@ -128,7 +128,7 @@ pub(crate) fn explore(a: Automaton, emits: &[u8; 512]) -> Explored
     requires { ⌜ Few (now emits) ⌝ }
     ensures { λ r. ⌜ Known a (gives (now (emits .entry))) (r .reached) (r .counts) ⌝ }
 {
-    let first = wide(a.initial);
+    let first = u8_to_usize(a.initial);
     let mut counts = blank();
     let mut reached = [false; 64];
     reached[first] = true;

@@ -1,7 +1,8 @@
 // Number 24: every state has a path to a final one.
-use crate::widths::long;
-use crate::widths::wide;
+use basis::u8_to_usize;
+use basis::u16_to_usize;
 use plan::Automaton;
+use plan::is_final;
 ghost use mathlib.Core.Bool.{false};
 ghost use mathlib.Core.Path.{_≡_};
 ghost use Prim.Native.Nat.{_<_, _≤_};
@@ -9,14 +10,7 @@ ghost use Rattle.basis.specs.Tests.{flag};
 ghost use Rattle.automaton.specs.Number.{lowest, toFinal};
 ghost use Rattle.automaton.specs.Inner.Counts.{InRange};
 ghost use Rattle.automaton.specs.Inner.Passes.{Backing};
-ghost use Rattle.automaton_counts.specs.Inner.Emits.{finalBit, Finals};
-
-pub(crate) fn is_final(finals: u64, s: usize) -> bool
-    requires { ⌜ s < 64 ⌝ }
-    ensures { λ r. ⌜ r ≡ finalBit finals s ⌝ }
-{
-    (finals >> s) % 2 == 1
-}
+ghost use Rattle.automaton_counts.specs.Inner.Emits.{Finals};
 
 fn finals_of(finals: u64) -> [bool; 64]
     ensures { λ r. ⌜ Finals finals r ⌝ }
@@ -42,15 +36,15 @@ fn mark_back(a: Automaton, done: [bool; 64]) -> Marked
     requires { ⌜ Backing a done 0 done false ⌝ }
     ensures { λ r. ⌜ Backing a done (a .count) (r .done) (r .changed) ⌝ }
 {
-    let count = long(a.count);
+    let count = u16_to_usize(a.count);
     let mut marked = done;
     let mut changed = false;
     let mut i: usize = 0;
     while i < count {
         let t = a.moves[i];
         i += 1;
-        let from = wide(t.from);
-        let to = wide(t.to);
+        let from = u8_to_usize(t.from);
+        let to = u8_to_usize(t.to);
         if marked[from] {
             continue;
         }

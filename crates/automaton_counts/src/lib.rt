@@ -3,14 +3,14 @@ use crate::counting::explore;
 use crate::counting::given;
 use crate::counting::taken;
 use crate::final_states::first_unmarked;
-use crate::final_states::is_final;
 use crate::final_states::to_final;
-use crate::widths::long;
-use crate::widths::wide;
+use basis::u8_to_usize;
+use basis::u16_to_usize;
 use plan::Automaton;
 use plan::Fault;
 use plan::Transition;
 use plan::Verdict;
+use plan::is_final;
 ghost use mathlib.Core.Path.{_≡_};
 ghost use Prim.Native.Nat.{ℕ, _<_, _≤_};
 ghost use Rattle.basis.specs.Inner.Tells.{Tells};
@@ -22,7 +22,6 @@ ghost use Rattle.automaton_counts.specs.Inner.Emits.{gives, Few, Within,
 
 mod counting;
 mod final_states;
-mod widths;
 
 // Whether the transition brings the counts of its from-state to those of its to-state.
 fn kept(t: Transition, emits: &[u8; 512], counts: &[u16; 1024]) -> bool
@@ -31,8 +30,8 @@ fn kept(t: Transition, emits: &[u8; 512], counts: &[u16; 1024]) -> bool
     requires { ⌜ Few (now emits) ⌝ }
     ensures { λ r. ⌜ Either r ((e : ℕ) → e < 16 → Kept (gives (now (emits .entry))) (now (counts .entry)) t e) (Unkept (gives (now (emits .entry))) (now (counts .entry)) t) ⌝ }
 {
-    let from = wide(t.from);
-    let to = wide(t.to);
+    let from = u8_to_usize(t.from);
+    let to = u8_to_usize(t.to);
     let input = t.input;
     let output = t.output;
     let mut e: usize = 0;
@@ -58,12 +57,12 @@ fn keeps(a: Automaton, emits: &[u8; 512], reached: &[bool; 64], counts: &[u16; 1
     requires { ⌜ Few (now emits) ⌝ }
     ensures { λ r. ⌜ Either r (Keeps a (gives (now (emits .entry))) (now (reached .entry)) (now (counts .entry))) (Clash a (gives (now (emits .entry))) (now (reached .entry)) (now (counts .entry))) ⌝ }
 {
-    let count = long(a.count);
+    let count = u16_to_usize(a.count);
     let mut i: usize = 0;
     while i < count {
         let t = a.moves[i];
         i += 1;
-        let from = wide(t.from);
+        let from = u8_to_usize(t.from);
         if !reached[from] {
             continue;
         }
@@ -131,7 +130,7 @@ fn pending(a: Automaton, emits: &[u8; 512]) -> Verdict
     if !keeps(a, emits, &reached, &counts) {
         return Verdict::Refused(Fault::Unbalanced, 0);
     }
-    let states = wide(a.states);
+    let states = u8_to_usize(a.states);
     if left(a.finals, states, &reached, &counts) {
         return Verdict::Refused(Fault::Unbalanced, 0);
     }
@@ -147,7 +146,7 @@ pub fn ways(a: Automaton, emits: &[u8; 512]) -> Verdict
     requires { ⌜ Few (now emits) ⌝ }
     ensures { λ r. ⌜ r ≡ wayVerdict a (gives (now (emits .entry))) ⌝ }
 {
-    let states = wide(a.states);
+    let states = u8_to_usize(a.states);
     let done = to_final(a);
     let s = first_unmarked(done, states);
     if s < states {

@@ -12,10 +12,10 @@ use Rattle.basis.specs.Parts.{part}
 use Rattle.plan.specs.declared.Kind.{Kind}
 use Rattle.plan.specs.declared.Node.{Node}
 use Rattle.plan.specs.declared.Plan.{Plan}
-use Rattle.plan.specs.Plan.{pastNode, sizeOf}
+use Rattle.plan.specs.Plan.{pastNode, sizeOf, isEvent, eventsIn}
 use Rattle.plan.specs.Limits.{InLimits}
 use Rattle.automaton.specs.Tests.{at}
-use Rattle.automaton.specs.Rules.{one, ofEvent, eventsIn}
+use Rattle.automaton.specs.Rules.{one}
 use Rattle.automaton.specs.Laws.Bounds.{events-le}
 use Rattle.automaton_verdict.specs.Inner.Table.{eventNumber, Table}
 
@@ -29,18 +29,18 @@ pub record Counting (p : Plan) (i : ℕ) (em : List ℕ) : Type 0 where
   pub few : (j : ℕ) → at em j ≤ 64
 
 -- an event node counts for its event alone
-of-number : (e : ℕ) (k : Kind) → e < 16 → ofEvent e k ≡ one (eqb (eventNumber k) e)
+of-number : (e : ℕ) (k : Kind) → e < 16 → one (isEvent e k) ≡ one (eqb (eventNumber k) e)
 of-number e (Kind.Action n x) l = ap one (sym (ne-eqb 16 e (λ z. omega arith)))
 of-number e (Kind.Claim r) l = ap one (sym (ne-eqb 16 e (λ z. omega arith)))
 of-number e (Kind.Release r) l = ap one (sym (ne-eqb 16 e (λ z. omega arith)))
 of-number e (Kind.Event f) l = refl
 
 -- one node more
-events-more : (e : ℕ) (d : Node) (l : List Node) (i m : ℕ) → eventsIn e (part d l i (suc m)) ≡ eventsIn e (part d l i m) + ofEvent e (getD l (i + m) d .kind)
-events-more e d l i zero = let z : i + 0 ≡ i = omega arith in omega (arith, ap (λ (n : ℕ). ofEvent e (getD l n d .kind)) z)
+events-more : (e : ℕ) (d : Node) (l : List Node) (i m : ℕ) → eventsIn e (part d l i (suc m)) ≡ eventsIn e (part d l i m) + one (isEvent e (getD l (i + m) d .kind))
+events-more e d l i zero = let z : i + 0 ≡ i = omega arith in omega (arith, ap (λ (n : ℕ). one (isEvent e (getD l n d .kind))) z)
 events-more e d l i (suc m) =
     let z : i + 1 + m ≡ i + suc m = omega arith in
-    omega (arith, events-more e d l (i + 1) m, ap (λ (n : ℕ). ofEvent e (getD l n d .kind)) z)
+    omega (arith, events-more e d l (i + 1) m, ap (λ (n : ℕ). one (isEvent e (getD l n d .kind))) z)
 
 module _ (p : Plan) (h : InLimits p) where
   pub counting-starts : Counting p 0 (replicate 512 0)
@@ -93,7 +93,7 @@ module _ (p : Plan) (h : InLimits p) where
           let z : 64 * here + i % 64 ≡ i = omega arith in
           let at-x = ap (λ (m : ℕ). eventsIn e (part pastNode (p .nodes) (64 * here) m)) x in
           let at-y = ap (λ (m : ℕ). eventsIn e (part pastNode (p .nodes) (64 * here) m)) y in
-          let at-z = ap (λ (m : ℕ). ofEvent e (getD (p .nodes) m pastNode .kind)) z in
+          let at-z = ap (λ (m : ℕ). one (isEvent e (getD (p .nodes) m pastNode .kind))) z in
           omega (arith, events-more e pastNode (p .nodes) (64 * here) (i % 64), of-number e kind n)
 
       pub counting-none : 16 ≤ eventNumber kind → Counting p (i + 1) em

@@ -7,28 +7,19 @@ ghost use Rattle.automaton.specs.Next.{chosenOf};
 ghost use Rattle.automaton.specs.Number.{lowest, isEnded, noWayOut, apart, apartFrom, branches, isMove, serves, stateVerdict, wayVerdict};
 ghost use Rattle.automaton.specs.Inner.Scan.{rest};
 ghost use Rattle.automaton.specs.Inner.Counts.{InRange};
-ghost use Rattle.automaton_counts.specs.Inner.Emits.{finalBit, gives, Few};
+ghost use Rattle.automaton_counts.specs.Inner.Emits.{gives, Few};
 ghost use Rattle.automaton_verdict.specs.Inner.Table.{eventNumber, Table};
 use automaton::Chosen;
 use automaton::Next;
+use basis::u8_to_usize;
+use basis::u16_to_usize;
 use plan::Automaton;
 use plan::Fault;
 use plan::Input;
 use plan::Kind;
 use plan::Plan;
 use plan::Verdict;
-
-fn wide(x: u8) -> usize
-    ensures { λ r. ⌜ r ≡ x ⌝ }
-{
-    x as usize
-}
-
-fn long(x: u16) -> usize
-    ensures { λ r. ⌜ r ≡ x ⌝ }
-{
-    x as usize
-}
+use plan::is_final;
 
 // ---- 21
 
@@ -42,20 +33,13 @@ fn is_ended(n: Next) -> bool
     }
 }
 
-fn is_final(finals: u64, s: usize) -> bool
-    requires { ⌜ s < 64 ⌝ }
-    ensures { λ r. ⌜ r ≡ finalBit finals s ⌝ }
-{
-    (finals >> s) % 2 == 1
-}
-
 // A final state has no way out.
 fn no_way_out(a: Automaton, s: u8) -> bool
     requires { ⌜ a .count ≤ 256 ⌝ }
     requires { ⌜ s < 64 ⌝ }
     ensures { λ r. ⌜ r ≡ noWayOut a s ⌝ }
 {
-    if !is_final(a.finals, wide(s)) {
+    if !is_final(a.finals, u8_to_usize(s)) {
         return true;
     }
     is_ended(automaton::next_of(a, s))
@@ -69,11 +53,11 @@ fn lowest_way_out(a: Automaton) -> usize
     let mut s: u8 = 0;
     while s < states {
         if !no_way_out(a, s) {
-            return wide(s);
+            return u8_to_usize(s);
         }
         s += 1;
     }
-    wide(s)
+    u8_to_usize(s)
 }
 
 // ---- 22
@@ -97,7 +81,7 @@ fn apart_from(m: Input, a: Automaton, i: usize, s: u8) -> bool
     requires { ⌜ i ≤ a .count ⌝ }
     ensures { λ r. ⌜ r ≡ apartFrom m (rest (a .moves) i (a .count)) s ⌝ }
 {
-    let count = long(a.count);
+    let count = u16_to_usize(a.count);
     let mut j: usize = i;
     while j < count {
         let t = a.moves[j];
@@ -118,7 +102,7 @@ fn branches(a: Automaton, s: u8) -> bool
     requires { ⌜ a .count ≤ 256 ⌝ }
     ensures { λ r. ⌜ r ≡ branches a s ⌝ }
 {
-    let count = long(a.count);
+    let count = u16_to_usize(a.count);
     let mut i: usize = 0;
     while i < count {
         let t = a.moves[i];
@@ -142,11 +126,11 @@ fn lowest_branch(a: Automaton) -> usize
     let mut s: u8 = 0;
     while s < states {
         if !branches(a, s) {
-            return wide(s);
+            return u8_to_usize(s);
         }
         s += 1;
     }
-    wide(s)
+    u8_to_usize(s)
 }
 
 // ---- 23
@@ -185,7 +169,7 @@ fn serves(a: Automaton, outcomes: [u8; 16], s: u8) -> bool
         Next::Ended => true,
         Next::Goes(_) => true,
         Next::Waits(e) => {
-            let place = wide(e);
+            let place = u8_to_usize(e);
             serves_all(a, s, e, outcomes[place])
         }
     }
@@ -199,11 +183,11 @@ fn lowest_missing(a: Automaton, outcomes: [u8; 16]) -> usize
     let mut s: u8 = 0;
     while s < states {
         if !serves(a, outcomes, s) {
-            return wide(s);
+            return u8_to_usize(s);
         }
         s += 1;
     }
-    wide(s)
+    u8_to_usize(s)
 }
 
 // Numbers 21 to 23.
@@ -211,7 +195,7 @@ fn state_verdict(a: Automaton, outcomes: [u8; 16]) -> Verdict
     requires { ⌜ InRange a ⌝ }
     ensures { λ r. ⌜ r ≡ stateVerdict a (at outcomes) Verdict.Accepted ⌝ }
 {
-    let states = wide(a.states);
+    let states = u8_to_usize(a.states);
     let out = lowest_way_out(a);
     if out < states {
         return Verdict::Refused(Fault::WayOutOfFinal, out);
@@ -234,7 +218,7 @@ fn event_of(kind: Kind) -> usize
     ensures { λ r. ⌜ r ≡ eventNumber kind ⌝ }
 {
     match kind {
-        Kind::Event(e) => wide(e),
+        Kind::Event(e) => u8_to_usize(e),
         Kind::Action(_, _) => 16,
         Kind::Claim(_) => 16,
         Kind::Release(_) => 16,
@@ -246,7 +230,7 @@ pub fn emissions(plan: Plan) -> [u8; 512]
     requires { ⌜ InLimits plan ⌝ }
     ensures { λ r. ⌜ Table plan r ⌝ }
 {
-    let end = 64 * wide(plan.activities);
+    let end = 64 * u8_to_usize(plan.activities);
     let mut em = [0u8; 512];
     let mut i: usize = 0;
     while i < end {
@@ -254,7 +238,7 @@ pub fn emissions(plan: Plan) -> [u8; 512]
         let k = i / 64;
         let n = i % 64;
         i += 1;
-        if wide(plan.sizes[k]) <= n {
+        if u8_to_usize(plan.sizes[k]) <= n {
             continue;
         }
         let node = plan.nodes[place];

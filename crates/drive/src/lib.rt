@@ -7,7 +7,7 @@ ghost use Rattle.wire.specs.Puts.{Puts};
 ghost use Rattle.drive_input.specs.Input.{headOf};
 ghost use Rattle.drive_input.specs.declared.HeadRead.{HeadRead};
 ghost use Rattle.drive.specs.Drive.{openedBy, callsFrom, callsOf, recordsFrom, textOf, joined, recordedOf, bufferOf};
-
+use basis::u8_to_usize;
 use drive_input::CallRead;
 use drive_input::Head;
 use drive_input::HeadRead;
@@ -32,7 +32,7 @@ fn open(input: &[u8], head: Head) -> Opened
 {
     let end = head.length + 2;
     let psi = head.psi;
-    let n = drive_input::wide(head.count);
+    let n = u8_to_usize(head.count);
     let times = drive_input::availabilities(input, head.length + 19, head.count);
     Run::open(&input[2..end], psi, head.slack, &times[..n])
 }

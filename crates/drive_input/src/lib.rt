@@ -1,4 +1,5 @@
 // The parts of an input: an opening, then calls. Their form is in specs/Input.antt.
+use basis::u8_to_usize;
 use run::Call;
 use time::Clock;
 use wire::Long;
@@ -66,12 +67,6 @@ fn eight(input: &[u8], at: usize) -> u64
     }
 }
 
-pub fn wide(x: u8) -> usize
-    ensures { λ r. ⌜ (r ≡ x) × (r < 256) ⌝ }
-{
-    x as usize
-}
-
 // ---- the opening
 
 // The numbers of an opening that the input holds whole.
@@ -88,7 +83,7 @@ pub fn head_of(input: &[u8]) -> HeadRead
     }
     let place = n + 18;
     let count = input[place];
-    let calls = n + 19 + 8 * wide(count);
+    let calls = n + 19 + 8 * u8_to_usize(count);
     if size < calls {
         return HeadRead::Ends;
     }
@@ -109,7 +104,7 @@ pub fn availabilities(input: &[u8], at: usize, count: u8) -> [u64; 255]
     let mut times = [0u64; 255];
     let mut i: usize = 0;
     let mut off = at;
-    let n = wide(count);
+    let n = u8_to_usize(count);
     while i < n {
         times[i] = eight(input, off);
         off += 8;

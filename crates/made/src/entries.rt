@@ -39,14 +39,14 @@ fn entry_at(bytes: &[u8], at: usize) -> Entry
     }
 }
 
-pub fn window_of(bytes: &[u8]) -> [Entry; 512]
+pub fn window_of(bytes: &[u8]) -> [Entry; run_window::WINDOW]
     ensures { λ r. ⌜ r ≡ windowOf (now (bytes .entry)) ⌝ }
 {
     let first = entry_at(bytes, WINDOW);
-    let mut window = [first; 512];
+    let mut window = [first; run_window::WINDOW];
     let mut i: usize = 0;
     let mut off = WINDOW;
-    while i < 512 {
+    while i < run_window::WINDOW {
         window[i] = entry_at(bytes, off);
         off += 23;
         i += 1;

@@ -1,4 +1,5 @@
 // Numbers at an offset: bytes past the end count as 0.
+use basis::u8_to_u16;
 use time::Specified;
 ghost use mathlib.Core.Path.{_≡_};
 ghost use Prim.Native.Nat.{_≤_, _<_};
@@ -15,17 +16,11 @@ pub fn byte(bytes: &[u8], at: usize) -> u8
     0
 }
 
-fn wider(x: u8) -> u16
-    ensures { λ r. ⌜ (r ≡ x) × (r < 256) ⌝ }
-{
-    x as u16
-}
-
 pub fn two(bytes: &[u8], at: usize) -> u16
     requires { ⌜ at ≤ 65536 ⌝ }
     ensures { λ r. ⌜ (r ≡ little 2 (now (bytes .entry)) at) × (r < 65536) ⌝ }
 {
-    wider(byte(bytes, at)) + 256 * wider(byte(bytes, at + 1))
+    u8_to_u16(byte(bytes, at)) + 256 * u8_to_u16(byte(bytes, at + 1))
 }
 
 pub fn four(bytes: &[u8], at: usize) -> u32

@@ -1,10 +1,11 @@
 -- The parts of a plan, as lists without the arrays' spare room.
-use mathlib.Core.List.{List, []}
-use mathlib.Core.Bool.{Bool}
-use Prim.Native.Nat.{ℕ, _*_, _/_, _%_, _^_}
+use mathlib.Core.List.{List, [], _∷_}
+use mathlib.Core.Bool.{Bool, false, cond}
+use Prim.Native.Nat.{ℕ, _+_, _*_}
 use lib.ListN.{getD}
 use lib.Dec.{eqb}
 use Rattle.basis.specs.Parts.{part}
+use Rattle.wire.specs.Map.{bit}
 use Rattle.plan.specs.declared.Kind.{Kind}
 use Rattle.plan.specs.declared.Node.{Node}
 use Rattle.plan.specs.declared.Activity.{Activity}
@@ -41,6 +42,18 @@ abbrev pub emittedBy : Plan → Output → List Node
 emittedBy p Output.Empty = []
 emittedBy p (Output.Activity a) = activityOf p a
 
+-- a node of event e
+abbrev pub isEvent : ℕ → Kind → Bool
+isEvent e (Kind.Action a x) = false
+isEvent e (Kind.Claim r) = false
+isEvent e (Kind.Release r) = false
+isEvent e (Kind.Event f) = eqb f e
+
+-- how many nodes of an activity are of event e
+abbrev pub eventsIn : ℕ → List Node → ℕ
+eventsIn e [] = 0
+eventsIn e (n ∷ ns) = cond (isEvent e (n .kind)) 1 0 + eventsIn e ns
+
 -- the resource of a peripheral
 abbrev pub resourceOf : Plan → ℕ → ℕ
 resourceOf p x = getD (p .belongs) x 0
@@ -56,6 +69,9 @@ move a i = getD (a .moves) i pastMove
 abbrev pub movesOf : Automaton → List Transition
 movesOf a = part pastMove (a .moves) 0 (a .count)
 
--- bit s of the final-state bits
+-- "final-state bits": bit s stands for state s
+abbrev pub finalBit : ℕ → ℕ → Bool
+finalBit finals s = bit s finals
+
 abbrev pub isFinal : Automaton → ℕ → Bool
-isFinal a s = eqb (a .finals / 2 ^ s % 2) 1
+isFinal a s = finalBit (a .finals) s

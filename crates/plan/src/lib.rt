@@ -1,5 +1,9 @@
-// The plan of a behaviour, as document 01's section "The plan file" describes it: types alone.
+// The plan of a behaviour, as document 01's section "The plan file" describes it: its types.
 // Slots past a count are spare room: zeros where the engine makes them, and never read.
+ghost use mathlib.Core.Path.{_≡_};
+ghost use Prim.Native.Nat.{_<_};
+ghost use Rattle.plan.specs.Plan.{finalBit};
+
 pub mod fields;
 pub mod numbers; // the number of each fault
 
@@ -60,6 +64,14 @@ pub struct Automaton {
     // how many transitions there are, in file order
     pub count: u16,
     pub moves: [Transition; 256],
+}
+
+// Whether state s is final, by an automaton's final-state bits.
+pub fn is_final(finals: u64, s: usize) -> bool
+    requires { ⌜ s < 64 ⌝ }
+    ensures { λ r. ⌜ r ≡ finalBit finals s ⌝ }
+{
+    (finals >> s) % 2 == 1
 }
 
 pub struct Plan {

@@ -1,4 +1,5 @@
 // Fields of the plan file: a number and the offset past it, or a fault and the field's place.
+use basis::u8_to_u16;
 use plan::Fault;
 use plan::fields::DurationField;
 use plan::fields::Field;
@@ -17,12 +18,6 @@ ghost use Rattle.plan.specs.Fields.{byteAt, anyAt, countAt, nameAt, optionalCou
 ghost use Rattle.plan.specs.Nodes.{durationAt};
 ghost use Rattle.plan.specs.Moves.{finalsAt, moveCountAt};
 
-fn widen(x: u8) -> u16
-    ensures { λ r. ⌜ (r ≡ x) × (r < 256) ⌝ }
-{
-    x as u16
-}
-
 // A number of one byte in low .. below - 1.
 pub fn byte_in(bytes: &[u8], at: usize, low: u8, below: u16, wrong: Fault) -> Field
     ensures { λ r. ⌜ r ≡ byteAt low below wrong (now (bytes .entry)) at ⌝ }
@@ -34,7 +29,7 @@ pub fn byte_in(bytes: &[u8], at: usize, low: u8, below: u16, wrong: Fault) -> Fi
             if x < low {
                 return Field::Refused(wrong, at);
             }
-            if widen(x) < below {
+            if u8_to_u16(x) < below {
                 return Field::Value(x, at + 1);
             }
             Field::Refused(wrong, at)
@@ -53,14 +48,14 @@ pub fn any_at(bytes: &[u8], at: usize) -> Field
 pub fn count_at(bytes: &[u8], at: usize, most: u8) -> Field
     ensures { λ r. ⌜ r ≡ countAt most (now (bytes .entry)) at ⌝ }
 {
-    byte_in(bytes, at, 1, widen(most) + 1, Fault::Count)
+    byte_in(bytes, at, 1, u8_to_u16(most) + 1, Fault::Count)
 }
 
 // A number that names one of `many` things.
 pub fn name_at(bytes: &[u8], at: usize, many: u8) -> Field
     ensures { λ r. ⌜ r ≡ nameAt many (now (bytes .entry)) at ⌝ }
 {
-    byte_in(bytes, at, 0, widen(many), Fault::Names)
+    byte_in(bytes, at, 0, u8_to_u16(many), Fault::Names)
 }
 
 // A count of 1 to `most` that is present iff its bit stands.

@@ -1,4 +1,5 @@
 // The bytes of a plan, put into a lent buffer: each function answers the offset past what it puts.
+use basis::u8_to_u32;
 use plan::Automaton;
 use plan::Input;
 use plan::Kind;
@@ -28,12 +29,6 @@ fn bit_of(x: u32) -> u8
     if x == 0 { 0 } else { 1 }
 }
 
-fn wide(x: u8) -> u32
-    ensures { λ r. ⌜ r ≡ x ⌝ }
-{
-    x as u32
-}
-
 fn kind_bit(kind: Kind) -> u8
     ensures { λ r. ⌜ (r ≡ kindBit kind) × (r ≤ 8) ⌝ }
 {
@@ -51,7 +46,7 @@ fn node_map(n: Node) -> u8
     let kind = n.kind;
     let k = kind_bit(kind);
     let d = bit_of(n.duration);
-    let c = bit_of(wide(n.count));
+    let c = bit_of(u8_to_u32(n.count));
     k + (16 * d + 32 * c)
 }
 
@@ -215,10 +210,10 @@ fn put_automaton(out: &mut [u8], at: usize, t: Automaton) -> usize
 fn section_map(resources: u8, peripherals: u8, events: u8, activities: u8) -> u8
     ensures { λ r. ⌜ r ≡ mapOf (present resources ∷ present peripherals ∷ present events ∷ present activities ∷ true ∷ []) ⌝ }
 {
-    let r = bit_of(wide(resources));
-    let x = bit_of(wide(peripherals));
-    let e = bit_of(wide(events));
-    let a = bit_of(wide(activities));
+    let r = bit_of(u8_to_u32(resources));
+    let x = bit_of(u8_to_u32(peripherals));
+    let e = bit_of(u8_to_u32(events));
+    let a = bit_of(u8_to_u32(activities));
     r + (2 * x + (4 * e + (8 * a + 16)))
 }
 

@@ -1,4 +1,5 @@
 // What an opening gives beside the plan and Ψ: availabilities and a slack. Document 01, section "A run".
+use basis::u8_to_usize;
 use plan::Node;
 use plan::Plan;
 use time::HORIZON;
@@ -47,21 +48,15 @@ fn is_short(slack: u64, n: Node) -> bool
     false
 }
 
-fn wide(x: u8) -> usize
-    ensures { λ r. ⌜ r ≡ x ⌝ }
-{
-    x as usize
-}
-
 // "the lowest such activity"
 pub fn short_from(plan: Plan, slack: u64) -> Short
     requires { ⌜ InLimits plan ⌝ }
     ensures { λ r. ⌜ r ≡ shortFrom plan slack 0 (plan .activities) ⌝ }
 {
-    let activities = wide(plan.activities);
+    let activities = u8_to_usize(plan.activities);
     let mut a: usize = 0;
     while a < activities {
-        let size = wide(plan.sizes[a]);
+        let size = u8_to_usize(plan.sizes[a]);
         let mut n: usize = 0;
         while n < size {
             let x = plan.nodes[64 * a + n];

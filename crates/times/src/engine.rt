@@ -1,6 +1,7 @@
 // One transition.
 use super::Advanced;
 use super::Instance;
+use super::LAST_POSITION;
 use super::Progress;
 use super::Schedule;
 use super::Told;
@@ -8,7 +9,7 @@ use super::queues::floor;
 use super::queues::processed;
 use super::starts::later;
 use super::starts::scheduled;
-use super::starts::wide;
+use basis::u8_to_usize;
 use plan::Activity;
 use plan::Input;
 use plan::Kind;
@@ -28,7 +29,7 @@ fn raised(available: [Specified; 16], count: u8, c: Specified) -> [Specified; 16
     ensures { λ r. ⌜ r ≡ raisedOf (c .0) 0 count available ⌝ }
 {
     let mut out = available;
-    let top = wide(count);
+    let top = u8_to_usize(count);
     let mut i: usize = 0;
     while i < top {
         let t = out[i];
@@ -43,12 +44,12 @@ fn left(a: Activity, t: Schedule, g: Progress) -> Progress
     requires { ⌜ Leaving a t ⌝ }
     ensures { λ r. ⌜ r ≡ leftOf (nodesOf a) (t .end) (orderOf t) g ⌝ }
 {
-    let count = wide(t.count);
+    let count = u8_to_usize(t.count);
     let mut h = g;
     let mut j: usize = 0;
     while j < count {
         let node = t.order[j];
-        let n = wide(node);
+        let n = u8_to_usize(node);
         j += 1;
         let end = t.end[n];
         let x = a.nodes[n];
@@ -57,16 +58,16 @@ fn left(a: Activity, t: Schedule, g: Progress) -> Progress
             Kind::Action(_, _) => continue,
             Kind::Claim(_) => continue,
             Kind::Release(r) => {
-                h.available[wide(r)] = end;
+                h.available[u8_to_usize(r)] = end;
                 continue;
             }
             Kind::Event(e) => {
-                let i = wide(e);
+                let i = u8_to_usize(e);
                 let last = h.latest[i];
                 h.latest[i] = later(last, end);
                 let length = h.lengths[i];
                 if length < 8 {
-                    h.pending[8 * i + wide(length)] = Instance {
+                    h.pending[8 * i + u8_to_usize(length)] = Instance {
                         position: h.position,
                         node: node,
                         end: end,
@@ -85,7 +86,7 @@ fn ends_above(times: [Specified; 64], count: u8) -> bool
     requires { ⌜ count ≤ 64 ⌝ }
     ensures { λ r. ⌜ r ≡ aboveOf times 0 count ⌝ }
 {
-    let top = wide(count);
+    let top = u8_to_usize(count);
     let mut i: usize = 0;
     while i < top {
         let t = times[i];
@@ -102,7 +103,7 @@ pub fn above(times: [Specified; 16], count: u8) -> bool
     requires { ⌜ count ≤ 16 ⌝ }
     ensures { λ r. ⌜ r ≡ aboveOf times 0 count ⌝ }
 {
-    let top = wide(count);
+    let top = u8_to_usize(count);
     let mut i: usize = 0;
     while i < top {
         let t = times[i];
@@ -120,7 +121,7 @@ fn beyond(resources: u8, size: u8, end: [Specified; 64], g: Progress) -> bool
     requires { ⌜ size ≤ 64 ⌝ }
     ensures { λ r. ⌜ r ≡ beyondOf resources size end g ⌝ }
 {
-    if 1_000_000_000 < g.position {
+    if LAST_POSITION < g.position {
         return true;
     }
     if ends_above(end, size) {

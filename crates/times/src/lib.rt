@@ -5,6 +5,9 @@ pub mod engine; // one transition
 pub mod queues; // the pending instances
 pub mod starts; // the nodes of one activity
 
+// The largest position that a path may have.
+pub const LAST_POSITION: u32 = 1_000_000_000;
+
 // What was reported of an emitted instance of an event.
 pub enum Told {
     Nothing,

@@ -2,7 +2,7 @@
 use super::Instance;
 use super::Progress;
 use super::Told;
-use super::starts::wide;
+use basis::u8_to_usize;
 use plan::Input;
 use time::Specified;
 ghost use mathlib.Core.Path.{_≡_};
@@ -18,7 +18,7 @@ pub fn floor(input: Input, g: Progress) -> Specified
     match input {
         Input::Nothing => Specified(0),
         Input::Outcome(e, _) => {
-            let i = wide(e);
+            let i = u8_to_usize(e);
             if 0 < g.lengths[i] {
                 let x = g.pending[8 * i];
                 x.end
@@ -37,7 +37,7 @@ pub fn processed(input: Input, g: Progress) -> Progress
     let Input::Outcome(e, _) = input else {
         return g;
     };
-    let i = wide(e);
+    let i = u8_to_usize(e);
     let n = g.lengths[i];
     if n == 0 {
         return g;

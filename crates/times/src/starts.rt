@@ -1,5 +1,7 @@
 // The times of the nodes of one activity, in rounds.
 use super::Schedule;
+use basis::u8_to_usize;
+use basis::u32_to_u64;
 use plan::Activity;
 use plan::Kind;
 use plan::Node;
@@ -11,18 +13,6 @@ ghost use Rattle.time.specs.declared.Specified.{Specified};
 ghost use Rattle.plan.specs.Plan.{predecessors, nodesOf};
 ghost use Rattle.times.specs.Times.{specified, readyOf, largestOf, unscheduled, scheduleOf};
 ghost use Rattle.times.specs.Inner.Times.{ArrowsFit, Timeable, numbers, claimOf, eventOf, startOn};
-
-pub fn wide(x: u8) -> usize
-    ensures { λ r. ⌜ r ≡ x ⌝ }
-{
-    x as usize
-}
-
-fn long(x: u32) -> u64
-    ensures { λ r. ⌜ r ≡ x ⌝ }
-{
-    x as u64
-}
 
 // The later of two times.
 pub fn later(x: Specified, y: Specified) -> Specified
@@ -36,10 +26,10 @@ fn ready(x: Node, done: &[bool; 64]) -> bool
     requires { ⌜ ArrowsFit x ⌝ }
     ensures { λ r. ⌜ r ≡ readyOf (now (done .entry)) (predecessors x) ⌝ }
 {
-    let count = wide(x.count);
+    let count = u8_to_usize(x.count);
     let mut j: usize = 0;
     while j < count {
-        let m = wide(x.preds[j]);
+        let m = u8_to_usize(x.preds[j]);
         if !done[m] {
             return false;
         }
@@ -59,11 +49,11 @@ fn largest(x: Node, ends: &[u64; 64]) -> u64
     requires { ⌜ ArrowsFit x ⌝ }
     ensures { λ r. ⌜ ((end : List Specified) → now (ends .entry) ≡ numbers end → r ≡ largestOf end (predecessors x)) ⌝ }
 {
-    let count = wide(x.count);
+    let count = u8_to_usize(x.count);
     let mut best: u64 = 0;
     let mut j: usize = 0;
     while j < count {
-        let m = wide(x.preds[j]);
+        let m = u8_to_usize(x.preds[j]);
         let t = ends[m];
         best = larger(best, t);
         j += 1;
@@ -77,7 +67,7 @@ fn claim_of(k: Kind) -> usize
 {
     match k {
         Kind::Action(_, _) => 0,
-        Kind::Claim(r) => wide(r),
+        Kind::Claim(r) => u8_to_usize(r),
         Kind::Release(_) => 0,
         Kind::Event(_) => 0,
     }
@@ -91,7 +81,7 @@ fn event_of(k: Kind) -> usize
         Kind::Action(_, _) => 0,
         Kind::Claim(_) => 0,
         Kind::Release(_) => 0,
-        Kind::Event(e) => wide(e),
+        Kind::Event(e) => u8_to_usize(e),
     }
 }
 
@@ -126,7 +116,7 @@ pub fn scheduled(a: Activity, available: [Specified; 16], latest: [Specified; 16
     requires { ⌜ Timeable a available latest ⌝ }
     ensures { λ r. ⌜ r ≡ scheduleOf available latest (nodesOf a) ⌝ }
 {
-    let count = wide(a.count);
+    let count = u8_to_usize(a.count);
     let mut u = unstarted();
     let mut ends = [0u64; 64];
     let mut rounds = a.count;
@@ -155,8 +145,8 @@ pub fn scheduled(a: Activity, available: [Specified; 16], latest: [Specified; 16
         let free = available[claim_of(k)];
         let last = latest[event_of(k)];
         let s = starting(k, largest(x, &ends), free, last);
-        let end = s.0 + long(x.duration);
-        let next = wide(u.count);
+        let end = s.0 + u32_to_u64(x.duration);
+        let next = u8_to_usize(u.count);
         ends[at] = end;
         u.start[at] = s;
         u.end[at] = Specified(end);

@@ -1,11 +1,11 @@
 -- Words of an automaton (Def. 6): the transitions taken, what they process and what they emit.
-use mathlib.Core.Bool.{Bool, false, cond}
-use mathlib.Core.List.{List, [], _∷_}
+use mathlib.Core.Bool.{cond}
+use mathlib.Core.List.{List}
 use Prim.Native.Nat.{ℕ, suc, _+_}
 use lib.Dec.{eqb}
-use Rattle.plan.specs.declared.Kind.{Kind}
 use Rattle.plan.specs.declared.Node.{Node}
 use Rattle.plan.specs.declared.Input.{Input}
+use Rattle.plan.specs.Plan.{eventsIn}
 
 -- Def. 6, a pair (i, o): what a transition processes, with its outcome, and the nodes of the activity that it emits.
 -- "Without bit 0 nothing is processed; without bit 1 the activity is the empty one", which has no nodes.
@@ -38,18 +38,7 @@ abbrev pub times : ℕ → Word → ℕ
 times e τ = 0
 times e (w ▷ x) = times e w + once e (x .input)
 
--- how many nodes of an activity are of event e
-abbrev pub isEvent : Kind → ℕ → Bool
-isEvent (Kind.Action a p) e = false
-isEvent (Kind.Claim r) e = false
-isEvent (Kind.Release r) e = false
-isEvent (Kind.Event f) e = eqb f e
-
-abbrev pub emittedIn : ℕ → List Node → ℕ
-emittedIn e [] = 0
-emittedIn e (n ∷ ns) = cond (isEvent (n .kind) e) 1 0 + emittedIn e ns
-
 -- how often e is emitted in a word
 abbrev pub emissions : ℕ → Word → ℕ
 emissions e τ = 0
-emissions e (w ▷ x) = emissions e w + emittedIn e (x .output)
+emissions e (w ▷ x) = emissions e w + eventsIn e (x .output)

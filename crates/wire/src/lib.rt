@@ -1,4 +1,5 @@
 // Numbers in bytes: fields of one, two, four and eight bytes, lowest byte first, and a byte put into a lent buffer.
+use basis::u8_to_u16;
 ghost use mathlib.Core.Path.{_≡_};
 ghost use Prim.Native.Nat.{_+_, _≤_, _<_};
 ghost use lib.ListN.{length, set};
@@ -43,18 +44,12 @@ fn fits(bytes: &[u8], at: usize, w: usize) -> bool
     false
 }
 
-fn wider(x: u8) -> u16
-    ensures { λ r. ⌜ (r ≡ x) × (r < 256) ⌝ }
-{
-    x as u16
-}
-
 fn two(bytes: &[u8], at: usize) -> u16
     requires { ⌜ at + 2 ≤ length (now bytes) ⌝ }
     ensures { λ r. ⌜ (r ≡ little 2 (now (bytes .entry)) at) × (r < 65536) ⌝ }
 {
     let next = at + 1;
-    wider(bytes[at]) + 256 * wider(bytes[next])
+    u8_to_u16(bytes[at]) + 256 * u8_to_u16(bytes[next])
 }
 
 fn four(bytes: &[u8], at: usize) -> u32

@@ -22,31 +22,31 @@ abbrev μ-loop : tie.MeasureT-loop
 loop-holds : tie.Need-loop-holds Inv-loop μ-loop
 loop-holds c =
     let x = c .before .args in
-    (omega arith, omega (arith, c .long .ensures), ap (λ (ts : List Transition). chosenFrom ts (x .s) (x .e) (x .o) 0) (ap (part pastMove (x .t1 .moves) 0) (sym (c .long .ensures)) ∙ rest-all (x .t1 .moves) (c .long .result)))
+    (omega arith, omega (arith, c .u16-to-usize .ensures), ap (λ (ts : List Transition). chosenFrom ts (x .s) (x .e) (x .o) 0) (ap (part pastMove (x .t1 .moves) 0) (sym (c .u16-to-usize .ensures)) ∙ rest-all (x .t1 .moves) (c .u16-to-usize .result)))
 
 loop-again : tie.Need-loop-again Inv-loop μ-loop
 loop-again c =
     let b = c .before .before .before .before in
     let x = b .before .before .args in
-    (omega arith, omega arith, b .loop .inv .2 ∙ chosen-other (x .t1 .moves) (x .s) (b .loop .i) (b .before .long .result) (x .e) (x .o) (omega arith) (c .if1 .taken))
+    (omega arith, omega arith, b .loop .inv .2 ∙ chosen-other (x .t1 .moves) (x .s) (b .loop .i) (b .before .u16-to-usize .result) (x .e) (x .o) (omega arith) (c .if1 .taken))
 
 returns : tie.Need-returns Inv-loop μ-loop
 returns c =
     let b = c .before .before .before .before .before .before in
     let x = b .before .before .args in
-    sym (b .loop .inv .2 ∙ chosen-here (x .t1 .moves) (x .s) (b .loop .i) (b .before .long .result) (x .e) (x .o) (omega arith) (c .before .before .if1 .left) (sym (c .before .carries .ensures) ∙ c .if2 .taken))
+    sym (b .loop .inv .2 ∙ chosen-here (x .t1 .moves) (x .s) (b .loop .i) (b .before .u16-to-usize .result) (x .e) (x .o) (omega arith) (c .before .before .if1 .left) (sym (c .before .carries .ensures) ∙ c .if2 .taken))
 
 loop-again-2 : tie.Need-loop-again-2 Inv-loop μ-loop
 loop-again-2 c =
     let b = c .before .before .before .before .before .before in
     let x = b .before .before .args in
-    (omega arith, omega arith, b .loop .inv .2 ∙ chosen-past (x .t1 .moves) (x .s) (b .loop .i) (b .before .long .result) (x .e) (x .o) (omega arith) (c .before .before .if1 .left) (sym (c .before .carries .ensures) ∙ c .if2 .left))
+    (omega arith, omega arith, b .loop .inv .2 ∙ chosen-past (x .t1 .moves) (x .s) (b .loop .i) (b .before .u16-to-usize .result) (x .e) (x .o) (omega arith) (c .before .before .if1 .left) (sym (c .before .carries .ensures) ∙ c .if2 .left))
 
 returns-2 : tie.Need-returns-2 Inv-loop μ-loop
 returns-2 c =
     let b = c .before in
     let x = b .before .before .args in
-    sym (b .loop .inv .2 ∙ chosen-none (x .t1 .moves) (x .s) (b .loop .i) (b .before .long .result) (x .e) (x .o) (λ l. omega arith))
+    sym (b .loop .inv .2 ∙ chosen-none (x .t1 .moves) (x .s) (b .loop .i) (b .before .u16-to-usize .result) (x .e) (x .o) (λ l. omega arith))
 
 pub chosen-of-spec : {M : Type 1} → statement M
 chosen-of-spec =

@@ -23,22 +23,22 @@ loop-holds : tie.Need-loop-holds Inv-loop μ-loop
 loop-holds c =
     let l = c .before .args .t1 .moves in
     let s = c .before .args .s in
-    (omega arith, omega (arith, c .long .ensures), ap (λ (ts : List Transition). nextFrom ts s 0) (ap (part pastMove l 0) (sym (c .long .ensures)) ∙ rest-all l (c .long .result)))
+    (omega arith, omega (arith, c .u16-to-usize .ensures), ap (λ (ts : List Transition). nextFrom ts s 0) (ap (part pastMove l 0) (sym (c .u16-to-usize .ensures)) ∙ rest-all l (c .u16-to-usize .result)))
 
 returns : tie.Need-returns Inv-loop μ-loop
 returns c =
     let b = c .before .before .before .before .before in
-    c .on-input .ensures ∙ sym (b .loop .inv .2 ∙ next-here (b .before .before .args .t1 .moves) (b .before .before .args .s) (b .loop .i) (b .before .long .result) (omega arith) (c .before .if1 .taken))
+    c .on-input .ensures ∙ sym (b .loop .inv .2 ∙ next-here (b .before .before .args .t1 .moves) (b .before .before .args .s) (b .loop .i) (b .before .u16-to-usize .result) (omega arith) (c .before .if1 .taken))
 
 loop-again : tie.Need-loop-again Inv-loop μ-loop
 loop-again c =
     let b = c .before .before .before .before in
-    (omega arith, omega arith, b .loop .inv .2 ∙ next-past (b .before .before .args .t1 .moves) (b .before .before .args .s) (b .loop .i) (b .before .long .result) (omega arith) (c .if1 .left))
+    (omega arith, omega arith, b .loop .inv .2 ∙ next-past (b .before .before .args .t1 .moves) (b .before .before .args .s) (b .loop .i) (b .before .u16-to-usize .result) (omega arith) (c .if1 .left))
 
 returns-2 : tie.Need-returns-2 Inv-loop μ-loop
 returns-2 c =
     let b = c .before in
-    sym (b .loop .inv .2 ∙ next-none (b .before .before .args .t1 .moves) (b .before .before .args .s) (b .loop .i) (b .before .long .result) (λ l. omega arith))
+    sym (b .loop .inv .2 ∙ next-none (b .before .before .args .t1 .moves) (b .before .before .args .s) (b .loop .i) (b .before .u16-to-usize .result) (λ l. omega arith))
 
 pub next-of-spec : {M : Type 1} → statement M
 next-of-spec =

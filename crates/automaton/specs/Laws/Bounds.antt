@@ -5,7 +5,6 @@ use mathlib.Core.List.{List}
 use Prim.Native.Nat.{ℕ, zero, suc, _+_, _*_, _≤_, _<_}
 use native.Mathlib.Omega.{arith}
 use borrow.Author.Tests.{ne-eqb}
-use lib.Dec.{eqb}
 use lib.ListN.{getD}
 use Rattle.basis.specs.Parts.{part}
 use Rattle.plan.specs.declared.Kind.{Kind}
@@ -13,9 +12,9 @@ use Rattle.plan.specs.declared.Node.{Node}
 use Rattle.plan.specs.declared.Input.{Input}
 use Rattle.plan.specs.declared.Output.{Output}
 use Rattle.plan.specs.declared.Plan.{Plan}
-use Rattle.plan.specs.Plan.{pastNode, sizeOf, move}
+use Rattle.plan.specs.Plan.{pastNode, sizeOf, isEvent, eventsIn, move}
 use Rattle.plan.specs.Limits.{KindNames, InputNames, OutputNames, InLimits, nodeAt}
-use Rattle.automaton.specs.Rules.{one, ofEvent, eventsIn, emits}
+use Rattle.automaton.specs.Rules.{one, emits}
 use Rattle.automaton.specs.Laws.Works.{Small}
 use Rattle.automaton.specs.Inner.Counts.{InputOk, OutputOk, InRange}
 use Rattle.automaton.specs.Laws.Counts.{Bounded}
@@ -38,29 +37,23 @@ in-range p h = record {
       record { from = m .from; to = m .to; input = input-ok p (h .events) (move (p .automaton) i .input) (m .input); output = output-ok p (h .activities) (move (p .automaton) i .output) (m .output) };
 }
 
-of-event-le : (e : ℕ) (k : Kind) → ofEvent e k ≤ 1
-of-event-le e (Kind.Action n x) = omega arith
-of-event-le e (Kind.Claim r) = omega arith
-of-event-le e (Kind.Release r) = omega arith
-of-event-le e (Kind.Event f) = go (eqb f e)
-  where
-    go : (b : Bool) → one b ≤ 1
-    go true = omega arith
-    go false = omega arith
+one-le : (b : Bool) → one b ≤ 1
+one-le true = omega arith
+one-le false = omega arith
 
 pub events-le : (e : ℕ) (d : Node) (l : List Node) (i k : ℕ) → eventsIn e (part d l i k) ≤ k
 events-le e d l i zero = omega arith
-events-le e d l i (suc k) = omega (arith, of-event-le e (getD l i d .kind), events-le e d l (i + 1) k)
+events-le e d l i (suc k) = omega (arith, one-le (isEvent e (getD l i d .kind)), events-le e d l (i + 1) k)
 
-events-none : (e : ℕ) (d : Node) (l : List Node) (i k : ℕ) → ((j : ℕ) → j < k → ofEvent e (getD l (i + j) d .kind) ≡ 0) → eventsIn e (part d l i k) ≡ 0
+events-none : (e : ℕ) (d : Node) (l : List Node) (i k : ℕ) → ((j : ℕ) → j < k → one (isEvent e (getD l (i + j) d .kind)) ≡ 0) → eventsIn e (part d l i k) ≡ 0
 events-none e d l i zero h = refl
 events-none e d l i (suc k) h =
     let z : i + 0 ≡ i = omega arith in
-    let here = subst (λ (n : ℕ). ofEvent e (getD l n d .kind) ≡ 0) z (h 0 (omega arith)) in
-    let rest = events-none e d l (i + 1) k (λ j m. let y : i + (j + 1) ≡ i + 1 + j = omega arith in subst (λ (n : ℕ). ofEvent e (getD l n d .kind) ≡ 0) y (h (j + 1) (omega arith))) in
+    let here = subst (λ (n : ℕ). one (isEvent e (getD l n d .kind)) ≡ 0) z (h 0 (omega arith)) in
+    let rest = events-none e d l (i + 1) k (λ j m. let y : i + (j + 1) ≡ i + 1 + j = omega arith in subst (λ (n : ℕ). one (isEvent e (getD l n d .kind)) ≡ 0) y (h (j + 1) (omega arith))) in
     omega arith
 
-other-event : (p : Plan) (e : ℕ) (k : Kind) → p .events ≤ e → KindNames p k → ofEvent e k ≡ 0
+other-event : (p : Plan) (e : ℕ) (k : Kind) → p .events ≤ e → KindNames p k → one (isEvent e k) ≡ 0
 other-event p e (Kind.Action n x) h l = refl
 other-event p e (Kind.Claim r) h l = refl
 other-event p e (Kind.Release r) h l = refl

@@ -26,10 +26,10 @@ loop-holds : tie.Need-loop-holds Inv-loop μ-loop
 loop-holds c = (omega arith, λ j l. absurd (omega arith))
 
 element-copy-out-if1 : tie.Need-element-copy-out-if1 Inv-loop μ-loop
-element-copy-out-if1 c = omega (arith, c .wide .ensures, move-ok _ (c .before .before .before .before .before .pre .0) (c .before .before .before .loop .i) (omega arith) .from)
+element-copy-out-if1 c = omega (arith, c .u8-to-usize .ensures, move-ok _ (c .before .before .before .before .before .pre .0) (c .before .before .before .loop .i) (omega arith) .from)
 
 loop-again : tie.Need-loop-again Inv-loop μ-loop
-loop-again c = (omega arith, below-more _ _ (c .before .before .before .before .before .loop .inv .1) (λ e n h. absurd (true-false (sym h ∙ moved (now (c .before .before .before .before .before .before .before .args .reached)) (c .before .before .wide .ensures) (not-true _ (c .if1 .taken))))))
+loop-again c = (omega arith, below-more _ _ (c .before .before .before .before .before .loop .inv .1) (λ e n h. absurd (true-false (sym h ∙ moved (now (c .before .before .before .before .before .before .before .args .reached)) (c .before .before .u8-to-usize .ensures) (not-true _ (c .if1 .taken))))))
 
 kept-requires : tie.Need-kept-requires Inv-loop μ-loop
 kept-requires c κs = (move-ok _ (c .before .before .before .before .before .before .before .pre .0) (c .before .before .before .before .before .loop .i) (omega arith), (c .before .before .before .before .before .before .before .pre .1 .0, c .before .before .before .before .before .before .before .pre .1 .1))
@@ -37,7 +37,7 @@ kept-requires c κs = (move-ok _ (c .before .before .before .before .before .bef
 returns : tie.Need-returns Inv-loop μ-loop
 returns c =
     let k = c .before .kept .ensures .nay (not-true _ (c .if2 .taken)) in
-    fails record { index = c .before .before .before .before .before .before .before .loop .i; event = k .event; low = omega arith; named = k .named; reached = moved (now (c .before .before .before .before .before .before .before .before .before .args .reached)) (c .before .before .before .before .wide .ensures) (not-false _ (c .before .before .if1 .left)); clash = k .clash }
+    fails record { index = c .before .before .before .before .before .before .before .loop .i; event = k .event; low = omega arith; named = k .named; reached = moved (now (c .before .before .before .before .before .before .before .before .before .args .reached)) (c .before .before .before .before .u8-to-usize .ensures) (not-false _ (c .before .before .if1 .left)); clash = k .clash }
 
 loop-again-2 : tie.Need-loop-again-2 Inv-loop μ-loop
 loop-again-2 c = (omega arith, below-more _ _ (c .before .before .before .before .before .before .before .loop .inv .1) (λ e n h. c .before .kept .ensures .yea (not-false _ (c .if2 .left)) e n))

@@ -28,26 +28,26 @@ returns : tie.Need-returns Inv-loop μ-loop
 returns c =
     let s = c .before .before .before .before .before .before .before .before in
     let l = c .before .before .before .before .before .loop in
-    fails record { event = l .e; named = omega arith; clash = λ k. omega (arith, k .enough, ap (λ (x : ℕ). at (s .args .counts .now) (16 * x + l .e)) (c .before .before .before .before .before .before .before .wide .ensures), c .before .before .taken .ensures, c .if1 .taken) }
+    fails record { event = l .e; named = omega arith; clash = λ k. omega (arith, k .enough, ap (λ (x : ℕ). at (s .args .counts .now) (16 * x + l .e)) (c .before .before .before .before .before .before .before .u8-to-usize .ensures), c .before .before .taken .ensures, c .if1 .taken) }
 
 add-if2 : tie.Need-add-if2 Inv-loop μ-loop
 add-if2 c =
     let s = c .before .before .before .before .before .before .before .before .before in
     let e = c .before .before .before .before .before .before .loop .e in
-    omega (arith, s .pre .1 .0 (16 * c .before .before .before .before .before .before .before .wide2 .result + e), s .pre .1 .0 (16 * c .before .before .before .before .before .before .before .before .wide .result + e), c .before .if1 .left)
+    omega (arith, s .pre .1 .0 (16 * c .before .before .before .before .before .before .before .u8-to-usize2 .result + e), s .pre .1 .0 (16 * c .before .before .before .before .before .before .before .before .u8-to-usize .result + e), c .before .if1 .left)
 
 add-if2-2 : tie.Need-add-if2-2 Inv-loop μ-loop
 add-if2-2 c =
     let s = c .before .before .before .before .before .before .before .before .before .before in
     let e = c .before .before .before .before .before .before .before .loop .e in
-    omega (arith, s .pre .1 .0 (16 * c .before .before .before .before .before .before .before .before .before .wide .result + e), c .before .before .before .before .before .given .ensures, gives-few (s .args .emits .now) (s .args .t .output) e (s .pre .1 .1))
+    omega (arith, s .pre .1 .0 (16 * c .before .before .before .before .before .before .before .before .before .u8-to-usize .result + e), c .before .before .before .before .before .given .ensures, gives-few (s .args .emits .now) (s .args .t .output) e (s .pre .1 .1))
 
 returns-2 : tie.Need-returns-2 Inv-loop μ-loop
 returns-2 c =
     let s = c .before .before .before .before .before .before .before .before .before .before .before in
     let l = c .before .before .before .before .before .before .before .before .loop in
-    let y = ap (λ (x : ℕ). at (s .args .counts .now) (16 * x + l .e)) (c .before .before .before .before .before .before .before .before .before .before .wide .ensures) in
-    let z = ap (λ (x : ℕ). at (s .args .counts .now) (16 * x + l .e)) (c .before .before .before .before .before .before .before .before .before .wide2 .ensures) in
+    let y = ap (λ (x : ℕ). at (s .args .counts .now) (16 * x + l .e)) (c .before .before .before .before .before .before .before .before .before .before .u8-to-usize .ensures) in
+    let z = ap (λ (x : ℕ). at (s .args .counts .now) (16 * x + l .e)) (c .before .before .before .before .before .before .before .before .before .u8-to-usize2 .ensures) in
     fails record { event = l .e; named = omega arith; clash = λ k. c .if2 .taken (omega (arith, k .same, c .before .before .before .before .before .taken .ensures, c .before .before .before .before .before .before .given .ensures)) }
 
 loop-again : tie.Need-loop-again Inv-loop μ-loop
@@ -57,7 +57,7 @@ loop-again c =
 
 returns-3 : tie.Need-returns-3 Inv-loop μ-loop
 returns-3 c =
-    sure (λ e n. rw (c .before .before .before .wide .ensures, c .before .before .wide2 .ensures) at (c .before .loop .inv .1 e (omega arith)))
+    sure (λ e n. rw (c .before .before .before .u8-to-usize .ensures, c .before .before .u8-to-usize2 .ensures) at (c .before .loop .inv .1 e (omega arith)))
 
 pub kept-spec : {M : Type 1} → statement M
 kept-spec =

@@ -9,7 +9,7 @@ use Rattle.basis.specs.Inner.Tells.{holds, fails}
 use Rattle.basis.specs.Tests.{flag}
 use Rattle.basis.specs.Laws.Bools.{clash}
 use Rattle.automaton.specs.Tests.{at}
-use Rattle.automaton_counts.specs.Inner.Emits.{finalBit}
+use Rattle.plan.specs.Plan.{finalBit}
 use Rattle.automaton_counts.proofs.Tools.{left-at, no-left, final-same}
 use borrow.Author.Needs.{needs}
 use Rattle.automaton_counts.proofs.left.Statement.{statement}

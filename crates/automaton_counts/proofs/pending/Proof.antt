@@ -15,13 +15,13 @@ returns : tie.Need-returns
 returns c = λ ways. broken25 (clash-25 _ _ _ _ (c .before .before .before .before .before .before .before .pre .0) (c .before .before .before .before .before .before .explore .ensures) ways (c .before .keeps .ensures .nay (not-true _ (c .if1 .taken))))
 
 left-requires : tie.Need-left-requires
-left-requires c κs = (omega (arith, c .before .before .wide .ensures, c .before .before .before .before .before .before .before .before .before .before .pre .0 .states), λ s r. omega (arith, c .before .before .wide .ensures, c .before .before .before .before .before .before .before .before .before .explore .ensures .known s r .0))
+left-requires c κs = (omega (arith, c .before .before .u8-to-usize .ensures, c .before .before .before .before .before .before .before .before .before .before .pre .0 .states), λ s r. omega (arith, c .before .before .u8-to-usize .ensures, c .before .before .before .before .before .before .before .before .before .explore .ensures .known s r .0))
 
 returns-2 : tie.Need-returns-2
 returns-2 c = λ ways. broken25 (left-25 _ _ _ _ (c .before .before .before .before .before .before .before .before .before .before .before .before .pre .0) (c .before .before .before .before .before .before .before .before .before .before .before .explore .ensures) (told-true (c .before .left .ensures (c .before .before .before .before .before .before .before .before .before .before .before .before .args .a) refl) (c .if2 .taken)))
 
 crowded-requires : tie.Need-crowded-requires
-crowded-requires c κs = (omega (arith, c .before .before .before .before .before .before .wide .ensures, c .before .before .before .before .before .before .before .before .before .before .before .before .before .before .pre .0 .states), λ s r. omega (arith, c .before .before .before .before .before .before .wide .ensures, c .before .before .before .before .before .before .before .before .before .before .before .before .before .explore .ensures .known s r .0))
+crowded-requires c κs = (omega (arith, c .before .before .before .before .before .before .u8-to-usize .ensures, c .before .before .before .before .before .before .before .before .before .before .before .before .before .before .pre .0 .states), λ s r. omega (arith, c .before .before .before .before .before .before .u8-to-usize .ensures, c .before .before .before .before .before .before .before .before .before .before .before .before .before .explore .ensures .known s r .0))
 
 returns-3 : tie.Need-returns-3
 returns-3 c =

@@ -2,14 +2,15 @@
 use mathlib.Core.Path.{_≡_}
 use mathlib.Core.Bool.{Bool, true, false, cond}
 use mathlib.Core.List.{List}
-use Prim.Native.Nat.{ℕ, _+_, _*_, _/_, _%_, _^_, _≤_, _<_}
-use lib.Dec.{eqb, ltb}
+use Prim.Native.Nat.{ℕ, _+_, _*_, _≤_, _<_}
+use lib.Dec.{ltb}
 use lib.ListN.{length}
 use Rattle.basis.specs.Tests.{flag}
 use Rattle.plan.specs.declared.Output.{Output}
 use Rattle.plan.specs.declared.Transition.{Transition}
 use Rattle.plan.specs.declared.Automaton.{Automaton}
 use Rattle.plan.specs.declared.Verdict.{Verdict}
+use Rattle.plan.specs.Plan.{finalBit}
 use Rattle.automaton.specs.Tests.{at}
 use Rattle.automaton.specs.Rules.{ToFinal, EveryState}
 use Rattle.automaton.specs.Inner.Counts.{Kept}
@@ -27,10 +28,6 @@ Few em = (k : ℕ) → at em k ≤ 64
 -- of the flags only the first `states` may stand
 abbrev pub Within : ℕ → List Bool → Type 0
 Within states R = (s : ℕ) → flag R s ≡ true → s < states
-
--- bit s of the final-state bits
-abbrev pub finalBit : ℕ → ℕ → Bool
-finalBit finals s = eqb (finals / 2 ^ s % 2) 1
 
 -- the final-state bits as flags
 pub record Finals (finals : ℕ) (D : List Bool) : Type 0 where

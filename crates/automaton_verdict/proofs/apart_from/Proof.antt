@@ -19,31 +19,31 @@ abbrev μ-loop : tie.MeasureT-loop
 loop-holds : tie.Need-loop-holds Inv-loop μ-loop
 loop-holds c =
     let x = c .before .args in
-    (omega (arith, c .long .ensures), omega (arith, c .long .ensures), ap (λ (n : ℕ). apartFrom (x .m) (rest (x .t2 .moves) (x .i) n) (x .s)) (sym (c .long .ensures)))
+    (omega (arith, c .u16-to-usize .ensures), omega (arith, c .u16-to-usize .ensures), ap (λ (n : ℕ). apartFrom (x .m) (rest (x .t2 .moves) (x .i) n) (x .s)) (sym (c .u16-to-usize .ensures)))
 
 loop-again : tie.Need-loop-again Inv-loop μ-loop
 loop-again c =
     let b = c .before .before .before .before in
     let x = b .before .before .args in
-    (omega arith, omega arith, b .loop .inv .2 ∙ scan-other (apart-scans (x .m) (x .s)) (x .t2 .moves) (b .loop .j) (b .before .long .result) (omega arith) (c .if1 .taken))
+    (omega arith, omega arith, b .loop .inv .2 ∙ scan-other (apart-scans (x .m) (x .s)) (x .t2 .moves) (b .loop .j) (b .before .u16-to-usize .result) (omega arith) (c .if1 .taken))
 
 returns : tie.Need-returns Inv-loop μ-loop
 returns c =
     let b = c .before .before .before .before .before .before in
     let x = b .before .before .args in
-    sym (b .loop .inv .2 ∙ scan-bad (apart-scans (x .m) (x .s)) (x .t2 .moves) (b .loop .j) (b .before .long .result) (omega arith) (c .before .before .if1 .left) (sym (c .before .apart .ensures) ∙ not-true _ (c .if2 .taken)))
+    sym (b .loop .inv .2 ∙ scan-bad (apart-scans (x .m) (x .s)) (x .t2 .moves) (b .loop .j) (b .before .u16-to-usize .result) (omega arith) (c .before .before .if1 .left) (sym (c .before .apart .ensures) ∙ not-true _ (c .if2 .taken)))
 
 loop-again-2 : tie.Need-loop-again-2 Inv-loop μ-loop
 loop-again-2 c =
     let b = c .before .before .before .before .before .before in
     let x = b .before .before .args in
-    (omega arith, omega arith, b .loop .inv .2 ∙ scan-good (apart-scans (x .m) (x .s)) (x .t2 .moves) (b .loop .j) (b .before .long .result) (omega arith) (c .before .before .if1 .left) (sym (c .before .apart .ensures) ∙ not-false _ (c .if2 .left)))
+    (omega arith, omega arith, b .loop .inv .2 ∙ scan-good (apart-scans (x .m) (x .s)) (x .t2 .moves) (b .loop .j) (b .before .u16-to-usize .result) (omega arith) (c .before .before .if1 .left) (sym (c .before .apart .ensures) ∙ not-false _ (c .if2 .left)))
 
 returns-2 : tie.Need-returns-2 Inv-loop μ-loop
 returns-2 c =
     let b = c .before in
     let x = b .before .before .args in
-    sym (b .loop .inv .2 ∙ scan-done (apart-scans (x .m) (x .s)) (x .t2 .moves) (b .loop .j) (b .before .long .result) (λ l. omega arith))
+    sym (b .loop .inv .2 ∙ scan-done (apart-scans (x .m) (x .s)) (x .t2 .moves) (b .loop .j) (b .before .u16-to-usize .result) (λ l. omega arith))
 
 pub apart-from-spec : {M : Type 1} → statement M
 apart-from-spec =

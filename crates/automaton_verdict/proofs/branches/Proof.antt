@@ -25,13 +25,13 @@ abbrev μ-loop : tie.MeasureT-loop
 loop-holds : tie.Need-loop-holds Inv-loop μ-loop
 loop-holds c =
     let x = c .before .args in
-    (omega arith, omega (arith, c .long .ensures), c .long .ensures, ap (λ (ts : List Transition). branchesIn ts (x .s)) (ap (part pastMove (x .t1 .moves) 0) (sym (c .long .ensures)) ∙ rest-all (x .t1 .moves) (c .long .result)))
+    (omega arith, omega (arith, c .u16-to-usize .ensures), c .u16-to-usize .ensures, ap (λ (ts : List Transition). branchesIn ts (x .s)) (ap (part pastMove (x .t1 .moves) 0) (sym (c .u16-to-usize .ensures)) ∙ rest-all (x .t1 .moves) (c .u16-to-usize .result)))
 
 loop-again : tie.Need-loop-again Inv-loop μ-loop
 loop-again c =
     let b = c .before .before .before .before in
     let x = b .before .before .args in
-    (omega arith, omega arith, b .loop .inv .2, b .loop .inv .3 ∙ scan-other (branches-scans (x .s)) (x .t1 .moves) (b .loop .i) (b .before .long .result) (omega arith) (c .if1 .taken))
+    (omega arith, omega arith, b .loop .inv .2, b .loop .inv .3 ∙ scan-other (branches-scans (x .s)) (x .t1 .moves) (b .loop .i) (b .before .u16-to-usize .result) (omega arith) (c .if1 .taken))
 
 returns : tie.Need-returns Inv-loop μ-loop
 returns c =
@@ -39,7 +39,7 @@ returns c =
     let x = b .before .before .args in
     let m = getD (x .t1 .moves) (b .loop .i) pastMove .input in
     let e = ap (λ (n : ℕ). apartFrom m (rest (x .t1 .moves) (b .loop .i + 1) n) (x .s)) (b .loop .inv .2) ∙ sym (c .before .apart-from .ensures) in
-    sym (b .loop .inv .3 ∙ scan-bad (branches-scans (x .s)) (x .t1 .moves) (b .loop .i) (b .before .long .result) (omega arith) (c .before .before .if1 .left) (e ∙ not-true _ (c .if2 .taken)))
+    sym (b .loop .inv .3 ∙ scan-bad (branches-scans (x .s)) (x .t1 .moves) (b .loop .i) (b .before .u16-to-usize .result) (omega arith) (c .before .before .if1 .left) (e ∙ not-true _ (c .if2 .taken)))
 
 loop-again-2 : tie.Need-loop-again-2 Inv-loop μ-loop
 loop-again-2 c =
@@ -47,13 +47,13 @@ loop-again-2 c =
     let x = b .before .before .args in
     let m = getD (x .t1 .moves) (b .loop .i) pastMove .input in
     let e = ap (λ (n : ℕ). apartFrom m (rest (x .t1 .moves) (b .loop .i + 1) n) (x .s)) (b .loop .inv .2) ∙ sym (c .before .apart-from .ensures) in
-    (omega arith, omega arith, b .loop .inv .2, b .loop .inv .3 ∙ scan-good (branches-scans (x .s)) (x .t1 .moves) (b .loop .i) (b .before .long .result) (omega arith) (c .before .before .if1 .left) (e ∙ not-false _ (c .if2 .left)))
+    (omega arith, omega arith, b .loop .inv .2, b .loop .inv .3 ∙ scan-good (branches-scans (x .s)) (x .t1 .moves) (b .loop .i) (b .before .u16-to-usize .result) (omega arith) (c .before .before .if1 .left) (e ∙ not-false _ (c .if2 .left)))
 
 returns-2 : tie.Need-returns-2 Inv-loop μ-loop
 returns-2 c =
     let b = c .before in
     let x = b .before .before .args in
-    sym (b .loop .inv .3 ∙ scan-done (branches-scans (x .s)) (x .t1 .moves) (b .loop .i) (b .before .long .result) (λ l. omega arith))
+    sym (b .loop .inv .3 ∙ scan-done (branches-scans (x .s)) (x .t1 .moves) (b .loop .i) (b .before .u16-to-usize .result) (λ l. omega arith))
 
 pub branches-spec : {M : Type 1} → statement M
 branches-spec =

@@ -14,22 +14,22 @@ abbrev μ-loop : tie.MeasureT-loop
 μ-loop plan end em₀ i₀ em i = end - i
 
 mul-end : tie.Need-mul-end Inv-loop μ-loop
-mul-end c = omega (arith, c .wide .ensures, c .before .pre .activities)
+mul-end c = omega (arith, c .u8-to-usize .ensures, c .before .pre .activities)
 
 loop-holds : tie.Need-loop-holds Inv-loop μ-loop
-loop-holds c = (omega arith, omega (arith, c .wide .ensures), omega (arith, c .wide .ensures, c .before .pre .activities), counting-starts (c .before .args .t1) (c .before .pre))
+loop-holds c = (omega arith, omega (arith, c .u8-to-usize .ensures), omega (arith, c .u8-to-usize .ensures, c .before .pre .activities), counting-starts (c .before .args .t1) (c .before .pre))
 
 loop-again : tie.Need-loop-again Inv-loop μ-loop
 loop-again c =
     let b = c .before .before .before .before in
     let s = b .before .before in
-    (omega arith, b .loop .inv .1, b .loop .inv .2, counting-past (s .args .t1) (s .pre) (b .loop .i) (b .loop .em) (omega arith) (b .loop .inv .3) (omega (arith, c .before .wide2 .ensures)))
+    (omega arith, b .loop .inv .1, b .loop .inv .2, counting-past (s .args .t1) (s .pre) (b .loop .i) (b .loop .em) (omega arith) (b .loop .inv .3) (omega (arith, c .before .u8-to-usize2 .ensures)))
 
 loop-again-2 : tie.Need-loop-again-2 Inv-loop μ-loop
 loop-again-2 c =
     let b = c .before .before .before .before .before .before .before in
     let s = b .before .before in
-    (omega arith, b .loop .inv .1, b .loop .inv .2, counting-none (s .args .t1) (s .pre) (b .loop .i) (b .loop .em) (omega arith) (b .loop .inv .3) (omega (arith, c .before .before .before .before .wide2 .ensures)) (omega (arith, c .before .event-of .ensures)))
+    (omega arith, b .loop .inv .1, b .loop .inv .2, counting-none (s .args .t1) (s .pre) (b .loop .i) (b .loop .em) (omega arith) (b .loop .inv .3) (omega (arith, c .before .before .before .before .u8-to-usize2 .ensures)) (omega (arith, c .before .event-of .ensures)))
 
 add-em : tie.Need-add-em Inv-loop μ-loop
 add-em c =
@@ -40,7 +40,7 @@ loop-again-3 : tie.Need-loop-again-3 Inv-loop μ-loop
 loop-again-3 c =
     let b = c .before .before .before .before .before .before .before in
     let s = b .before .before in
-    (omega arith, b .loop .inv .1, b .loop .inv .2, counting-one (s .args .t1) (s .pre) (b .loop .i) (b .loop .em) (omega arith) (b .loop .inv .3) (omega (arith, c .before .before .before .before .wide2 .ensures)) (c .before .event-of .result) (c .before .event-of .ensures) (omega arith))
+    (omega arith, b .loop .inv .1, b .loop .inv .2, counting-one (s .args .t1) (s .pre) (b .loop .i) (b .loop .em) (omega arith) (b .loop .inv .3) (omega (arith, c .before .before .before .before .u8-to-usize2 .ensures)) (c .before .event-of .result) (c .before .event-of .ensures) (omega arith))
 
 returns : tie.Need-returns Inv-loop μ-loop
 returns c =

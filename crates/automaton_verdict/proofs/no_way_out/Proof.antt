@@ -13,14 +13,14 @@ returns : tie.Need-returns
 unfolding noWayOut
 returns c =
     let x = c .before .before .before .args in
-    let f = ap (isFinal (x .a)) (sym (c .before .before .wide .ensures)) ∙ sym (c .before .is-final .ensures) ∙ not-true _ (c .if1 .taken) in
+    let f = ap (isFinal (x .a)) (sym (c .before .before .u8-to-usize .ensures)) ∙ sym (c .before .is-final .ensures) ∙ not-true _ (c .if1 .taken) in
     sym (ap (λ (b : Bool). cond b (isEnded (nextOf (x .a) (x .s))) true) f)
 
 returns-2 : tie.Need-returns-2
 unfolding noWayOut
 returns-2 c =
     let x = c .before .before .before .before .before .args in
-    let f = ap (isFinal (x .a)) (sym (c .before .before .before .before .wide .ensures)) ∙ sym (c .before .before .before .is-final .ensures) ∙ not-false _ (c .before .before .if1 .left) in
+    let f = ap (isFinal (x .a)) (sym (c .before .before .before .before .u8-to-usize .ensures)) ∙ sym (c .before .before .before .is-final .ensures) ∙ not-false _ (c .before .before .if1 .left) in
     c .is-ended .ensures ∙ ap isEnded (c .before .next-of .ensures) ∙ sym (ap (λ (b : Bool). cond b (isEnded (nextOf (x .a) (x .s))) true) f)
 
 pub no-way-out-spec : {M : Type 1} → statement M

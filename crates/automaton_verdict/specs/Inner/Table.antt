@@ -4,9 +4,8 @@ use mathlib.Core.List.{List}
 use Prim.Native.Nat.{ℕ, _+_, _*_, _<_}
 use Rattle.plan.specs.declared.Kind.{Kind}
 use Rattle.plan.specs.declared.Plan.{Plan}
-use Rattle.plan.specs.Plan.{activityOf}
+use Rattle.plan.specs.Plan.{activityOf, eventsIn}
 use Rattle.automaton.specs.Tests.{at}
-use Rattle.automaton.specs.Rules.{eventsIn}
 use Rattle.automaton_counts.specs.Inner.Emits.{Few}
 
 -- at 16 * k + e stands how many nodes of event e activity k has

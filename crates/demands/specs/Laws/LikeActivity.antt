@@ -1,18 +1,18 @@
 -- Two activities whose nodes have the same kinds and the same predecessors meet the same rules.
 use mathlib.Core.Path.{_≡_, refl, sym, _∙_, ap, subst}
+use mathlib.Core.Bool.{cond}
 use mathlib.Core.List.{List, [], _∷_}
 use mathlib.Core.Logic.{inl, inr}
 use Prim.Native.Nat.{ℕ, suc, _<_}
 use native.Mathlib.Omega.{arith}
 use lib.ListN.{length}
 use Rattle.basis.specs.Lists.{Among, one, more}
-use Rattle.plan.specs.Plan.{predecessors}
+use Rattle.plan.specs.Plan.{predecessors, isEvent, eventsIn}
 use Rattle.plan.specs.declared.Fault.{Fault}
 use Rattle.plan.specs.declared.Kind.{Kind}
 use Rattle.plan.specs.declared.Node.{Node}
 use Rattle.activity.specs.Rules.{node, Is, Arrow, Before, Ordered, NoCycle, RuleI, RuleII, RuleIII, RuleIV, RuleV, RuleVI, RuleVII, RuleVIII, RuleIX, RuleX, RuleXI, Meets}
 use Rattle.activity.specs.Judged.{Rule, First}
-use Rattle.automaton.specs.Rules.{ofEvent, eventsIn}
 
 pub record Like (a b : List Node) : Type 0 where
   pub long : length a ≡ length b
@@ -134,6 +134,6 @@ events e [] [] l k = refl
 events e [] (y ∷ b) l k = absurd (omega arith)
 events e (x ∷ a) [] l k = absurd (omega arith)
 events e (x ∷ a) (y ∷ b) l k =
-    let z : ofEvent e (x .kind) ≡ ofEvent e (y .kind) = ap (ofEvent e) (k 0 (omega arith)) in
+    let z = ap {B = ℕ} (λ (q : Kind). cond (isEvent e q) 1 0) (k 0 (omega arith)) in
     let i = events e a b (omega arith) (λ n h. k (suc n) (omega arith)) in
     omega arith

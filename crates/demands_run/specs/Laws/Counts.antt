@@ -9,11 +9,11 @@ use lib.Dec.{eqb}
 use lib.ListN.{length, length-append, length-map}
 use Rattle.basis.specs.Laws.Lists.{fewer}
 use Rattle.basis.specs.Laws.PartsHold.{length-part}
-use Rattle.plan.specs.Plan.{move, emittedBy, resourceOf}
+use Rattle.plan.specs.Plan.{move, emittedBy, eventsIn, resourceOf}
 use Rattle.plan.specs.declared.Input.{Input}
 use Rattle.plan.specs.declared.Plan.{Plan}
 use Rattle.automaton.specs.Rules.{MeetsAutomaton}
-use Rattle.times_combined.specs.Word.{once, times, emittedIn, emissions}
+use Rattle.times_combined.specs.Word.{once, times, emissions}
 use Rattle.times_combined.specs.Combined.{Ident, Graph}
 use Rattle.times_combined.specs.Paths.{wordOf, Follows, Lawful}
 use Rattle.times_combined.specs.Laws.Instances.{Listing}
@@ -77,13 +77,13 @@ module _ (p : Plan) (lawful : Lawful p) (automaton : MeetsAutomaton p) (availabl
         let m = pending-length e in
         omega arith
 
-    fits : (e : ℕ) (i : Input) → Pending i g → emissions e (wordOf p is) + emittedIn e (emittedBy p (move (p .automaton) t .output)) ≤ 8 + (times e (wordOf p is) + once e i)
-        → length (remaining i g e) + emittedIn e (emittedBy p (move (p .automaton) t .output)) ≤ 8
+    fits : (e : ℕ) (i : Input) → Pending i g → emissions e (wordOf p is) + eventsIn e (emittedBy p (move (p .automaton) t .output)) ≤ 8 + (times e (wordOf p is) + once e i)
+        → length (remaining i g e) + eventsIn e (emittedBy p (move (p .automaton) t .output)) ≤ 8
     fits e Input.Nothing h l = let v = queue-length e in omega arith
     fits e (Input.Outcome f o) h l = go (eqb f e) refl l
       where
-        go : (b : Bool) → eqb f e ≡ b → emissions e (wordOf p is) + emittedIn e (emittedBy p (move (p .automaton) t .output)) ≤ 8 + (times e (wordOf p is) + cond b 1 0)
-            → length (cond b (rest (queueOf g e)) (queueOf g e)) + emittedIn e (emittedBy p (move (p .automaton) t .output)) ≤ 8
+        go : (b : Bool) → eqb f e ≡ b → emissions e (wordOf p is) + eventsIn e (emittedBy p (move (p .automaton) t .output)) ≤ 8 + (times e (wordOf p is) + cond b 1 0)
+            → length (cond b (rest (queueOf g e)) (queueOf g e)) + eventsIn e (emittedBy p (move (p .automaton) t .output)) ≤ 8
         go true q l =
             let z : f ≡ e = eqb-true f e q in
             let h1 : 0 < pendingOf g e = subst (λ (n : ℕ). 0 < pendingOf g n) z h in

@@ -6,7 +6,7 @@ use mathlib.Core.List.{List, [], _∷_, _++_, map}
 use Prim.Native.Nat.{ℕ, zero, suc, _+_, _≤_, _<_}
 use lib.Dec.{eqb}
 use lib.ListN.{length}
-use Rattle.plan.specs.Plan.{move, emittedBy, outcomesOf}
+use Rattle.plan.specs.Plan.{move, emittedBy, eventsIn, outcomesOf}
 use Rattle.plan.specs.declared.Input.{Input}
 use Rattle.plan.specs.declared.Plan.{Plan}
 use Rattle.plan.specs.declared.Automaton.{Automaton}
@@ -14,7 +14,6 @@ use Rattle.automaton.specs.Next.{nextOf, chosenOf}
 use Rattle.automaton.specs.Rules.{MeetsAutomaton}
 use Rattle.automaton.specs.declared.Next.{Next}
 use Rattle.automaton.specs.declared.Chosen.{Chosen}
-use Rattle.times_combined.specs.Word.{emittedIn}
 use Rattle.times_combined.specs.Laws.Engine.{State, Steps}
 use Rattle.times_combined.specs.Paths.{stepOf, Lawful}
 use Rattle.times.specs.Times.{at}
@@ -65,7 +64,7 @@ pub record Possible (p : Plan) (t : ℕ) (g : Progress) : Type 0 where
   pub pending : Pending (move (p .automaton) t .input) g
   -- "at most 8 of one event are pending": before it, and after it
   pub few : (e : ℕ) → pendingOf g e ≤ 8
-  pub room : (e : ℕ) → length (remaining (move (p .automaton) t .input) g e) + emittedIn e (emittedBy p (move (p .automaton) t .output)) ≤ 8
+  pub room : (e : ℕ) → length (remaining (move (p .automaton) t .input) g e) + eventsIn e (emittedBy p (move (p .automaton) t .output)) ≤ 8
 
 -- what taking it gives; within the limits unless it passes those of number 44
 pub record Advances (p : Plan) (t : ℕ) (g : Progress) : Type 0 where

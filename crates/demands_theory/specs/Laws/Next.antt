@@ -1,6 +1,6 @@
 -- The automaton's next transition and its choice by an outcome are transitions of the state; and along its paths an event is
 -- processed as often, and emitted as often, as in the word of the path.
-use mathlib.Core.Path.{_≡_, refl, sym, ap₂, subst}
+use mathlib.Core.Path.{_≡_, refl, sym, ap, ap₂, subst}
 use mathlib.Core.Bool.{Bool, true, false, cond, _&&_}
 use mathlib.Core.List.{List, [], _∷_}
 use Prim.Native.Nat.{ℕ, zero, suc, _+_, _≤_, _<_}
@@ -10,21 +10,19 @@ use lib.Dec.{eqb}
 use borrow.Author.Tests.{eqb-true}
 use Rattle.basis.specs.Parts.{part}
 use Rattle.basis.specs.Laws.Bools.{clash, and-left, and-right}
-use Rattle.plan.specs.Plan.{pastMove, move, emittedBy, activityOf, resourceOf}
+use Rattle.plan.specs.Plan.{pastMove, move, activityOf, resourceOf}
 use Rattle.plan.specs.Limits.{FileRules}
-use Rattle.plan.specs.declared.Kind.{Kind}
-use Rattle.plan.specs.declared.Node.{Node}
 use Rattle.plan.specs.declared.Input.{Input}
 use Rattle.plan.specs.declared.Transition.{Transition}
 use Rattle.plan.specs.declared.Automaton.{Automaton}
 use Rattle.plan.specs.declared.Plan.{Plan}
 use Rattle.activity.specs.Rules.{Meets}
 use Rattle.automaton.specs.Next.{onInput, nextFrom, nextOf, carries, chosenFrom, chosenOf}
-use Rattle.automaton.specs.Rules.{Path, none, more, takes, ofEvent, eventsIn, emits, processed, emitted, EmittedFirst}
+use Rattle.automaton.specs.Rules.{Path, none, more, takes, emits, processed, emitted, EmittedFirst}
 use Rattle.automaton.specs.Rules as Rules
 use Rattle.automaton.specs.declared.Next.{Next}
 use Rattle.automaton.specs.declared.Chosen.{Chosen}
-use Rattle.times_combined.specs.Word.{once, times, isEvent, emittedIn, emissions}
+use Rattle.times_combined.specs.Word.{once, times, emissions}
 use Rattle.times_combined.specs.Paths.{wordOf, Follows, OnlyEmitted, Lawful}
 
 -- ---- the next transition
@@ -102,23 +100,9 @@ chosen-found a s e o t h = subst (Chooses (a .moves) s e o 0 (a .count)) h (chos
 
 -- ---- counting along a path
 
-one-cond : (b : Bool) → Rules.one b ≡ cond b 1 0
-one-cond true = refl
-one-cond false = refl
-
 takes-once : (x : Input) (e : ℕ) → takes x e ≡ once e x
 takes-once Input.Nothing e = refl
-takes-once (Input.Outcome f o) e = one-cond (eqb f e)
-
-event-of : (k : Kind) (e : ℕ) → ofEvent e k ≡ cond (isEvent k e) 1 0
-event-of (Kind.Action a x) e = refl
-event-of (Kind.Claim r) e = refl
-event-of (Kind.Release r) e = refl
-event-of (Kind.Event f) e = one-cond (eqb f e)
-
-events-in : (e : ℕ) (ns : List Node) → eventsIn e ns ≡ emittedIn e ns
-events-in e [] = refl
-events-in e (n ∷ ns) = ap₂ _+_ (event-of (n .kind) e) (events-in e ns)
+takes-once (Input.Outcome f o) e = refl
 
 -- a path with what it processes and emits of e
 record Along (p : Plan) (s e : ℕ) (is : List ℕ) (q : ℕ) : Type 0 where
@@ -133,7 +117,7 @@ along p s e (i ∷ is) q h =
     record {
       path = more (w .path) i (record { low = h .1 .0; from = refl }) (h .1 .1);
       takes-same = ap₂ _+_ (w .takes-same) (takes-once (move (p .automaton) i .input) e);
-      emits-same = ap₂ _+_ (w .emits-same) (events-in e (emittedBy p (move (p .automaton) i .output)));
+      emits-same = ap (λ (n : ℕ). n + emits p (move (p .automaton) i .output) e) (w .emits-same);
     }
 
 pub only-emitted : (p : Plan) → EmittedFirst (p .automaton) (emits p) → OnlyEmitted p

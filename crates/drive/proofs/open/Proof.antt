@@ -15,7 +15,7 @@ slice-aggregate-open : tie.Need-slice-aggregate-open
 slice-aggregate-open c = let l : length (c .before .before .availabilities .result) ≡ 255 = search needs in sym (length-take-le _ _ (omega arith))
 
 returns : tie.Need-returns
-returns c = let v = c .before .before .before in let a = v .before .before .before .before .before .before .args in let e : a .head .length + 2 - 2 ≡ a .head .length = omega arith in c .«open» .ensures ∙ ap₂ (λ (p ts : List ℕ). openOf p (a .head .psi) (a .head .slack) ts) (ap (λ (k : ℕ). take k (drop 2 (now (a .input)))) e) (ap (λ (k : ℕ). take k (v .availabilities .result)) (v .before .before .wide .ensures .0) ∙ v .availabilities .ensures)
+returns c = let v = c .before .before .before in let a = v .before .before .before .before .before .before .args in let e : a .head .length + 2 - 2 ≡ a .head .length = omega arith in c .«open» .ensures ∙ ap₂ (λ (p ts : List ℕ). openOf p (a .head .psi) (a .head .slack) ts) (ap (λ (k : ℕ). take k (drop 2 (now (a .input)))) e) (ap (λ (k : ℕ). take k (v .availabilities .result)) (v .before .before .u8-to-usize .ensures) ∙ v .availabilities .ensures)
 
 pub open-spec : {M : Type 1} → statement M
 open-spec =

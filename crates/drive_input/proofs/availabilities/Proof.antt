@@ -18,13 +18,13 @@ abbrev μ-loop : tie.MeasureT-loop
 μ-loop input at count times₀ i₀ off₀ n times i off = n - i
 
 loop-holds : tie.Need-loop-holds Inv-loop μ-loop
-loop-holds c = let a = c .before .before .args in (search needs, search needs, search needs, fills-none (now (a .input)) (a .at) (c .wide .result) [])
+loop-holds c = let a = c .before .before .args in (search needs, search needs, search needs, fills-none (now (a .input)) (a .at) (c .u8-to-usize .result) [])
 
 loop-again : tie.Need-loop-again Inv-loop μ-loop
-loop-again c = let l = c .before .before .loop in let a = c .before .before .before .before .before .args in (omega arith, omega arith, simp length-set (l .inv .2), fills-more (now (a .input)) (a .at) (c .before .before .before .wide .result) (l .times) (l .i) (l .off) (l .inv .3) _ (c .eight .ensures) (c .before .loop-test .taken) (omega arith))
+loop-again c = let l = c .before .before .loop in let a = c .before .before .before .before .before .args in (omega arith, omega arith, simp length-set (l .inv .2), fills-more (now (a .input)) (a .at) (c .before .before .before .u8-to-usize .result) (l .times) (l .i) (l .off) (l .inv .3) _ (c .eight .ensures) (c .before .loop-test .taken) (omega arith))
 
 returns : tie.Need-returns Inv-loop μ-loop
-returns c = let l = c .before .loop in let a = c .before .before .before .before .args in let e = c .before .before .wide .ensures .0 in rw (← e) (fills-all (now (a .input)) (a .at) (c .before .before .wide .result) (l .times) (l .i) (l .off) (l .inv .3) (omega arith) (omega arith))
+returns c = let l = c .before .loop in let a = c .before .before .before .before .args in let e = c .before .before .u8-to-usize .ensures in rw (← e) (fills-all (now (a .input)) (a .at) (c .before .before .u8-to-usize .result) (l .times) (l .i) (l .off) (l .inv .3) (omega arith) (omega arith))
 
 pub availabilities-spec : {M : Type 1} → statement M
 availabilities-spec =

@@ -26,21 +26,21 @@ abbrev μ-loop : tie.MeasureT-loop
 μ-loop slack plan activities a₀ a = activities - a
 
 loop-holds : tie.Need-loop-holds Inv-loop2 μ-loop2 Inv-loop μ-loop
-loop-holds c = (omega arith, c .wide .ensures, low-starts (c .before .args .t1) (c .before .args .slack) (c .before .args .t1 .activities))
+loop-holds c = (omega arith, c .u8-to-usize .ensures, low-starts (c .before .args .t1) (c .before .args .slack) (c .before .args .t1 .activities))
 
-element-copy-out-wide : tie.Need-element-copy-out-wide Inv-loop2 μ-loop2 Inv-loop μ-loop
-element-copy-out-wide c = omega (arith, c .before .before .before .pre .activities)
+element-copy-out-u8-to-usize : tie.Need-element-copy-out-u8-to-usize Inv-loop2 μ-loop2 Inv-loop μ-loop
+element-copy-out-u8-to-usize c = omega (arith, c .before .before .before .pre .activities)
 
 loop2-holds : tie.Need-loop2-holds Inv-loop2 μ-loop2 Inv-loop μ-loop
 loop2-holds c = let s = c .before .before .before .before .before .args in let a = c .before .before .before .loop .a in (omega arith, short-starts (s .slack) (64 * a) (sizeOf (s .t1) a) (s .t1 .nodes))
 
 -- the node is one of the plan's
-inside : (c : tie.After-wide2 Inv-loop2 μ-loop2 Inv-loop μ-loop) → (c .wide2 .result ≤ 64) × (c .before .before .before .loop .a < 32)
+inside : (c : tie.After-u8-to-usize2 Inv-loop2 μ-loop2 Inv-loop μ-loop) → (c .u8-to-usize2 .result ≤ 64) × (c .before .before .before .loop .a < 32)
 inside c =
     let limits = c .before .before .before .before .before .pre in
     let l = c .before .before .before .loop in
     let h : l .a < c .before .before .before .before .before .args .t1 .activities = omega (arith, l .inv .1, c .before .before .loop-test .taken) in
-    (omega (arith, c .wide2 .ensures, limits .sizes (l .a) h .1), omega (arith, limits .activities))
+    (omega (arith, c .u8-to-usize2 .ensures, limits .sizes (l .a) h .1), omega (arith, limits .activities))
 
 mul-x : tie.Need-mul-x Inv-loop2 μ-loop2 Inv-loop μ-loop
 mul-x c = let h = inside (c .before .before) in omega (arith, h .0, h .1)
@@ -59,7 +59,7 @@ returns c =
     let s = c .before .before .before .before .before .before .before .before .before .before .args in
     let l = c .before .before .before .before .before .before .before .before .loop in
     let k = c .before .before .before .before .loop2 in
-    let f = short-here (s .slack) (64 * l .a) (sizeOf (s .t1) (l .a)) (k .n) (s .t1 .nodes) (omega (arith, c .before .before .before .before .before .wide2 .ensures, c .before .before .before .loop2-test .taken)) (sym (c .before .is-short .ensures) ∙ c .if1 .taken) in
+    let f = short-here (s .slack) (64 * l .a) (sizeOf (s .t1) (l .a)) (k .n) (s .t1 .nodes) (omega (arith, c .before .before .before .before .before .u8-to-usize2 .ensures, c .before .before .before .loop2-test .taken)) (sym (c .before .is-short .ensures) ∙ c .if1 .taken) in
     sym (l .inv .2 ∙ low-here (s .t1) (s .slack) (s .t1 .activities) (l .a) (omega (arith, l .inv .1, c .before .before .before .before .before .before .before .loop-test .taken)) (k .inv .1 ∙ f))
 
 loop2-again : tie.Need-loop2-again Inv-loop2 μ-loop2 Inv-loop μ-loop
@@ -67,14 +67,14 @@ loop2-again c =
     let s = c .before .before .before .before .before .before .before .before .before .before .args in
     let l = c .before .before .before .before .before .before .before .before .loop in
     let k = c .before .before .before .before .loop2 in
-    (omega arith, k .inv .1 ∙ short-past (s .slack) (64 * l .a) (sizeOf (s .t1) (l .a)) (k .n) (s .t1 .nodes) (omega (arith, c .before .before .before .before .before .wide2 .ensures, c .before .before .before .loop2-test .taken)) (sym (c .before .is-short .ensures) ∙ c .if1 .left))
+    (omega arith, k .inv .1 ∙ short-past (s .slack) (64 * l .a) (sizeOf (s .t1) (l .a)) (k .n) (s .t1 .nodes) (omega (arith, c .before .before .before .before .before .u8-to-usize2 .ensures, c .before .before .before .loop2-test .taken)) (sym (c .before .is-short .ensures) ∙ c .if1 .left))
 
 loop-again : tie.Need-loop-again Inv-loop2 μ-loop2 Inv-loop μ-loop
 loop-again c =
     let s = c .before .before .before .before .before .before .before .args in
     let l = c .before .before .before .before .before .loop in
     let k = c .before .loop2 in
-    let f = short-none (s .slack) (64 * l .a) (sizeOf (s .t1) (l .a)) (k .n) (s .t1 .nodes) (omega (arith, c .before .before .wide2 .ensures, c .loop2-test .left)) in
+    let f = short-none (s .slack) (64 * l .a) (sizeOf (s .t1) (l .a)) (k .n) (s .t1 .nodes) (omega (arith, c .before .before .u8-to-usize2 .ensures, c .loop2-test .left)) in
     let h : l .a < s .t1 .activities = omega (arith, l .inv .1, c .before .before .before .before .loop-test .taken) in
     (omega arith, l .inv .1, l .inv .2 ∙ low-past (s .t1) (s .slack) (s .t1 .activities) (l .a) h (k .inv .1 ∙ f))
 
@@ -94,7 +94,7 @@ short-from-spec =
     μ-loop
     (λ c κs. search needs)
     loop-holds
-    element-copy-out-wide
+    element-copy-out-u8-to-usize
     (λ c κs. search needs)
     loop2-holds
     mul-x

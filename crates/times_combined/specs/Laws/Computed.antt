@@ -15,9 +15,8 @@ use Rattle.basis.specs.Laws.Bools.{clash}
 use Rattle.plan.specs.declared.Kind.{Kind}
 use Rattle.plan.specs.declared.Kind.the-variants.{Action, Claim, Release, Event}
 use Rattle.plan.specs.declared.Node.{Node}
-use Rattle.plan.specs.Plan.{predecessors}
+use Rattle.plan.specs.Plan.{predecessors, isEvent}
 use Rattle.activity.specs.Rules.{node, Is, Arrow, Before}
-use Rattle.times_combined.specs.Word.{isEvent}
 use Rattle.times_combined.specs.Laws.Accepted.{Good}
 use Rattle.times_combined.specs.Combined.{NotClaim}
 use Rattle.times_combined.specs.Laws.Engine.{State, raised, Available, Emits, Timed, latest, held}
@@ -101,7 +100,7 @@ module _ (R : ℕ) (belongs : ℕ → ℕ) (a : List Node) (ok : Good R belongs 
 
   -- ---- the nodes of an event, by rank
 
-  event-told : (k : Kind) (f : ℕ) → (b : Bool) → isEvent k f ≡ b → (b ≡ true → k ≡ Event f) × (b ≡ false → k ≡ Event f → ⊥)
+  event-told : (k : Kind) (f : ℕ) → (b : Bool) → isEvent f k ≡ b → (b ≡ true → k ≡ Event f) × (b ≡ false → k ≡ Event f → ⊥)
   event-told (Action x p) r b e = (λ t. clash (sym (e ∙ t)), λ f q. let z : _≡_ {A = ℕ} 0 1 = cc in omega arith)
   event-told (Claim x) r b e = (λ t. clash (sym (e ∙ t)), λ f q. let z : _≡_ {A = ℕ} 0 1 = cc in omega arith)
   event-told (Release x) r b e = (λ t. clash (sym (e ∙ t)), λ f q. let z : _≡_ {A = ℕ} 0 1 = cc in omega arith)
@@ -159,7 +158,7 @@ module _ (R : ℕ) (belongs : ℕ → ℕ) (a : List Node) (ok : Good R belongs 
   gather : (e k : ℕ) → k ≤ length a → Gathered e k (emitsBelow a e k)
   unfolding emitsBelow
   gather e zero l = record { rising = tt; all = λ n i. absurd i; only = λ n i. absurd (omega arith) }
-  gather e (suc k) l = go (isEvent (node a k .kind) e) (event-told (node a k .kind) e (isEvent (node a k .kind) e) refl) (gather e k (omega arith))
+  gather e (suc k) l = go (isEvent e (node a k .kind)) (event-told (node a k .kind) e (isEvent e (node a k .kind)) refl) (gather e k (omega arith))
     where
       go : (b : Bool) → (b ≡ true → node a k .kind ≡ Event e) × (b ≡ false → node a k .kind ≡ Event e → ⊥) → Gathered e k (emitsBelow a e k) → Gathered e (suc k) (cond b (insert (rankOf a) k (emitsBelow a e k)) (emitsBelow a e k))
       go false t o = record {

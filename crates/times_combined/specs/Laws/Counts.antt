@@ -11,8 +11,9 @@ use Rattle.basis.specs.Laws.Lists.{cut-same}
 use Rattle.plan.specs.declared.Node.{Node}
 use Rattle.plan.specs.declared.Input.the-variants.{Outcome, Nothing}
 use Rattle.plan.specs.declared.Input.{Input}
+use Rattle.plan.specs.Plan.{isEvent, eventsIn}
 use Rattle.activity.specs.Rules.{node}
-use Rattle.times_combined.specs.Word.{isEvent, emittedIn, emissions, Word, τ, _▷_, size, times}
+use Rattle.times_combined.specs.Word.{emissions, Word, τ, _▷_, size, times}
 use Rattle.times_combined.specs.Laws.Accepted.{GoodWord, Enough, Counted}
 use Rattle.times_combined.specs.Combined.{Ident, named, Instance, processing, combined}
 use Rattle.times_combined.specs.Laws.Exec.{insert, emitsBelow, emitsOf, rankOf}
@@ -25,13 +26,13 @@ use Rattle.times_combined.specs.Laws.Computed.{emits}
 -- how many of the first k nodes emit e
 abbrev below : List Node → ℕ → ℕ → ℕ
 below a e zero = 0
-below a e (suc k) = below a e k + cond (isEvent (node a k .kind) e) 1 0
+below a e (suc k) = below a e k + cond (isEvent e (node a k .kind)) 1 0
 
-below-cons : (n : Node) (ns : List Node) (e k : ℕ) → below (n ∷ ns) e (suc k) ≡ cond (isEvent (n .kind) e) 1 0 + below ns e k
+below-cons : (n : Node) (ns : List Node) (e k : ℕ) → below (n ∷ ns) e (suc k) ≡ cond (isEvent e (n .kind)) 1 0 + below ns e k
 below-cons n ns e zero = omega arith
 below-cons n ns e (suc k) = let u = below-cons n ns e k in omega arith
 
-below-all : (e : ℕ) (a : List Node) → below a e (length a) ≡ emittedIn e a
+below-all : (e : ℕ) (a : List Node) → below a e (length a) ≡ eventsIn e a
 below-all e [] = refl
 below-all e (n ∷ ns) = let u = below-all e ns in let v = below-cons n ns e (length ns) in omega arith
 
@@ -49,7 +50,7 @@ length-insert rank n (k ∷ ns) = go (ltb (rank n) (rank k)) (length-insert rank
 length-emits : (a : List Node) (e k : ℕ) → length (emitsBelow a e k) ≡ below a e k
 unfolding emitsBelow
 length-emits a e zero = refl
-length-emits a e (suc k) = go (isEvent (node a k .kind) e) (length-emits a e k)
+length-emits a e (suc k) = go (isEvent e (node a k .kind)) (length-emits a e k)
   where
     go : (b : Bool) → length (emitsBelow a e k) ≡ below a e k → length (cond b (insert (rankOf a) k (emitsBelow a e k)) (emitsBelow a e k)) ≡ below a e k + cond b 1 0
     go true h = let u = length-insert (rankOf a) k (emitsBelow a e k) in omega arith

@@ -7,9 +7,9 @@ use lib.Dec.{eqb, leb, ltb}
 use Rattle.plan.specs.declared.Kind.{Kind}
 use Rattle.plan.specs.declared.Node.{Node}
 use Rattle.plan.specs.declared.Input.{Input}
-use Rattle.plan.specs.Plan.{predecessors}
+use Rattle.plan.specs.Plan.{predecessors, isEvent}
 use Rattle.activity.specs.Rules.{node}
-use Rattle.times_combined.specs.Word.{isEvent, Step, Word, τ, _▷_, size}
+use Rattle.times_combined.specs.Word.{Step, Word, τ, _▷_, size}
 use Rattle.times_combined.specs.Combined.{Ident}
 use Rattle.times_combined.specs.Laws.Engine.{State, latest, raised, taken, Trace, startAt, endAt}
 
@@ -51,7 +51,7 @@ insert rank n (k ∷ ns) = cond (ltb (rank n) (rank k)) (n ∷ k ∷ ns) (k ∷ 
 
 unfoldable pub emitsBelow : List Node → ℕ → ℕ → List ℕ
 emitsBelow a e zero = []
-emitsBelow a e (suc k) = cond (isEvent (node a k .kind) e) (insert (rankOf a) k (emitsBelow a e k)) (emitsBelow a e k)
+emitsBelow a e (suc k) = cond (isEvent e (node a k .kind)) (insert (rankOf a) k (emitsBelow a e k)) (emitsBelow a e k)
 
 abbrev pub emitsOf : List Node → ℕ → List ℕ
 emitsOf a e = emitsBelow a e (length a)

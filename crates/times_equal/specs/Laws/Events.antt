@@ -11,24 +11,23 @@ use borrow.Author.Tests.{eqb-true, eq-eqb}
 use Rattle.basis.specs.Lists.{Among, Distinct, one, more}
 use Rattle.basis.specs.Laws.Lists.{among-left, among-right, cut, fewer, head-same, tail-same, nil-cons, cut-apart}
 use Rattle.basis.specs.Laws.Bools.{clash}
-use Rattle.plan.specs.Plan.{pastNode, predecessors}
+use Rattle.plan.specs.Plan.{pastNode, predecessors, isEvent, eventsIn}
 use Rattle.plan.specs.declared.Kind.{Kind}
 use Rattle.plan.specs.declared.Node.{Node}
 use Rattle.activity.specs.Rules.{node, Is, Before}
-use Rattle.times_combined.specs.Word.{isEvent, emittedIn}
 use Rattle.times_combined.specs.Laws.Engine.{Emits}
 use Rattle.times_equal.specs.Laws.Seen.{ofEvent}
 
 -- ---- the test for an event
 
-pub is-event : (k : Kind) (e : ℕ) → isEvent k e ≡ true → k ≡ Kind.Event e
+pub is-event : (k : Kind) (e : ℕ) → isEvent e k ≡ true → k ≡ Kind.Event e
 is-event (Kind.Action x p) e h = clash (sym h)
 is-event (Kind.Claim r) e h = clash (sym h)
 is-event (Kind.Release r) e h = clash (sym h)
 is-event (Kind.Event f) e h = ap Kind.Event (eqb-true f e h)
 
-pub event-is : (k : Kind) (e : ℕ) → k ≡ Kind.Event e → isEvent k e ≡ true
-event-is k e h = ap (λ (z : Kind). isEvent z e) h ∙ eq-eqb e e refl
+pub event-is : (k : Kind) (e : ℕ) → k ≡ Kind.Event e → isEvent e k ≡ true
+event-is k e h = ap (λ (z : Kind). isEvent e z) h ∙ eq-eqb e e refl
 
 module _ (a : List Node) (e : ℕ) where
   -- ---- members
@@ -36,9 +35,9 @@ module _ (a : List Node) (e : ℕ) where
   of-all : (ns : List ℕ) (n : ℕ) → Among n (ofEvent a e ns) → Among n ns × (node a n .kind ≡ Kind.Event e)
   unfolding ofEvent
   of-all [] n i = absurd i
-  of-all (k ∷ ns) n i = go (isEvent (node a k .kind) e) refl i (of-all ns n)
+  of-all (k ∷ ns) n i = go (isEvent e (node a k .kind)) refl i (of-all ns n)
     where
-      go : (b : Bool) → isEvent (node a k .kind) e ≡ b → Among n (cond b (k ∷ ofEvent a e ns) (ofEvent a e ns)) → (Among n (ofEvent a e ns) → Among n ns × (node a n .kind ≡ Kind.Event e)) → Among n (k ∷ ns) × (node a n .kind ≡ Kind.Event e)
+      go : (b : Bool) → isEvent e (node a k .kind) ≡ b → Among n (cond b (k ∷ ofEvent a e ns) (ofEvent a e ns)) → (Among n (ofEvent a e ns) → Among n ns × (node a n .kind ≡ Kind.Event e)) → Among n (k ∷ ns) × (node a n .kind ≡ Kind.Event e)
       go true q (inl s) rest = (inl s, subst (λ (m : ℕ). node a m .kind ≡ Kind.Event e) (sym s) (is-event (node a k .kind) e q))
       go true q (inr j) rest = let r = rest j in (inr (r .0), r .1)
       go false q j rest = let r = rest j in (inr (r .0), r .1)
@@ -47,9 +46,9 @@ module _ (a : List Node) (e : ℕ) where
   unfolding ofEvent
   of-only [] n i h = absurd i
   of-only (k ∷ ns) n (inl s) h =
-      let q : isEvent (node a k .kind) e ≡ true = ap (λ (m : ℕ). isEvent (node a m .kind) e) (sym s) ∙ event-is (node a n .kind) e h in
+      let q : isEvent e (node a k .kind) ≡ true = ap (λ (m : ℕ). isEvent e (node a m .kind)) (sym s) ∙ event-is (node a n .kind) e h in
       rw q (inl s)
-  of-only (k ∷ ns) n (inr i) h = go (isEvent (node a k .kind) e) (of-only ns n i h)
+  of-only (k ∷ ns) n (inr i) h = go (isEvent e (node a k .kind)) (of-only ns n i h)
     where
       go : (b : Bool) → Among n (ofEvent a e ns) → Among n (cond b (k ∷ ofEvent a e ns) (ofEvent a e ns))
       go true j = inr j
@@ -58,7 +57,7 @@ module _ (a : List Node) (e : ℕ) where
   of-distinct : (ns : List ℕ) → Distinct ns → Distinct (ofEvent a e ns)
   unfolding ofEvent
   of-distinct [] d = tt
-  of-distinct (k ∷ ns) d = go (isEvent (node a k .kind) e) (of-distinct ns (d .1))
+  of-distinct (k ∷ ns) d = go (isEvent e (node a k .kind)) (of-distinct ns (d .1))
     where
       go : (b : Bool) → Distinct (ofEvent a e ns) → Distinct (cond b (k ∷ ofEvent a e ns) (ofEvent a e ns))
       go true r = (λ i. d .0 (of-all ns k i .0), r)
@@ -78,9 +77,9 @@ module _ (a : List Node) (e : ℕ) where
   unfolding ofEvent
   of-cut [] [] n os f = nil-cons f
   of-cut [] (m ∷ ms) n os f = nil-cons f
-  of-cut (k ∷ ns) ms n os f = go (isEvent (node a k .kind) e) refl ms f (λ rs. of-cut ns rs n os)
+  of-cut (k ∷ ns) ms n os f = go (isEvent e (node a k .kind)) refl ms f (λ rs. of-cut ns rs n os)
     where
-      go : (b : Bool) → isEvent (node a k .kind) e ≡ b → (ms : List ℕ) → cond b (k ∷ ofEvent a e ns) (ofEvent a e ns) ≡ ms ++ (n ∷ os) → ((rs : List ℕ) → ofEvent a e ns ≡ rs ++ (n ∷ os) → Cut ns rs n) → Cut (k ∷ ns) ms n
+      go : (b : Bool) → isEvent e (node a k .kind) ≡ b → (ms : List ℕ) → cond b (k ∷ ofEvent a e ns) (ofEvent a e ns) ≡ ms ++ (n ∷ os) → ((rs : List ℕ) → ofEvent a e ns ≡ rs ++ (n ∷ os) → Cut ns rs n) → Cut (k ∷ ns) ms n
       go true t [] f rest = record { front = []; back = ns; whole = ap (λ (m : ℕ). m ∷ ns) (head-same f); into = λ m i. i; out-of = λ m i h. i }
       go true t (m ∷ ms) f rest =
           let c = rest ms (tail-same f) in
@@ -98,7 +97,7 @@ module _ (a : List Node) (e : ℕ) where
             back = c .back;
             whole = ap (λ ls. k ∷ ls) (c .whole);
             into = λ j i. inr (c .into j i);
-            out-of = λ j i h. elim i [ inl q ↦ clash (sym (event-is (node a j .kind) e h) ∙ ap (λ (m : ℕ). isEvent (node a m .kind) e) q ∙ t) | inr u ↦ c .out-of j u h ];
+            out-of = λ j i h. elim i [ inl q ↦ clash (sym (event-is (node a j .kind) e h) ∙ ap (λ (m : ℕ). isEvent e (node a m .kind)) q ∙ t) | inr u ↦ c .out-of j u h ];
           }
 
   -- ---- the order of "before"
@@ -160,21 +159,21 @@ module _ (e : ℕ) where
   -- the numbers of the nodes of e, for nodes that are numbered from n on
   abbrev numbers : ℕ → List Node → List ℕ
   numbers n [] = []
-  numbers n (x ∷ xs) = cond (isEvent (x .kind) e) (n ∷ numbers (n + 1) xs) (numbers (n + 1) xs)
+  numbers n (x ∷ xs) = cond (isEvent e (x .kind)) (n ∷ numbers (n + 1) xs) (numbers (n + 1) xs)
 
-  length-numbers : (n : ℕ) (xs : List Node) → length (numbers n xs) ≡ emittedIn e xs
+  length-numbers : (n : ℕ) (xs : List Node) → length (numbers n xs) ≡ eventsIn e xs
   length-numbers n [] = refl
-  length-numbers n (x ∷ xs) = go (isEvent (x .kind) e) (length-numbers (n + 1) xs)
+  length-numbers n (x ∷ xs) = go (isEvent e (x .kind)) (length-numbers (n + 1) xs)
     where
-      go : (b : Bool) → length (numbers (n + 1) xs) ≡ emittedIn e xs → length (cond b (n ∷ numbers (n + 1) xs) (numbers (n + 1) xs)) ≡ cond b 1 0 + emittedIn e xs
+      go : (b : Bool) → length (numbers (n + 1) xs) ≡ eventsIn e xs → length (cond b (n ∷ numbers (n + 1) xs) (numbers (n + 1) xs)) ≡ cond b 1 0 + eventsIn e xs
       go true h = omega arith
       go false h = omega arith
 
   among-numbers : (n : ℕ) (xs : List Node) (i : ℕ) → Among i (numbers n xs) → (j : ℕ) × (j < length xs) × (i ≡ n + j) × (getD xs j pastNode .kind ≡ Kind.Event e)
   among-numbers n [] i h = absurd h
-  among-numbers n (x ∷ xs) i h = go (isEvent (x .kind) e) refl h (among-numbers (n + 1) xs i)
+  among-numbers n (x ∷ xs) i h = go (isEvent e (x .kind)) refl h (among-numbers (n + 1) xs i)
     where
-      go : (b : Bool) → isEvent (x .kind) e ≡ b → Among i (cond b (n ∷ numbers (n + 1) xs) (numbers (n + 1) xs)) → (Among i (numbers (n + 1) xs) → (j : ℕ) × (j < length xs) × (i ≡ n + 1 + j) × (getD xs j pastNode .kind ≡ Kind.Event e)) → (j : ℕ) × (j < suc (length xs)) × (i ≡ n + j) × (getD (x ∷ xs) j pastNode .kind ≡ Kind.Event e)
+      go : (b : Bool) → isEvent e (x .kind) ≡ b → Among i (cond b (n ∷ numbers (n + 1) xs) (numbers (n + 1) xs)) → (Among i (numbers (n + 1) xs) → (j : ℕ) × (j < length xs) × (i ≡ n + 1 + j) × (getD xs j pastNode .kind ≡ Kind.Event e)) → (j : ℕ) × (j < suc (length xs)) × (i ≡ n + j) × (getD (x ∷ xs) j pastNode .kind ≡ Kind.Event e)
       go true t (inl q) rest = (0, omega arith, omega arith, is-event (x .kind) e t)
       go true t (inr u) rest = let r = rest u in (suc (r .0), (let p = r .1 in omega arith), (let p = r .2 in omega arith), r .3)
       go false t u rest = let r = rest u in (suc (r .0), (let p = r .1 in omega arith), (let p = r .2 in omega arith), r .3)
@@ -182,7 +181,7 @@ module _ (e : ℕ) where
   numbers-among : (n : ℕ) (xs : List Node) (j : ℕ) → j < length xs → getD xs j pastNode .kind ≡ Kind.Event e → Among (n + j) (numbers n xs)
   numbers-among n [] j l h = absurd (omega arith)
   numbers-among n (x ∷ xs) zero l h = rw (event-is (x .kind) e h) (inl (omega arith))
-  numbers-among n (x ∷ xs) (suc j) l h = go (isEvent (x .kind) e) (let z : n + 1 + j ≡ n + suc j = omega arith in subst (λ (i : ℕ). Among i (numbers (n + 1) xs)) z (numbers-among (n + 1) xs j (omega arith) h))
+  numbers-among n (x ∷ xs) (suc j) l h = go (isEvent e (x .kind)) (let z : n + 1 + j ≡ n + suc j = omega arith in subst (λ (i : ℕ). Among i (numbers (n + 1) xs)) z (numbers-among (n + 1) xs j (omega arith) h))
     where
       go : (b : Bool) → Among (n + suc j) (numbers (n + 1) xs) → Among (n + suc j) (cond b (n ∷ numbers (n + 1) xs) (numbers (n + 1) xs))
       go true i = inr i
@@ -190,14 +189,14 @@ module _ (e : ℕ) where
 
   distinct-numbers : (n : ℕ) (xs : List Node) → Distinct (numbers n xs)
   distinct-numbers n [] = tt
-  distinct-numbers n (x ∷ xs) = go (isEvent (x .kind) e) (distinct-numbers (n + 1) xs)
+  distinct-numbers n (x ∷ xs) = go (isEvent e (x .kind)) (distinct-numbers (n + 1) xs)
     where
       go : (b : Bool) → Distinct (numbers (n + 1) xs) → Distinct (cond b (n ∷ numbers (n + 1) xs) (numbers (n + 1) xs))
       go true d = (λ i. let r = among-numbers (n + 1) xs n i in let p = r .2 in absurd (omega arith), d)
       go false d = d
 
   -- as many as the activity has nodes of e
-  pub how-many : (a : List Node) (ns : List ℕ) → Emits a e ns → length ns ≡ emittedIn e a
+  pub how-many : (a : List Node) (ns : List ℕ) → Emits a e ns → length ns ≡ eventsIn e a
   how-many a ns h =
       le-antisymm
       (fewer ns (numbers 0 a) (h .distinct) (λ n i. let s = h .all n i in let z : 0 + n ≡ n = omega arith in subst (λ (m : ℕ). Among m (numbers 0 a)) z (numbers-among 0 a n (s .within) (s .kind))))

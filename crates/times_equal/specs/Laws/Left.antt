@@ -14,8 +14,8 @@ use Rattle.basis.specs.Lists.{Among}
 use Rattle.time.specs.declared.Specified.{Specified}
 use Rattle.plan.specs.declared.Kind.{Kind}
 use Rattle.plan.specs.declared.Node.{Node}
+use Rattle.plan.specs.Plan.{isEvent}
 use Rattle.activity.specs.Rules.{node}
-use Rattle.times_combined.specs.Word.{isEvent}
 use Rattle.times_combined.specs.Laws.Engine.{latest}
 use Rattle.times_combined.specs.Laws.Shape.{release-same}
 use Rattle.times.specs.declared.Progress.{Progress}
@@ -78,7 +78,7 @@ left-free-by n t (Kind.Event e) g r l =
     inr (λ e. let z : _≡_ {A = ℕ} 0 1 = cc in omega arith, ap (λ (ts : List Specified). at ts r) (queued-available (completedOf e t g) e (emission (g .position) n t)))
 
 -- the last completion of e
-left-last-by : (n t : ℕ) (k : Kind) (g : Progress) (e : ℕ) → ((f : ℕ) → k ≡ Kind.Event f → f < length (g .latest)) → at (leftBy n t k g .latest) e ≡ cond (isEvent k e) (max (at (g .latest) e) t) (at (g .latest) e)
+left-last-by : (n t : ℕ) (k : Kind) (g : Progress) (e : ℕ) → ((f : ℕ) → k ≡ Kind.Event f → f < length (g .latest)) → at (leftBy n t k g .latest) e ≡ cond (isEvent e k) (max (at (g .latest) e) t) (at (g .latest) e)
 unfolding leftBy
 left-last-by n t (Kind.Action x p) g e h = refl
 left-last-by n t (Kind.Claim r) g e h = refl
@@ -91,7 +91,7 @@ left-last-by n t (Kind.Event f) g e h =
     ]
 
 -- the queue of e
-left-queue-by : (n t : ℕ) (k : Kind) (g : Progress) (e : ℕ) → Whole g → ((f : ℕ) → k ≡ Kind.Event f → f < 16) → pendingOf g e + cond (isEvent k e) 1 0 ≤ 8 → (queueOf (leftBy n t k g) e ≡ queueOf g e ++ cond (isEvent k e) (emission (g .position) n t ∷ []) []) × (pendingOf (leftBy n t k g) e ≡ pendingOf g e + cond (isEvent k e) 1 0)
+left-queue-by : (n t : ℕ) (k : Kind) (g : Progress) (e : ℕ) → Whole g → ((f : ℕ) → k ≡ Kind.Event f → f < 16) → pendingOf g e + cond (isEvent e k) 1 0 ≤ 8 → (queueOf (leftBy n t k g) e ≡ queueOf g e ++ cond (isEvent e k) (emission (g .position) n t ∷ []) []) × (pendingOf (leftBy n t k g) e ≡ pendingOf g e + cond (isEvent e k) 1 0)
 unfolding leftBy
 left-queue-by n t (Kind.Action x p) g e w h few = (sym (append-nil (queueOf g e)), omega arith)
 left-queue-by n t (Kind.Claim r) g e w h few = (sym (append-nil (queueOf g e)), omega arith)
@@ -146,7 +146,7 @@ module _ (a : List Node) (end : List Specified) where
   left-last [] g e w h = omega arith
   left-last (n ∷ ns) g e w h =
       left-last ns (leftBy n (at end n) (node a n .kind) g) e (left-whole-by n (at end n) (node a n .kind) g w) (λ m f i. h m f (inr i))
-      ∙ go (isEvent (node a n .kind) e) (left-last-by n (at end n) (node a n .kind) g e (λ f q. let u = w .latest in let v = h n f (inl refl) q in omega arith))
+      ∙ go (isEvent e (node a n .kind)) (left-last-by n (at end n) (node a n .kind) g e (λ f q. let u = w .latest in let v = h n f (inl refl) q in omega arith))
     where
       go : (b : Bool) → at (leftBy n (at end n) (node a n .kind) g .latest) e ≡ cond b (max (at (g .latest) e) (at end n)) (at (g .latest) e) → max (at (leftBy n (at end n) (node a n .kind) g .latest) e) (latest (at end) (ofEvent a e ns)) ≡ max (at (g .latest) e) (latest (at end) (cond b (n ∷ ofEvent a e ns) (ofEvent a e ns)))
       go true q = omega arith
@@ -156,7 +156,7 @@ module _ (a : List Node) (end : List Specified) where
   unfolding leftOf ofEvent
   left-queue [] g e w h few = (sym (append-nil (queueOf g e)), omega arith)
   left-queue (n ∷ ns) g e w h few =
-      go (isEvent (node a n .kind) e) few
+      go (isEvent e (node a n .kind)) few
       (left-queue-by n (at end n) (node a n .kind) g e w (λ f q. h n f (inl refl) q))
       (left-queue ns (leftBy n (at end n) (node a n .kind) g) e (left-whole-by n (at end n) (node a n .kind) g w) (λ m f i. h m f (inr i)))
     where

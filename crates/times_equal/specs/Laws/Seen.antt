@@ -8,8 +8,8 @@ use Rattle.time.specs.declared.Specified.{Specified}
 use Rattle.plan.specs.declared.Kind.{Kind}
 use Rattle.plan.specs.declared.Node.{Node}
 use Rattle.plan.specs.declared.Input.{Input}
+use Rattle.plan.specs.Plan.{isEvent, eventsIn}
 use Rattle.activity.specs.Rules.{node, Is}
-use Rattle.times_combined.specs.Word.{isEvent, emittedIn}
 use Rattle.times_combined.specs.Laws.Accepted.{Good}
 use Rattle.times_combined.specs.Laws.Engine.{State}
 use Rattle.times.specs.declared.Instance.{Instance}
@@ -28,7 +28,7 @@ seen g = record { free = at (g .available); last = at (g .latest); queue = λ e.
 -- those of some nodes that are of event e
 unfoldable pub ofEvent : List Node → ℕ → List ℕ → List ℕ
 ofEvent a e [] = []
-ofEvent a e (n ∷ ns) = cond (isEvent (node a n .kind) e) (n ∷ ofEvent a e ns) (ofEvent a e ns)
+ofEvent a e (n ∷ ns) = cond (isEvent e (node a n .kind)) (n ∷ ofEvent a e ns) (ofEvent a e ns)
 
 -- the nodes of e in the order in which they were worked out
 abbrev pub emitted : List Node → Schedule → ℕ → List ℕ
@@ -60,4 +60,4 @@ pub record Ready (R : ℕ) (belongs : ℕ → ℕ) (a : List Node) (i : Input) (
   pub processes : Pending i g
   -- "at most 8 of one event are pending at a state": before it, and after it has processed and emitted
   pub few : (e : ℕ) → pendingOf g e ≤ 8
-  pub room : (e : ℕ) → pendingOf (processedOf i g) e + emittedIn e a ≤ 8
+  pub room : (e : ℕ) → pendingOf (processedOf i g) e + eventsIn e a ≤ 8

@@ -9,12 +9,11 @@ use lib.ListN.{length}
 use Rattle.basis.specs.Lists.{Among}
 use Rattle.basis.specs.Laws.Lists.{map-append}
 use Rattle.time.specs.declared.Specified.{Specified}
-use Rattle.plan.specs.Plan.{predecessors}
+use Rattle.plan.specs.Plan.{predecessors, eventsIn}
 use Rattle.plan.specs.declared.Kind.{Kind}
 use Rattle.plan.specs.declared.Node.{Node}
 use Rattle.plan.specs.declared.Input.{Input}
 use Rattle.activity.specs.Rules.{node}
-use Rattle.times_combined.specs.Word.{emittedIn}
 use Rattle.times_combined.specs.Combined.{NotClaim}
 use Rattle.times_combined.specs.Laws.Engine.{latest, held, Timed, Emits, raised, Available, Steps}
 use Rattle.times.specs.declared.Progress.{Progress}
@@ -160,7 +159,7 @@ module _ (R : ℕ) (belongs : ℕ → ℕ) (a : List Node) (i : Input) (to : ℕ
   queue-grows e = queued e .0 ∙ ap (λ (p : ℕ). queueOf before e ++ instances (t .end) p (emitted a t e)) position-before ∙ ap (λ q. q ++ instances (t .end) (g .position) (emitted a t e)) (queue-before e)
 
   -- as many as the activity has nodes of the event
-  pub pending-grows : (e : ℕ) → pendingOf (advanceOf R a i to g .progress) e ≡ pendingOf (processedOf i g) e + emittedIn e a
+  pub pending-grows : (e : ℕ) → pendingOf (advanceOf R a i to g .progress) e ≡ pendingOf (processedOf i g) e + eventsIn e a
   unfolding timedOf emitsOf closedOf
   pending-grows e = let u = queued e .1 in let v = Events.how-many e a (emitted a t e) (emits e) in let w = pending-before e in omega arith
 

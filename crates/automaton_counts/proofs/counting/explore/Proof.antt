@@ -18,10 +18,10 @@ abbrev μ-loop : tie.MeasureT-loop
 μ-loop a emits first counts₀ reached₀ counts reached = falses reached
 
 array-write-reached : tie.Need-array-write-reached Inv-loop μ-loop
-array-write-reached c = omega (arith, c .before .wide .ensures, c .before .before .pre .0 .initial, c .before .before .pre .0 .states)
+array-write-reached c = omega (arith, c .before .u8-to-usize .ensures, c .before .before .pre .0 .initial, c .before .before .pre .0 .states)
 
 loop-holds : tie.Need-loop-holds Inv-loop μ-loop
-loop-holds c = rw (c .before .wide .ensures) (going-starts _ _ (c .before .before .pre .0) (c .blank .result) (search needs) (c .blank .ensures))
+loop-holds c = rw (c .before .u8-to-usize .ensures) (going-starts _ _ (c .before .before .pre .0) (c .blank .result) (search needs) (c .blank .ensures))
 
 pass-requires : tie.Need-pass-requires Inv-loop μ-loop
 pass-requires c κs = (c .before .before .before .before .before .pre .0, (c .before .before .before .before .before .pre .1, c .before .before .loop .inv))

@@ -11,15 +11,15 @@ use borrow.Author.Needs.{needs}
 use Rattle.automaton_counts.proofs.counting.given.Statement.{statement}
 use Rattle.automaton_counts.proofs.counting.given.Tie as tie
 
-element-copy-out-short : tie.Need-element-copy-out-short
-element-copy-out-short c = omega (arith, subst OutputOk (c .before .before .output .given .1) (c .before .before .before .before .pre .0))
+element-copy-out-u8-to-u16 : tie.Need-element-copy-out-u8-to-u16
+element-copy-out-u8-to-u16 c = omega (arith, subst OutputOk (c .before .before .output .given .1) (c .before .before .before .before .pre .0))
 
 returns-2 : tie.Need-returns-2
 returns-2 c =
     let b = c .before .before in
     let s = b .before .before .before .before in
     let n = b .before .before .output .given in
-    c .short .ensures ∙ ap (λ (k : ℕ). at (s .args .emits .now) (16 * k + s .args .e)) (b .wide .ensures) ∙ sym (gives-at (s .args .emits .now) (n .0 .0) (s .args .e) (s .pre .1)) ∙ sym (ap (λ (o : Output). gives (s .args .emits .now) o (s .args .e)) (n .1))
+    c .u8-to-u16 .ensures ∙ ap (λ (k : ℕ). at (s .args .emits .now) (16 * k + s .args .e)) (b .u8-to-usize .ensures) ∙ sym (gives-at (s .args .emits .now) (n .0 .0) (s .args .e) (s .pre .1)) ∙ sym (ap (λ (o : Output). gives (s .args .emits .now) o (s .args .e)) (n .1))
 
 pub given-spec : {M : Type 1} → statement M
 given-spec =
@@ -30,7 +30,7 @@ given-spec =
     (λ c κs. search needs)
     (λ c. search needs)
     (λ c. search needs)
-    element-copy-out-short
+    element-copy-out-u8-to-u16
     (λ c κs. search needs)
     (λ c. search needs)
     returns-2)

@@ -25,40 +25,40 @@ loop-holds : tie.Need-loop-holds Inv-loop μ-loop
 loop-holds c = (omega arith, c .before .pre .1 .1)
 
 element-copy-out-if1 : tie.Need-element-copy-out-if1 Inv-loop μ-loop
-element-copy-out-if1 c = omega (arith, c .before .wide .ensures, move-ok _ (c .before .before .before .before .before .before .pre .0) (c .before .before .before .before .loop .i) (omega arith) .from)
+element-copy-out-if1 c = omega (arith, c .before .u8-to-usize .ensures, move-ok _ (c .before .before .before .before .before .before .pre .0) (c .before .before .before .before .loop .i) (omega arith) .from)
 
 loop-again : tie.Need-loop-again Inv-loop μ-loop
 loop-again c =
     let l = c .before .before .before .before .before .before .loop in
-    (omega arith, going-stays _ _ (c .before .before .before .before .before .before .before .before .pre .0) _ _ _ _ _ (l .inv .1) (λ h r. absurd (clash (sym h ∙ moved (l .reached) (c .before .before .before .wide .ensures) (not-true _ (c .if1 .taken))))))
+    (omega arith, going-stays _ _ (c .before .before .before .before .before .before .before .before .pre .0) _ _ _ _ _ (l .inv .1) (λ h r. absurd (clash (sym h ∙ moved (l .reached) (c .before .before .before .u8-to-usize .ensures) (not-true _ (c .if1 .taken))))))
 
 element-copy-out-if2 : tie.Need-element-copy-out-if2 Inv-loop μ-loop
-element-copy-out-if2 c = omega (arith, c .before .before .wide2 .ensures, move-ok _ (c .before .before .before .before .before .before .before .before .pre .0) (c .before .before .before .before .before .before .loop .i) (omega arith) .to)
+element-copy-out-if2 c = omega (arith, c .before .before .u8-to-usize2 .ensures, move-ok _ (c .before .before .before .before .before .before .before .before .pre .0) (c .before .before .before .before .before .before .loop .i) (omega arith) .to)
 
 loop-again-2 : tie.Need-loop-again-2 Inv-loop μ-loop
 loop-again-2 c =
     let l = c .before .before .before .before .before .before .before .before .loop in
-    (omega arith, going-stays _ _ (c .before .before .before .before .before .before .before .before .before .before .pre .0) _ _ _ _ _ (l .inv .1) (λ h r. moved (l .reached) (c .before .before .before .before .wide2 .ensures) (c .if2 .taken)))
+    (omega arith, going-stays _ _ (c .before .before .before .before .before .before .before .before .before .before .pre .0) _ _ _ _ _ (l .inv .1) (λ h r. moved (l .reached) (c .before .before .before .before .u8-to-usize2 .ensures) (c .if2 .taken)))
 
 ready-requires : tie.Need-ready-requires Inv-loop μ-loop
 ready-requires c κs =
     let k = move-ok _ (c .before .before .before .before .before .before .before .before .before .before .before .pre .0) (c .before .before .before .before .before .before .before .before .before .loop .i) (omega arith) in
-    (k .input, omega (arith, c .before .before .before .before .before .before .wide .ensures, k .from))
+    (k .input, omega (arith, c .before .before .before .before .before .before .u8-to-usize .ensures, k .from))
 
 loop-again-3 : tie.Need-loop-again-3 Inv-loop μ-loop
 loop-again-3 c =
     let l = c .before .before .before .before .before .before .before .before .before .before .before .loop in (
       omega arith,
       going-stays _ _ (c .before .before .before .before .before .before .before .before .before .before .before .before .before .pre .0) _ _ _ _ _ (l .inv .1)
-          (λ h r. absurd (not-ready (l .counts) (move (c .before .before .before .before .before .before .before .before .before .before .before .before .before .args .t1) (l .i) .input) (c .before .before .before .before .before .before .before .before .wide .ensures) (told-false (c .before .ready .ensures) (not-true (c .before .ready .result) (c .if3 .taken))) r)),
+          (λ h r. absurd (not-ready (l .counts) (move (c .before .before .before .before .before .before .before .before .before .before .before .before .before .args .t1) (l .i) .input) (c .before .before .before .before .before .before .before .before .u8-to-usize .ensures) (told-false (c .before .ready .ensures) (not-true (c .before .ready .result) (c .if3 .taken))) r)),
     )
 
 advance-requires : tie.Need-advance-requires Inv-loop μ-loop
 advance-requires c κs =
     let s = c .before .before .before .before .before .before .before .before .before .before .before .before .before .before in
     let l = c .before .before .before .before .before .before .before .before .before .before .before .before .loop in
-    let from = c .before .before .before .before .before .before .before .before .before .wide in
-    let to = c .before .before .before .before .before .before .before .before .wide2 in
+    let from = c .before .before .before .before .before .before .before .before .before .u8-to-usize in
+    let to = c .before .before .before .before .before .before .before .before .u8-to-usize2 in
     let k = move-ok _ (s .pre .0) (l .i) (omega arith) in (
       (omega (arith, from .ensures, k .from), omega (arith, to .ensures, k .to), flags-apart (l .reached) (not-false _ (c .before .before .before .before .before .before .if1 .left)) (c .before .before .before .before .if2 .left), k .output),
       (
@@ -68,13 +68,13 @@ advance-requires c κs =
     )
 
 element-write-reached : tie.Need-element-write-reached Inv-loop μ-loop
-element-write-reached c = omega (arith, c .before .before .before .before .before .before .before .before .before .wide2 .ensures, move-ok _ (c .before .before .before .before .before .before .before .before .before .before .before .before .before .before .before .pre .0) (c .before .before .before .before .before .before .before .before .before .before .before .before .before .loop .i) (omega arith) .to)
+element-write-reached c = omega (arith, c .before .before .before .before .before .before .before .before .before .u8-to-usize2 .ensures, move-ok _ (c .before .before .before .before .before .before .before .before .before .before .before .before .before .before .before .pre .0) (c .before .before .before .before .before .before .before .before .before .before .before .before .before .loop .i) (omega arith) .to)
 
 loop-again-4 : tie.Need-loop-again-4 Inv-loop μ-loop
 loop-again-4 c =
     let l = c .before .before .before .before .before .before .before .before .before .before .before .before .before .loop in
-    let w = c .before .before .before .before .before .before .before .before .before .before .wide .ensures in
-    let z = c .before .before .before .before .before .before .before .before .before .wide2 .ensures in (
+    let w = c .before .before .before .before .before .before .before .before .before .before .u8-to-usize .ensures in
+    let z = c .before .before .before .before .before .before .before .before .before .u8-to-usize2 .ensures in (
       omega arith,
       rw z
           (going-stores _ _ (c .before .before .before .before .before .before .before .before .before .before .before .before .before .before .before .pre .0) _ _ _ _ _ (l .inv .1) _ (omega arith) (moved (l .reached) w (not-false _ (c .before .before .before .before .before .before .before .if1 .left))) (moved (l .reached) z (c .before .before .before .before .before .if2 .left))

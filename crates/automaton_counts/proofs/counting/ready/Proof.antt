@@ -22,9 +22,9 @@ returns c = holds (subst (λ (n : Input). Ready (c .before .before .args .counts
 returns-2 : tie.Need-returns-2
 returns-2 c =
     let s = c .before .before .before .before .before .args in
-    let w = 16 * s .s + c .before .wide .result in
+    let w = 16 * s .s + c .before .u8-to-usize .result in
     subst (λ (n : Input). Tells (ltb 0 (at (s .counts .now) w)) (Ready (s .counts .now) (s .s) n)) (sym (c .before .before .before .input .given .1))
-    (subst (λ (k : ℕ). Tells (ltb 0 (at (s .counts .now) w)) (0 < at (s .counts .now) (16 * s .s + k))) (c .before .wide .ensures) (tells-ltb 0 (at (s .counts .now) w)))
+    (subst (λ (k : ℕ). Tells (ltb 0 (at (s .counts .now) w)) (0 < at (s .counts .now) (16 * s .s + k))) (c .before .u8-to-usize .ensures) (tells-ltb 0 (at (s .counts .now) w)))
 
 pub ready-spec : {M : Type 1} → statement M
 ready-spec =

@@ -1,6 +1,6 @@
 -- `finals_of` copies the bits one by one.
 use Rattle.basis.specs.Tests.{flag}
-use Rattle.automaton_counts.specs.Inner.Emits.{finalBit}
+use Rattle.plan.specs.Plan.{finalBit}
 use lib.Seq.{getD-set-same, getD-set-other}
 use lib.ListN.{length, length-set}
 use borrow.Author.Count.{below-more}

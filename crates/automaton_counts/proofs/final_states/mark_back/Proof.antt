@@ -21,28 +21,28 @@ loop-holds : tie.Need-loop-holds Inv-loop μ-loop
 loop-holds c = (omega arith, c .before .pre .1)
 
 array-read-if1 : tie.Need-array-read-if1 Inv-loop μ-loop
-array-read-if1 c = omega (arith, c .before .wide .ensures, move-ok _ (c .before .before .before .before .before .before .pre .0) (c .before .before .before .before .loop .i) (omega arith) .from)
+array-read-if1 c = omega (arith, c .before .u8-to-usize .ensures, move-ok _ (c .before .before .before .before .before .before .pre .0) (c .before .before .before .before .loop .i) (omega arith) .from)
 
 loop-again : tie.Need-loop-again Inv-loop μ-loop
 loop-again c =
     let l = c .before .before .before .before .before .loop in
-    (omega arith, back-stay _ (c .before .before .before .before .before .before .before .pre .0) _ _ _ _ (l .inv .1) (λ _. moved (l .marked) (c .before .before .wide .ensures) (c .if1 .taken)))
+    (omega arith, back-stay _ (c .before .before .before .before .before .before .before .pre .0) _ _ _ _ (l .inv .1) (λ _. moved (l .marked) (c .before .before .u8-to-usize .ensures) (c .if1 .taken)))
 
 array-read-if2 : tie.Need-array-read-if2 Inv-loop μ-loop
-array-read-if2 c = omega (arith, c .before .wide2 .ensures, move-ok _ (c .before .before .before .before .before .before .before .pre .0) (c .before .before .before .before .before .loop .i) (omega arith) .to)
+array-read-if2 c = omega (arith, c .before .u8-to-usize2 .ensures, move-ok _ (c .before .before .before .before .before .before .before .pre .0) (c .before .before .before .before .before .loop .i) (omega arith) .to)
 
 loop-again-2 : tie.Need-loop-again-2 Inv-loop μ-loop
 loop-again-2 c =
     let l = c .before .before .before .before .before .before .loop in
-    (omega arith, back-stay _ (c .before .before .before .before .before .before .before .before .pre .0) _ _ _ _ (l .inv .1) (λ h. absurd (clash (sym h ∙ moved (l .marked) (c .before .before .wide2 .ensures) (not-true _ (c .if2 .taken))))))
+    (omega arith, back-stay _ (c .before .before .before .before .before .before .before .before .pre .0) _ _ _ _ (l .inv .1) (λ h. absurd (clash (sym h ∙ moved (l .marked) (c .before .before .u8-to-usize2 .ensures) (not-true _ (c .if2 .taken))))))
 
 array-write-marked : tie.Need-array-write-marked Inv-loop μ-loop
-array-write-marked c = omega (arith, c .before .before .before .wide .ensures, move-ok _ (c .before .before .before .before .before .before .before .before .pre .0) (c .before .before .before .before .before .before .loop .i) (omega arith) .from)
+array-write-marked c = omega (arith, c .before .before .before .u8-to-usize .ensures, move-ok _ (c .before .before .before .before .before .before .before .before .pre .0) (c .before .before .before .before .before .before .loop .i) (omega arith) .from)
 
 loop-again-3 : tie.Need-loop-again-3 Inv-loop μ-loop
 loop-again-3 c =
     let l = c .before .before .before .before .before .before .loop in
-    (omega arith, rw (c .before .before .before .wide .ensures) (back-store _ (c .before .before .before .before .before .before .before .before .pre .0) _ _ _ _ (l .inv .1) (omega arith) (moved (l .marked) (c .before .before .before .wide .ensures) (c .before .if1 .left)) (moved (l .marked) (c .before .before .wide2 .ensures) (not-false _ (c .if2 .left)))))
+    (omega arith, rw (c .before .before .before .u8-to-usize .ensures) (back-store _ (c .before .before .before .before .before .before .before .before .pre .0) _ _ _ _ (l .inv .1) (omega arith) (moved (l .marked) (c .before .before .before .u8-to-usize .ensures) (c .before .if1 .left)) (moved (l .marked) (c .before .before .u8-to-usize2 .ensures) (not-false _ (c .if2 .left)))))
 
 returns : tie.Need-returns Inv-loop μ-loop
 returns c =

@@ -12,7 +12,7 @@ use Rattle.plan_write.proofs.bytes.node_map.Tie as tie
 returns : tie.Need-returns
 unfolding nodeMap
 returns c = let n = c .before .before .before .before .args .n in
-    let e = ap (λ (x : ℕ). digit (present x)) (c .before .wide .ensures) in
+    let e = ap (λ (x : ℕ). digit (present x)) (c .before .u8-to-u32 .ensures) in
     omega (arith, node-sum (n .kind) (present (n .duration)) (present (n .count)), c .bit-of2 .ensures .0 ∙ e)
 
 pub node-map-spec : {M : Type 1} → statement M

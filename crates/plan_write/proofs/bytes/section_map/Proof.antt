@@ -13,10 +13,10 @@ returns c = let a = c .before .before .before .before .before .before .before .b
     omega (
       arith,
       section-sum (present (a .resources)) (present (a .peripherals)) (present (a .events)) (present (a .activities)),
-      c .before .before .before .before .before .before .bit-of .ensures .0 ∙ ap (λ (x : ℕ). digit (present x)) (c .before .before .before .before .before .before .before .wide .ensures),
-      c .before .before .before .before .bit-of2 .ensures .0 ∙ ap (λ (x : ℕ). digit (present x)) (c .before .before .before .before .before .wide2 .ensures),
-      c .before .before .bit-of3 .ensures .0 ∙ ap (λ (x : ℕ). digit (present x)) (c .before .before .before .wide3 .ensures),
-      c .bit-of4 .ensures .0 ∙ ap (λ (x : ℕ). digit (present x)) (c .before .wide4 .ensures),
+      c .before .before .before .before .before .before .bit-of .ensures .0 ∙ ap (λ (x : ℕ). digit (present x)) (c .before .before .before .before .before .before .before .u8-to-u32 .ensures),
+      c .before .before .before .before .bit-of2 .ensures .0 ∙ ap (λ (x : ℕ). digit (present x)) (c .before .before .before .before .before .u8-to-u322 .ensures),
+      c .before .before .bit-of3 .ensures .0 ∙ ap (λ (x : ℕ). digit (present x)) (c .before .before .before .u8-to-u323 .ensures),
+      c .bit-of4 .ensures .0 ∙ ap (λ (x : ℕ). digit (present x)) (c .before .u8-to-u324 .ensures),
     )
 
 pub section-map-spec : {M : Type 1} → statement M

@@ -24,13 +24,13 @@ abbrev μ-loop : tie.MeasureT-loop
 loop-holds : tie.Need-loop-holds Inv-loop μ-loop
 loop-holds c = (omega arith, omega arith, rw sub-zero)
 
-inside : (c : tie.After-wide2 Inv-loop μ-loop) → c .wide2 .result < c .before .before .before .before .before .args .t1 .count
-inside c = omega (arith, c .wide2 .ensures, c .before .before .before .before .before .pre .within (c .before .before .before .loop .j) (omega arith))
+inside : (c : tie.After-u8-to-usize2 Inv-loop μ-loop) → c .u8-to-usize2 .result < c .before .before .before .before .before .args .t1 .count
+inside c = omega (arith, c .u8-to-usize2 .ensures, c .before .before .before .before .before .pre .within (c .before .before .before .loop .j) (omega arith))
 
-named : (c : tie.After-wide2 Inv-loop μ-loop) → KindFits 16 16 (getD (c .before .before .before .before .before .args .t1 .nodes) (c .wide2 .result) pastNode .kind)
+named : (c : tie.After-u8-to-usize2 Inv-loop μ-loop) → KindFits 16 16 (getD (c .before .before .before .before .before .args .t1 .nodes) (c .u8-to-usize2 .result) pastNode .kind)
 named c =
     let p = c .before .before .before .before .before .pre in
-    kind-fits {R = p .resources} {E = p .events} (getD (c .before .before .before .before .before .args .t1 .nodes) (c .wide2 .result) pastNode .kind) (p .few-resources) (p .few-events) (p .activity .nodes (c .wide2 .result) (inside c) .names)
+    kind-fits {R = p .resources} {E = p .events} (getD (c .before .before .before .before .before .args .t1 .nodes) (c .u8-to-usize2 .result) pastNode .kind) (p .few-resources) (p .few-events) (p .activity .nodes (c .u8-to-usize2 .result) (inside c) .names)
 
 mul-end : tie.Need-mul-end Inv-loop μ-loop
 mul-end c = omega (arith, inside c, c .before .before .before .before .before .pre .activity .count)
@@ -47,26 +47,26 @@ element-copy-out-x c = omega (arith, inside (c .before), c .before .before .befo
 loop-again : tie.Need-loop-again Inv-loop μ-loop
 loop-again c = let a = c .before .before .before .before .before .before .before .before .before .args in
     let l = c .before .before .before .before .before .before .before .loop in
-    let n = c .before .before .before .before .wide2 in
+    let n = c .before .before .before .before .u8-to-usize2 in
     (omega arith, omega arith, leaves (a .t1) (a .t2) (l .j) (n .result) (l .h) (n .ensures) (inside (c .before .before .before .before)) (omega arith) (l .inv .2) (leaves-action (n .result) (at (a .t2 .end) (n .result)) (getD (a .t1 .nodes) (n .result) pastNode .kind) (l .h) _ _ (c .enum-told .given .1)))
 
 loop-again-2 : tie.Need-loop-again-2 Inv-loop μ-loop
 loop-again-2 c = let a = c .before .before .before .before .before .before .before .before .before .args in
     let l = c .before .before .before .before .before .before .before .loop in
-    let n = c .before .before .before .before .wide2 in
+    let n = c .before .before .before .before .u8-to-usize2 in
     (omega arith, omega arith, leaves (a .t1) (a .t2) (l .j) (n .result) (l .h) (n .ensures) (inside (c .before .before .before .before)) (omega arith) (l .inv .2) (leaves-claim (n .result) (at (a .t2 .end) (n .result)) (getD (a .t1 .nodes) (n .result) pastNode .kind) (l .h) _ (c .enum-told2 .given .1)))
 
 element-set-from-end : tie.Need-element-set-from-end Inv-loop μ-loop
-element-set-from-end c = omega (arith, c .wide3 .ensures, subst (KindFits 16 16) (c .before .before .k .given .1) (named (c .before .before .before .before .before .before)))
+element-set-from-end c = omega (arith, c .u8-to-usize3 .ensures, subst (KindFits 16 16) (c .before .before .k .given .1) (named (c .before .before .before .before .before .before)))
 
 loop-again-3 : tie.Need-loop-again-3 Inv-loop μ-loop
 loop-again-3 c = let a = c .before .before .before .before .before .before .before .before .before .before .before .args in
     let l = c .before .before .before .before .before .before .before .before .before .loop in
-    let n = c .before .before .before .before .before .before .wide2 in
-    (omega arith, omega arith, leaves (a .t1) (a .t2) (l .j) (n .result) (l .h) (n .ensures) (inside (c .before .before .before .before .before .before)) (omega arith) (l .inv .2) (leaves-release (n .result) (at (a .t2 .end) (n .result)) (getD (a .t1 .nodes) (n .result) pastNode .kind) (l .h) _ _ (c .before .before .k .given .1) (c .wide3 .ensures)))
+    let n = c .before .before .before .before .before .before .u8-to-usize2 in
+    (omega arith, omega arith, leaves (a .t1) (a .t2) (l .j) (n .result) (l .h) (n .ensures) (inside (c .before .before .before .before .before .before)) (omega arith) (l .inv .2) (leaves-release (n .result) (at (a .t2 .end) (n .result)) (getD (a .t1 .nodes) (n .result) pastNode .kind) (l .h) _ _ (c .before .before .k .given .1) (c .u8-to-usize3 .ensures)))
 
-known : (c : tie.After-wide4 Inv-loop μ-loop) → c .wide4 .result < 16
-known c = omega (arith, c .wide4 .ensures, subst (KindFits 16 16) (c .before .before .k2 .given .1) (named (c .before .before .before .before .before .before)))
+known : (c : tie.After-u8-to-usize4 Inv-loop μ-loop) → c .u8-to-usize4 .result < 16
+known c = omega (arith, c .u8-to-usize4 .ensures, subst (KindFits 16 16) (c .before .before .k2 .given .1) (named (c .before .before .before .before .before .before)))
 
 element-copy-out-last : tie.Need-element-copy-out-last Inv-loop μ-loop
 element-copy-out-last c = known c
@@ -78,7 +78,7 @@ element-copy-out-length : tie.Need-element-copy-out-length Inv-loop μ-loop
 element-copy-out-length c = known (c .before .before)
 
 element-set-from-h-2 : tie.Need-element-set-from-h-2 Inv-loop μ-loop
-element-set-from-h-2 c = omega (arith, c .wide5 .ensures, known (c .before .before .before .before .before), c .before .if1 .taken)
+element-set-from-h-2 c = omega (arith, c .u8-to-usize5 .ensures, known (c .before .before .before .before .before), c .before .if1 .taken)
 
 element-write-h : tie.Need-element-write-h Inv-loop μ-loop
 element-write-h c = known (c .before .before .before .before .before)
@@ -86,14 +86,14 @@ element-write-h c = known (c .before .before .before .before .before)
 loop-again-4 : tie.Need-loop-again-4 Inv-loop μ-loop
 loop-again-4 c = let a = c .before .before .before .before .before .before .before .before .before .before .before .before .before .before .before .before .args in
     let l = c .before .before .before .before .before .before .before .before .before .before .before .before .before .before .loop in
-    let n = c .before .before .before .before .before .before .before .before .before .before .before .wide2 in
-    (omega arith, omega arith, leaves (a .t1) (a .t2) (l .j) (n .result) (l .h) (n .ensures) (inside (c .before .before .before .before .before .before .before .before .before .before .before)) (omega arith) (l .inv .2) (leaves-joined (n .result) (at (a .t2 .end) (n .result)) (getD (a .t1 .nodes) (n .result) pastNode .kind) (l .h) _ _ _ _ _ (c .before .before .before .before .before .before .before .k2 .given .1) (c .before .before .before .before .before .wide4 .ensures) (c .before .before .before .later .ensures) (c .wide5 .ensures) (n .ensures) (c .before .if1 .taken)))
+    let n = c .before .before .before .before .before .before .before .before .before .before .before .u8-to-usize2 in
+    (omega arith, omega arith, leaves (a .t1) (a .t2) (l .j) (n .result) (l .h) (n .ensures) (inside (c .before .before .before .before .before .before .before .before .before .before .before)) (omega arith) (l .inv .2) (leaves-joined (n .result) (at (a .t2 .end) (n .result)) (getD (a .t1 .nodes) (n .result) pastNode .kind) (l .h) _ _ _ _ _ (c .before .before .before .before .before .before .before .k2 .given .1) (c .before .before .before .before .before .u8-to-usize4 .ensures) (c .before .before .before .later .ensures) (c .u8-to-usize5 .ensures) (n .ensures) (c .before .if1 .taken)))
 
 loop-again-5 : tie.Need-loop-again-5 Inv-loop μ-loop
 loop-again-5 c = let a = c .before .before .before .before .before .before .before .before .before .before .before .before .before .before .before .args in
     let l = c .before .before .before .before .before .before .before .before .before .before .before .before .before .loop in
-    let n = c .before .before .before .before .before .before .before .before .before .before .wide2 in
-    (omega arith, omega arith, leaves (a .t1) (a .t2) (l .j) (n .result) (l .h) (n .ensures) (inside (c .before .before .before .before .before .before .before .before .before .before)) (omega arith) (l .inv .2) (leaves-dropped (n .result) (at (a .t2 .end) (n .result)) (getD (a .t1 .nodes) (n .result) pastNode .kind) (l .h) _ _ _ (c .before .before .before .before .before .before .k2 .given .1) (c .before .before .before .before .wide4 .ensures) (c .before .before .later .ensures) (c .if1 .left)))
+    let n = c .before .before .before .before .before .before .before .before .before .before .u8-to-usize2 in
+    (omega arith, omega arith, leaves (a .t1) (a .t2) (l .j) (n .result) (l .h) (n .ensures) (inside (c .before .before .before .before .before .before .before .before .before .before)) (omega arith) (l .inv .2) (leaves-dropped (n .result) (at (a .t2 .end) (n .result)) (getD (a .t1 .nodes) (n .result) pastNode .kind) (l .h) _ _ _ (c .before .before .before .before .before .before .k2 .given .1) (c .before .before .before .before .u8-to-usize4 .ensures) (c .before .before .later .ensures) (c .if1 .left)))
 
 returns : tie.Need-returns Inv-loop μ-loop
 returns c = let a = c .before .before .before .args in

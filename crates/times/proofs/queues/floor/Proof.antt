@@ -9,8 +9,8 @@ use Rattle.times.specs.Queues.{floorOf}
 use Rattle.times.proofs.queues.floor.Statement.{statement}
 use Rattle.times.proofs.queues.floor.Tie as tie
 
-inside : (c : tie.After-wide) → c .wide .result < 16
-inside c = omega (arith, c .wide .ensures, subst (InputFits 16) (c .before .before .input .given .1) (c .before .before .before .before .pre))
+inside : (c : tie.After-u8-to-usize) → c .u8-to-usize .result < 16
+inside c = omega (arith, c .u8-to-usize .ensures, subst (InputFits 16) (c .before .before .input .given .1) (c .before .before .before .before .pre))
 
 element-copy-out-if1 : tie.Need-element-copy-out-if1
 element-copy-out-if1 c = inside c
@@ -24,11 +24,11 @@ returns c = floor-nothing _ _ (c .enum-told .given .1)
 
 returns-2 : tie.Need-returns-2
 unfolding floorOf
-returns-2 c = floor-oldest _ _ _ _ _ (c .before .before .before .before .before .before .input .given .1) (c .before .before .before .before .wide .ensures) (c .before .before .if1 .taken)
+returns-2 c = floor-oldest _ _ _ _ _ (c .before .before .before .before .before .before .input .given .1) (c .before .before .before .before .u8-to-usize .ensures) (c .before .before .if1 .taken)
 
 returns-3 : tie.Need-returns-3
 unfolding floorOf
-returns-3 c = floor-none _ _ _ _ _ (c .before .before .before .before .input .given .1) (c .before .before .wide .ensures) (c .if1 .left)
+returns-3 c = floor-none _ _ _ _ _ (c .before .before .before .before .input .given .1) (c .before .before .u8-to-usize .ensures) (c .if1 .left)
 
 pub floor-spec : {M : Type 1} → statement M
 floor-spec =

@@ -26,14 +26,14 @@ abbrev μ-loop : tie.MeasureT-loop
 returns : tie.Need-returns Inv-loop μ-loop
 returns c = processed-nothing _ _ (c .enum-told .given .1)
 
-inside : (c : tie.After-wide Inv-loop μ-loop) → c .wide .result < 16
-inside c = omega (arith, c .wide .ensures, subst (InputFits 16) (c .before .before .input .given .1) (c .before .before .before .before .pre))
+inside : (c : tie.After-u8-to-usize Inv-loop μ-loop) → c .u8-to-usize .result < 16
+inside c = omega (arith, c .u8-to-usize .ensures, subst (InputFits 16) (c .before .before .input .given .1) (c .before .before .before .before .pre))
 
 element-copy-out-n : tie.Need-element-copy-out-n Inv-loop μ-loop
 element-copy-out-n c = inside c
 
 returns-2 : tie.Need-returns-2 Inv-loop μ-loop
-returns-2 c = processed-none _ _ _ _ _ (c .before .before .before .before .input .given .1) (c .before .before .wide .ensures) (omega arith)
+returns-2 c = processed-none _ _ _ _ _ (c .before .before .before .before .input .given .1) (c .before .before .u8-to-usize .ensures) (omega arith)
 
 sub-h : tie.Need-sub-h Inv-loop μ-loop
 sub-h c = omega (arith, c .if1 .left)
@@ -52,7 +52,7 @@ mul-j c = omega (arith, inside (c .before .before))
 
 loop-holds : tie.Need-loop-holds Inv-loop μ-loop
 loop-holds c =
-    let i = c .before .before .wide .result in
+    let i = c .before .before .u8-to-usize .result in
     let e : 8 * i + 7 - 8 * i ≡ 7 = omega arith in
     (omega arith, omega arith, refl, rw e)
 
@@ -77,7 +77,7 @@ add-j c = omega (arith, inside (c .before .before .before .before .before))
 loop-again : tie.Need-loop-again Inv-loop μ-loop
 loop-again c =
     let l = c .before .before .loop in
-    let i = c .before .before .before .before .before .wide .result in (
+    let i = c .before .before .before .before .before .u8-to-usize .result in (
       omega arith,
       omega arith,
       ap (λ (g : Progress). withPending g (set (l .h .pending) (l .j) (getD (l .h .pending) (l .j + 1) noInstance))) (l .inv .2),
@@ -94,13 +94,13 @@ returns-3 : tie.Need-returns-3 Inv-loop μ-loop
 returns-3 c =
     let l = c .before .loop in
     let g = c .before .before .before .before .before .before .before .before .args .t2 in
-    let i = c .before .before .before .before .wide .result in
+    let i = c .before .before .before .before .u8-to-usize .result in
     let e : l .j ≡ 8 * i + 7 = omega arith in
     let q : shiftedOf (8 * i) 7 (g .pending) ≡ set (l .h .pending) (8 * i + 7) noInstance =
-        l .inv .3 ∙ shifted-end (l .h .pending) (l .j) (8 * i + 7) (omega arith) ∙ ap (λ (k : ℕ). set (l .h .pending) k noInstance) e in
+    l .inv .3 ∙ shifted-end (l .h .pending) (l .j) (8 * i + 7) (omega arith) ∙ ap (λ (k : ℕ). set (l .h .pending) k noInstance) e in
     ap (λ (f : Progress). withPending f (set (l .h .pending) (8 * i + 7) noInstance)) (l .inv .2)
     ∙ sym (ap (λ (p : List Instance). record { available = g .available; latest = g .latest; lengths = set (g .lengths) i (pendingOf g i - 1); pending = p; position = g .position; state = g .state }) q)
-    ∙ processed-oldest _ _ _ _ _ (c .before .before .before .before .before .before .input .given .1) (c .before .before .before .before .wide .ensures) (omega (arith, c .before .before .if1 .left))
+    ∙ processed-oldest _ _ _ _ _ (c .before .before .before .before .before .before .input .given .1) (c .before .before .before .before .u8-to-usize .ensures) (omega (arith, c .before .before .if1 .left))
 
 pub processed-spec : {M : Type 1} → statement M
 processed-spec =

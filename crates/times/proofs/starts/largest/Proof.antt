@@ -27,10 +27,10 @@ abbrev μ-loop : tie.MeasureT-loop
 loop-holds : tie.Need-loop-holds Inv-loop μ-loop
 loop-holds c = (omega arith, omega arith, λ end e. rw sub-zero (omega arith))
 
-inside : (c : tie.After-wide2 Inv-loop μ-loop) → c .wide2 .result < 64
+inside : (c : tie.After-u8-to-usize2 Inv-loop μ-loop) → c .u8-to-usize2 .result < 64
 inside c =
     let l = c .before .before .before .loop in
-    omega (arith, c .wide2 .ensures, c .before .before .before .before .before .pre .within (l .j) (omega arith))
+    omega (arith, c .u8-to-usize2 .ensures, c .before .before .before .before .before .pre .within (l .j) (omega arith))
 
 mul-t : tie.Need-mul-t Inv-loop μ-loop
 mul-t c = omega (arith, inside c)
@@ -46,7 +46,7 @@ loop-again c =
       omega arith,
       λ end e.
           let s = largest-on end (a .t1 .preds) (l .j) (a .t1 .count) (omega arith) in
-          let v = ap (λ (m : ℕ). getD (now (a .ends)) m 0) (c .before .before .wide2 .ensures) ∙ ap (λ (z : List ℕ). getD z (getD (a .t1 .preds) (l .j) 0) 0) e ∙ number-at end (getD (a .t1 .preds) (l .j) 0) in
+          let v = ap (λ (m : ℕ). getD (now (a .ends)) m 0) (c .before .before .u8-to-usize2 .ensures) ∙ ap (λ (z : List ℕ). getD z (getD (a .t1 .preds) (l .j) 0) 0) e ∙ number-at end (getD (a .t1 .preds) (l .j) 0) in
           omega (arith, c .larger .ensures, l .inv .2 end e),
     )
 

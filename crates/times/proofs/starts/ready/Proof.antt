@@ -24,17 +24,17 @@ loop-holds c = (omega arith, omega arith, rw sub-zero)
 
 element-copy-out-if1 : tie.Need-element-copy-out-if1 Inv-loop μ-loop
 element-copy-out-if1 c = let l = c .before .before .before .loop in
-    omega (arith, c .wide2 .ensures, c .before .before .before .before .before .pre .within (l .j) (omega arith))
+    omega (arith, c .u8-to-usize2 .ensures, c .before .before .before .before .before .pre .within (l .j) (omega arith))
 
 returns : tie.Need-returns Inv-loop μ-loop
 returns c = let a = c .before .before .before .before .before .before .before .args in
     let l = c .before .before .before .before .before .loop in
-    sym (l .inv .2 ∙ ready-not (now (a .done)) (a .t1 .preds) (l .j) (a .t1 .count) (omega arith) (ap (flag (now (a .done))) (sym (c .before .before .wide2 .ensures)) ∙ not-true _ (c .if1 .taken)))
+    sym (l .inv .2 ∙ ready-not (now (a .done)) (a .t1 .preds) (l .j) (a .t1 .count) (omega arith) (ap (flag (now (a .done))) (sym (c .before .before .u8-to-usize2 .ensures)) ∙ not-true _ (c .if1 .taken)))
 
 loop-again : tie.Need-loop-again Inv-loop μ-loop
 loop-again c = let a = c .before .before .before .before .before .before .before .args in
     let l = c .before .before .before .before .before .loop in
-    (omega arith, omega arith, l .inv .2 ∙ ready-on (now (a .done)) (a .t1 .preds) (l .j) (a .t1 .count) (omega arith) (ap (flag (now (a .done))) (sym (c .before .before .wide2 .ensures)) ∙ not-false _ (c .if1 .left)))
+    (omega arith, omega arith, l .inv .2 ∙ ready-on (now (a .done)) (a .t1 .preds) (l .j) (a .t1 .count) (omega arith) (ap (flag (now (a .done))) (sym (c .before .before .u8-to-usize2 .ensures)) ∙ not-false _ (c .if1 .left)))
 
 returns-2 : tie.Need-returns-2 Inv-loop μ-loop
 returns-2 c = let a = c .before .before .before .args in

@@ -26,7 +26,7 @@ abbrev μ-loop : tie.MeasureT-loop
 loop-holds : tie.Need-loop-holds Inv-loop μ-loop
 loop-holds c =
     let a = c .before .before .args in
-    (omega arith, c .before .wide .ensures, sym (ap (λ (z : Schedule). numbers (z .end)) (c .unstarted .ensures)), rounding-starts (a .t1) (a .t2) (a .t3) (c .unstarted .result) (c .unstarted .ensures))
+    (omega arith, c .before .u8-to-usize .ensures, sym (ap (λ (z : Schedule). numbers (z .end)) (c .unstarted .ensures)), rounding-starts (a .t1) (a .t2) (a .t3) (c .unstarted .result) (c .unstarted .ensures))
 
 returns : tie.Need-returns Inv-loop μ-loop
 returns c =
@@ -116,7 +116,7 @@ add-end c =
     let l = c .before .before .before .before .before .before .before .before .before .before .before .before .before .before .before .before .before .before .loop in
     let low : l .n < s .args .t1 .count = omega (arith, c .before .before .before .before .before .before .before .before .before .before .before .before .before .before .before .before .if1 .left) in
     let start = ap (λ (z : Specified). z .0) (c .before .before .starting .ensures ∙ ap specified (start-found (s .args .t2) (s .args .t3) (l .u .end) (getD (s .args .t1 .nodes) (l .n) pastNode) (c .before .before .before .largest .ensures (l .u .end) (l .inv .2)) (c .before .before .before .before .before .before .before .before .claim-of .ensures) (c .before .before .before .before .before .before .event-of .ensures))) in
-    omega (arith, start, c .before .long .ensures, start-small _ _ _ (s .pre) (l .n) low (l .u) (l .inv .3 .sound), s .pre .activity .nodes (l .n) low .duration, room _ _ _ (s .pre) (l .n) low (l .u) (l .inv .3 .sound) (c .before .before .before .before .before .before .before .before .before .before .before .before .before .before .if3 .left))
+    omega (arith, start, c .before .u32-to-u64 .ensures, start-small _ _ _ (s .pre) (l .n) low (l .u) (l .inv .3 .sound), s .pre .activity .nodes (l .n) low .duration, room _ _ _ (s .pre) (l .n) low (l .u) (l .inv .3 .sound) (c .before .before .before .before .before .before .before .before .before .before .before .before .before .before .if3 .left))
 
 array-write-ends : tie.Need-array-write-ends Inv-loop μ-loop
 array-write-ends c = omega (arith, c .before .before .before .before .before .before .before .before .before .before .before .before .before .before .before .before .before .if1 .left, c .before .before .before .before .before .before .before .before .before .before .before .before .before .before .before .before .before .before .before .before .before .before .pre .activity .count)
@@ -137,7 +137,7 @@ element-write-u-2 : tie.Need-element-write-u-2 Inv-loop μ-loop
 element-write-u-2 c =
     let l = c .before .before .before .before .before .before .before .before .before .before .before .before .before .before .before .before .before .before .before .loop in
     let low : l .n < c .before .before .before .before .before .before .before .before .before .before .before .before .before .before .before .before .before .before .before .before .before .before .args .t1 .count = omega (arith, c .before .before .before .before .before .before .before .before .before .before .before .before .before .before .before .before .before .if1 .left) in
-    omega (arith, c .wide2 .ensures, room _ _ _ (c .before .before .before .before .before .before .before .before .before .before .before .before .before .before .before .before .before .before .before .before .before .before .pre) (l .n) low (l .u) (l .inv .3 .sound) (c .before .before .before .before .before .before .before .before .before .before .before .before .before .before .before .if3 .left))
+    omega (arith, c .u8-to-usize2 .ensures, room _ _ _ (c .before .before .before .before .before .before .before .before .before .before .before .before .before .before .before .before .before .before .before .before .before .before .pre) (l .n) low (l .u) (l .inv .3 .sound) (c .before .before .before .before .before .before .before .before .before .before .before .before .before .before .before .if3 .left))
 
 add-u : tie.Need-add-u Inv-loop μ-loop
 add-u c =
@@ -155,10 +155,10 @@ loop-again-4 c =
     let low : l .n < s .args .t1 .count = omega (arith, c .before .before .before .before .before .before .before .before .before .before .before .before .before .before .before .before .before .if1 .left) in
     let x = getD (s .args .t1 .nodes) (l .n) pastNode in
     let start = c .before .before .before .starting .ensures ∙ ap specified (start-found (s .args .t2) (s .args .t3) (l .u .end) x (c .before .before .before .before .largest .ensures (l .u .end) (l .inv .2)) (c .before .before .before .before .before .before .before .before .before .claim-of .ensures) (c .before .before .before .before .before .before .before .event-of .ensures)) in
-    let e = stored-placed (l .n) (l .u) start (c .before .before .long .ensures) (c .wide2 .ensures) in (
+    let e = stored-placed (l .n) (l .u) start (c .before .before .u32-to-u64 .ensures) (c .u8-to-usize2 .ensures) in (
       omega arith,
       l .inv .1,
-      ap (λ z. set z (l .n) (c .before .before .before .starting .result .0 + c .before .before .long .result)) (l .inv .2) ∙ number-set (l .u .end) (l .n) (specified (c .before .before .before .starting .result .0 + c .before .before .long .result)),
+      ap (λ z. set z (l .n) (c .before .before .before .starting .result .0 + c .before .before .u32-to-u64 .result)) (l .inv .2) ∙ number-set (l .u .end) (l .n) (specified (c .before .before .before .starting .result .0 + c .before .before .u32-to-u64 .result)),
       rounding-turn _ _ _ (l .rounds) (l .from) (l .n) (l .u) (omega arith) (l .inv .3) _ low
           (visit-placed _ _ _ _ _ (c .before .before .before .before .before .before .before .before .before .before .before .before .before .before .before .if3 .left) (sym (c .before .before .before .before .before .before .before .before .before .before .before .ready .ensures) ∙ not-false _ (c .before .before .before .before .before .before .before .before .before .before .if4 .left)) ∙ e)
           (subst (Sound (s .args .t1 .count)) e (placed-sound _ _ _ (s .pre) (l .n) low (l .u) (l .inv .3 .sound) (c .before .before .before .before .before .before .before .before .before .before .before .before .before .before .before .if3 .left))),
