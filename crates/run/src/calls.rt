@@ -4,15 +4,14 @@ use crate::Halt;
 use crate::Reply;
 use crate::Run;
 use crate::Stop;
+use basis::u8_to_usize;
+use plan::is_final;
 use run_window::Entry;
 use time::Clock;
-ghost use mathlib.Core.Bool.{cond, _&&_};
 ghost use mathlib.Core.Path.{_≡_};
-ghost use Prim.Native.Nat.{_<_, _/_, _%_, _^_};
-ghost use lib.Dec.{eqb};
-ghost use Rattle.run_window.specs.Window.{isEmpty};
-ghost use Rattle.run.specs.declared.Reply.{Reply};
+ghost use Prim.Native.Nat.{_<_};
 ghost use Rattle.run.specs.Calls.{stops};
+ghost use Rattle.run.specs.Inner.Effects.{restsAs};
 
 // A stop is kept, and its reading is the last one.
 pub fn stops(run: Run, t: Clock, s: Stop) -> Answer
@@ -39,9 +38,9 @@ pub fn stops(run: Run, t: Clock, s: Stop) -> Answer
 // "It says done if the path ended in a final state and the window is empty, otherwise wait when nothing is due."
 pub fn at_rest(finals: u64, s: u8, window: [Entry; Run::WINDOW]) -> Reply
     requires { ⌜ s < 64 ⌝ }
-    ensures { λ r. ⌜ r ≡ cond (eqb (finals / 2 ^ s % 2) 1 && isEmpty window) Reply.Done Reply.Wait ⌝ }
+    ensures { λ r. ⌜ r ≡ restsAs finals s window ⌝ }
 {
-    if (finals >> s) % 2 == 1 {
+    if is_final(finals, u8_to_usize(s)) {
         if run_window::is_empty(window) {
             return Reply::Done;
         }

@@ -43,7 +43,7 @@ impl Run {
 
     pub const SLACK_MOST: u64 = run_checks::bounds::SLACK_MOST;
     // the largest position
-    pub const LAST_POSITION: u32 = run_checks::bounds::LAST_POSITION;
+    pub const LAST_POSITION: u32 = times::LAST_POSITION;
 }
 
 pub enum Reply {

@@ -24,7 +24,7 @@ ghost use Rattle.run.specs.Inner.Calls.{firstPath};
 // ---- the run at its opening
 
 // "0 at opening" is the last reading.
-fn uncalled(plan: Plan, psi: Clock, slack: u64, progress: Progress, window: [Entry; 512]) -> Run
+fn uncalled(plan: Plan, psi: Clock, slack: u64, progress: Progress, window: [Entry; Run::WINDOW]) -> Run
     ensures { λ r. ⌜ r ≡ uncalled plan psi slack progress window ⌝ }
 {
     Run {
@@ -45,7 +45,7 @@ fn zero_run() -> Run
     let plan = plan_read::zero_plan();
     let progress = run_opening::at_first([Specified(0); 16], 0);
     let free = run_window::vacant();
-    let window = [free; 512];
+    let window = [free; Run::WINDOW];
     uncalled(plan, Clock(0), 0, progress, window)
 }
 

@@ -1,6 +1,7 @@
 // "50 a run in which a stored count, number or time lies outside this paper's or its plan's limits": the slack and the stop.
 use crate::Halt;
 use crate::Stop;
+use times::LAST_POSITION;
 ghost use mathlib.Core.Path.{_≡_};
 ghost use Rattle.run_checks.specs.Limits.{nodeNamed, stopInLimits, haltInLimits, slackInLimits};
 
@@ -8,9 +9,6 @@ ghost use Rattle.run_checks.specs.Limits.{nodeNamed, stopInLimits, haltI
 pub const SLACK_LEAST: u64 = 1;
 
 pub const SLACK_MOST: u64 = 1_000_000;
-
-// the largest position
-pub const LAST_POSITION: u32 = 1_000_000_000;
 
 // The position and node that a stop names.
 fn node_named(position: u32, node: u8) -> bool

@@ -1,9 +1,10 @@
 // The limits of the window of a run.
 ghost use mathlib.Core.Path.{_≡_};
 ghost use Rattle.run_limits.specs.Window.{namesNode, entryInLimits, windowInLimits};
-use crate::progress::LAST_POSITION;
 use run_window::Entry;
+use run_window::WINDOW;
 use time::HORIZON;
+use times::LAST_POSITION;
 
 // Node n of activity a is one of the plan's.
 fn names_node(activities: u8, sizes: [u8; 32], a: u8, n: u8) -> bool
@@ -38,11 +39,11 @@ pub fn entry_in_limits(activities: u8, sizes: [u8; 32], e: Entry) -> bool
 }
 
 // Every place of the window.
-pub fn window_in_limits(activities: u8, sizes: [u8; 32], window: [Entry; 512]) -> bool
+pub fn window_in_limits(activities: u8, sizes: [u8; 32], window: [Entry; WINDOW]) -> bool
     ensures { λ r. ⌜ r ≡ windowInLimits activities sizes window ⌝ }
 {
     let mut i: usize = 0;
-    while i < 512 {
+    while i < WINDOW {
         let e = window[i];
         if !entry_in_limits(activities, sizes, e) {
             return false;

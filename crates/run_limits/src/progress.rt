@@ -6,10 +6,9 @@ use plan_limits::numbers;
 use time::HORIZON;
 use time::Specified;
 use times::Instance;
+use times::LAST_POSITION;
 use times::Progress;
 use times::Told;
-
-pub const LAST_POSITION: u32 = 1_000_000_000;
 
 // Times at most 10^15.
 fn times_in_limits(count: u8, times: [Specified; 16]) -> bool

@@ -7,6 +7,7 @@ use run_outcomes::way_on;
 use run_path::Pathed;
 use run_path::path;
 use run_window::Entry;
+use run_window::WINDOW;
 use run_window::place;
 use run_window::vacancies;
 use run_window::vacant;
@@ -29,11 +30,11 @@ pub enum Failure {
 pub struct Loading {
     pub failure: Failure,
     pub progress: Progress,
-    pub window: [Entry; 512],
+    pub window: [Entry; WINDOW],
 }
 
 // One path: "44 ..; then 43 the window would pass 512"; "the failing path adds nothing".
-fn settled(found: Pathed, progress: Progress, window: [Entry; 512]) -> Loading
+fn settled(found: Pathed, progress: Progress, window: [Entry; WINDOW]) -> Loading
     ensures { λ r. ⌜ r ≡ settledBy found progress window ⌝ }
 {
     if found.beyond {
@@ -68,7 +69,7 @@ pub fn first(plan: Plan, progress: Progress) -> Loading
     let next = next_of(automaton, automaton.initial);
     let found = path(plan, next, progress);
     let free = vacant();
-    let window = [free; 512];
+    let window = [free; WINDOW];
     settled(found, progress, window)
 }
 
@@ -83,7 +84,7 @@ fn has_failed(failure: Failure) -> bool
 }
 
 // The next paths, each of which processes a reported instance: at most 128 are pending.
-pub fn further(plan: Plan, progress: Progress, window: [Entry; 512]) -> Loading
+pub fn further(plan: Plan, progress: Progress, window: [Entry; WINDOW]) -> Loading
     requires { ⌜ Loads plan progress ⌝ }
     ensures { λ r. ⌜ r ≡ further plan mostPending progress window ⌝ }
 {

@@ -1,17 +1,17 @@
 -- What a call does to a run, and the answer that it then gets.
 use mathlib.Core.Path.{_≡_}
-use mathlib.Core.Bool.{true, cond}
+use mathlib.Core.Bool.{true, cond, _&&_}
 use mathlib.Core.List.{List}
 use Prim.Native.Nat.{ℕ, _+_, _*_, _<_}
 use lib.Dec.{ltb}
 use lib.ListN.{getD, set}
 use Rattle.time.specs.declared.Clock.{Clock}
-use Rattle.plan.specs.Plan.{pastNode, outcomesOf}
+use Rattle.plan.specs.Plan.{pastNode, outcomesOf, finalBit}
 use Rattle.plan.specs.declared.Kind.{Kind}
 use Rattle.run_window.specs.declared.Entry.{Entry}
 use Rattle.run_window.specs.declared.Found.{Found}
 use Rattle.run_window.specs.declared.Sought.{Sought}
-use Rattle.run_window.specs.Window.{vacant, startedOf, onFound}
+use Rattle.run_window.specs.Window.{vacant, startedOf, onFound, isEmpty}
 use Rattle.run_checks.specs.declared.Halt.{Halt}
 use Rattle.run_checks.specs.declared.Refusal.{Refusal}
 use Rattle.run_checks.specs.declared.Objection.{Objection}
@@ -105,6 +105,10 @@ abbrev pub effectOf : Call → Checked → Effect
 effectOf c checked = effectBy c (checked .check) (checked .kind) (checked .most)
 
 -- ---- the answer
+
+-- "It says done if the path ended in a final state and the window is empty, otherwise wait when nothing is due."
+abbrev pub restsAs : ℕ → ℕ → List Entry → Reply
+restsAs finals s w = cond (finalBit finals s && isEmpty w) Reply.Done Reply.Wait
 
 abbrev pub acted : Run → Clock → Effect → Answer
 acted run t (Effect.Stays reply) = answer reply run
