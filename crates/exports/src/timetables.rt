@@ -2,7 +2,7 @@
 use timetable_turns::Put;
 ghost use mathlib.Core.Path.{_≡_};
 ghost use Rattle.timetable_turns.specs.Timetable.{timetableOf};
-ghost use Rattle.timetable_turns.specs.Lent.{putOf, bufferOf};
+ghost use Rattle.timetable_text.specs.Lent.{putOf, bufferOf};
 ghost use Rattle.exports.specs.Lengths.{lengthCode};
 
 // The length of the text, or 36 · 2^32.

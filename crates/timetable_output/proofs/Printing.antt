@@ -12,15 +12,16 @@ use Rattle.times.specs.declared.Progress.{Progress}
 use Rattle.timetable_turns.specs.Inner.Turn.{OneTurn, turnOf, turnsFrom, waitsOf, readAfter, mostTurns, isRefused, firstText, firstProgress}
 use Rattle.timetable_turns.specs.Timetable.{textOfPlan}
 use Rattle.timetable_turns.specs.Laws.ByTurns.{plan-by-turns}
-use Rattle.timetable_turns.specs.Lent.{Lends, pastOf}
-use Rattle.timetable_turns.specs.Laws.Lent.{lent-puts, put-front}
+use Rattle.timetable_text.specs.Lent.{Lends, pastOf}
+use Rattle.timetable_text.specs.Laws.Lent.{lent-puts, put-front}
 use Rattle.timetable_turns.specs.Laws.Hearing.{heard-turn}
 use Rattle.timetable_steps.specs.declared.Heard.{Heard}
-use Rattle.timetable_turns.specs.declared.Put.{Put}
-use Rattle.timetable_output.specs.declared.Output.{Output}
+use Rattle.timetable_text.specs.declared.Put.{Put}
+use Rattle.timetable_streams.specs.declared.Output.{Output}
+use Rattle.timetable_streams.specs.Inner.Gathering.{output, Gathers, HandsOn, Rests}
 use Rattle.timetable_output.specs.declared.Between.{Between}
-use Rattle.timetable_output.specs.Inner.Between.{Gathers, HandsOn, Goes, Prints, Ends, Printed}
-use Rattle.timetable_output.proofs.Turning.{output, between}
+use Rattle.timetable_output.specs.Inner.Between.{Goes, Prints, Ends, Printed}
+use Rattle.timetable_output.proofs.Turning.{between}
 
 -- text that is handed on is no new text
 pub prints-none : (p : Plan) (b : Between) (out : List ℕ) (o : Output) → HandsOn out (b .output) o → Prints p b out out (between o (b .taken) (b .left) (b .progress))
@@ -32,14 +33,6 @@ prints-none p b out o h = record {
 
 pub prints-same : (p : Plan) (b : Between) (out : List ℕ) → Prints p b out out b
 prints-same p b out = prints-none p b out (b .output) (record { count = refl; gathers = λ text g. g })
-
--- output that failed
-pub prints-lost : (p : Plan) (b : Between) (out : List ℕ) (o : Output) → HandsOn out (b .output) o → o .lost ≡ true → Prints p b out out (between o (b .taken) 0 (b .progress))
-prints-lost p b out o h e = record {
-  text = [];
-  gathers = λ l g. subst (λ (t : List ℕ). Gathers t out o) (sym (append-nil l)) (h .gathers l g);
-  onward = λ k rest. clash (sym e ∙ k);
-}
 
 -- one turn, handed a byte only where the state waits for one
 module _ (p : Plan) (b : Between) (heard : Heard) (before after : List ℕ) (r : Between) (more : 0 < b .left) (asked : waitsOf p (b .progress) ≡ false → heard ≡ Heard.Nothing) (g : Goes p b heard before after r) where
@@ -86,13 +79,14 @@ prints-join p b l m n c r whole u v = record {
 pub ends-lost : (p : Plan) (b : Between) (out : List ℕ) (r : Output) → r .lost ≡ true → Ends p b out r
 ends-lost p b out r e = record { all = λ l g k. clash (sym e ∙ k) }
 
-pub ends-whole : (p : Plan) (b : Between) (before after : List ℕ) (c : Between) (r : Output) → Prints p b before after c → c .left ≡ 0 → c .output .lost ≡ false → HandsOn after (c .output) r → r .gathered ≡ 0 → Ends p b before r
+pub ends-rest : (p : Plan) (b : Between) (before after : List ℕ) (c : Between) (r : Output) → Prints p b before after c → c .left ≡ 0 → Rests after (c .output) r → Ends p b before r
 unfolding turnsFrom
-ends-whole p b before after c r u z whole h none = record {
+ends-rest p b before after c r u z h = record {
   all = λ l g k.
-      let f = u .onward whole [] in
+      let f = u .onward (h .went k) [] in
       let w = u .gathers l g .whole in
-      let v = h .count in
+      let v = h .hands .count in
+      let none = h .none k in
       let e : turnsFrom p (b .left) (b .taken) (f .0) (b .progress) ≡ u .text =
       f .1 ∙ ap (λ (n : ℕ). u .text ++ turnsFrom p n (c .taken) [] (c .progress)) z ∙ append-nil (u .text) in
       let y : r .handed ≡ length (l ++ u .text) = omega arith in

@@ -5,37 +5,32 @@ use mathlib.Core.List.{List, _++_}
 use Prim.Native.Nat.{ℕ, _+_, _-_, _≤_, _<_}
 use native.Mathlib.Omega.{arith}
 use lib.ListN.{length, length-append, take, drop}
-use lib.Seq.{sets-eq, take-at, drop-append-le, drop-length, length-take-le}
+use lib.Seq.{sets-eq, take-at, drop-append-le, length-take-le}
 use Rattle.wire.specs.Puts.{Puts}
+use Rattle.plan.specs.declared.Activity.{Activity}
 use Rattle.plan.specs.declared.Plan.{Plan}
 use Rattle.times.specs.declared.Progress.{Progress}
+use Rattle.automaton.specs.Next.{nextOf}
+use Rattle.automaton.specs.declared.Next.{Next}
+use Rattle.run_path.specs.Inner.Path.{emittedOf}
 use Rattle.timetable_steps.specs.declared.Heard.{Heard}
-use Rattle.timetable_turns.specs.Inner.Turn.{OneTurn, turnOf, Open}
+use Rattle.timetable_steps.specs.declared.Step.{Step}
+use Rattle.timetable_steps.specs.Inner.Steps.{nextStep, stepOf, outputOf}
+use Rattle.timetable_streams.specs.Inner.Asking.{asks}
+use Rattle.timetable_turns.specs.Inner.Turn.{OneTurn, turnOf, isWaiting, waitsOf, Open}
 use Rattle.timetable_turns.specs.Inner.Answers.{Drafts}
 use Rattle.timetable_turns.specs.Laws.InLimits.{turn-open}
 use Rattle.timetable_turns.specs.Laws.Short.{turn-short}
 use Rattle.timetable_turns.specs.declared.Drafted.{Drafted}
-use Rattle.timetable_output.specs.declared.Output.{Output}
+use Rattle.timetable_streams.specs.declared.Output.{Output}
+use Rattle.timetable_streams.specs.Inner.Gathering.{output, Gathers, HandsOn}
 use Rattle.timetable_output.specs.declared.Between.{Between}
-use Rattle.timetable_output.specs.Inner.Between.{Gathers, HandsOn, Stands, Goes}
-
-abbrev pub output : ℕ → ℕ → Bool → Output
-output handed gathered lost = record { handed = handed; gathered = gathered; lost = lost }
+use Rattle.timetable_output.specs.Inner.Between.{Stands, Goes}
 
 abbrev pub between : Output → ℕ → ℕ → Progress → Between
 between o taken left g = record { output = o; taken = taken; left = left; progress = g }
 
 -- ---- the text so far
-
--- all that is gathered is handed on
-pub hands-all : (out : List ℕ) (o : Output) (handed : ℕ) (lost : Bool) → handed ≡ o .handed + o .gathered → HandsOn out o (output handed 0 lost)
-hands-all out o handed lost e = record {
-  count = omega arith;
-  gathers = λ text g. record {
-    whole = let w = g .whole in omega arith;
-    rest = sym (ap (λ (n : ℕ). drop n text) (e ∙ g .whole) ∙ drop-length text);
-  };
-}
 
 -- text is put after what is gathered
 pub gathers-put : (text more before after : List ℕ) (o : Output) (next : ℕ) (lost : Bool) → o .gathered + length more ≤ length before → Puts before (o .gathered) more after next → Gathers text before o → Gathers (text ++ more) after (output (o .handed) next lost)
@@ -125,6 +120,21 @@ goes-less p b heard before after r more g = go (turnOf p (b .progress) (b .taken
     go false false e = omega arith
 
 -- ---- before a turn
+
+-- the step of where the behaviour stands, and the activity that it emits
+pub record Looked (p : Plan) (g : Progress) (heard : Heard) (x : Step) (a : Activity) : Type 0 where
+  pub step : x ≡ stepOf (p .automaton) (p .outcomes) (g .state) heard
+  pub activity : a ≡ emittedOf p (outputOf x)
+
+-- the byte is asked for where the state waits for one
+pub step-asks : (p : Plan) (g : Progress) → asks (stepOf (p .automaton) (p .outcomes) (g .state) Heard.Nothing) ≡ waitsOf p g
+unfolding stepOf
+step-asks p g = go (nextOf (p .automaton) (g .state))
+  where
+    go : (n : Next) → asks (nextStep (p .automaton) (p .outcomes) (g .state) Heard.Nothing n) ≡ isWaiting n
+    go Next.Ended = refl
+    go (Next.Goes t) = refl
+    go (Next.Waits e) = refl
 
 pub stands-asked : (p : Plan) (b : Between) → Stands p b → (out : List ℕ) (o : Output) → HandsOn out (b .output) o → o .gathered ≤ b .output .gathered → o .lost ≡ false → Stands p (between o (b .taken) (b .left) (b .progress))
 stands-asked p b s out o h fewer k = record {

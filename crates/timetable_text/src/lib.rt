@@ -1,9 +1,27 @@
 // Numbers as text, put into a lent buffer: each function answers the offset past what it puts.
+use basis::u8_to_usize;
 ghost use mathlib.Core.Path.{_≡_};
 ghost use mathlib.Core.List.{[], _∷_};
-ghost use Prim.Native.Nat.{_+_, _≤_, _<_};
+ghost use Prim.Native.Nat.{_+_, _*_, _≤_, _<_};
 ghost use Rattle.wire.specs.Puts.{Puts};
 ghost use Rattle.timetable_text.specs.Text.{digits, decimal, space, newline};
+
+pub mod lent; // text put into a lent buffer, whole or not at all
+
+// Text put into a lent buffer.
+pub enum Put {
+    // the offset past it
+    Past(usize),
+    // it does not fit: number 36, place 0, and the buffer is as it was
+    TooShort,
+}
+
+// "the plan's length (two bytes)", the lowest byte first.
+pub fn plan_length(low: u8, high: u8) -> usize
+    ensures { λ r. ⌜ (r ≡ low + 256 * high) × (r ≤ 65_535) ⌝ }
+{
+    u8_to_usize(low) + 256 * u8_to_usize(high)
+}
 
 // The byte of one digit.
 fn digit(n: u64) -> u8

@@ -12,11 +12,11 @@ use Rattle.plan.specs.declared.Verdict.{Verdict}
 use Rattle.judge.specs.Judge.{judgeOf}
 use Rattle.times.specs.declared.Progress.{Progress}
 use Rattle.timetable_lines.specs.Lines.{refused}
-use Rattle.timetable_turns.specs.declared.Put.{Put}
+use Rattle.timetable_text.specs.declared.Put.{Put}
 use Rattle.timetable_turns.specs.Inner.Turn.{isRefused, firstText, firstProgress, Open}
-use Rattle.timetable_turns.specs.Lent.{Lends}
+use Rattle.timetable_text.specs.Lent.{Lends}
 use Rattle.timetable_turns.specs.Inner.Answers.{Begins}
-use Rattle.timetable_turns.specs.Laws.Lent.{lends-as}
+use Rattle.timetable_text.specs.Laws.Lent.{lends-as}
 use Rattle.timetable_turns.specs.Laws.InLimits.{judged-limits, first-open}
 
 pub lends-refused : (before after : List ℕ) (r : Put) (v : Verdict) (f : Fault) (place number : ℕ) → number ≡ numberOf f → v ≡ Verdict.Refused f place → Lends before 0 (refused number place) after r → Lends before 0 (firstText v) after r

@@ -18,12 +18,12 @@ use Rattle.timetable_steps.specs.declared.Heard.{Heard}
 use Rattle.timetable_turns.specs.declared.Place.{Place}
 use Rattle.timetable_turns.specs.Inner.Turn.{OneTurn, turnOf, headOf, turnsFrom, mostTurns, isRefused, firstText, firstProgress, Open}
 use Rattle.timetable_turns.specs.Timetable.{textOfPlan}
-use Rattle.timetable_turns.specs.Lent.{pastOf}
+use Rattle.timetable_text.specs.Lent.{pastOf}
 use Rattle.timetable_turns.specs.Inner.Answers.{Begins, Drafts}
 use Rattle.timetable_turns.specs.Inner.Whole.{leftText, Standing}
 use Rattle.timetable_turns.specs.Laws.ByTurns.{plan-by-turns}
 use Rattle.timetable_turns.specs.Laws.InLimits.{turn-open}
-use Rattle.timetable_turns.specs.Laws.Lent.{lent-puts, put-front}
+use Rattle.timetable_text.specs.Laws.Lent.{lent-puts, put-front}
 use Rattle.timetable_turns.specs.Laws.Short.{turn-short, first-short}
 use Rattle.timetable_turns.specs.Laws.Whole.{left-turn}
 

@@ -4,7 +4,5 @@ pub mod InLimits
 pub mod Short
 pub mod Hearing
 pub mod Stepping
--- and about text put into a lent buffer
-pub mod Lent
 -- and about the text of a whole input
 pub mod Whole

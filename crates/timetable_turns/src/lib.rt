@@ -1,32 +1,24 @@
 // The timetable, one turn at a time.
-use lent::lend;
 use plan::Plan;
 use plan::Verdict;
 use time::Specified;
 use times::Progress;
 use timetable_lines::put_header;
 use timetable_lines::put_refused;
+use timetable_text::lent::lend;
 ghost use mathlib.Core.Path.{_≡_};
 ghost use Rattle.plan.specs.Fault.{numberOf};
 ghost use Rattle.plan.specs.declared.Fault.{Fault};
 ghost use Rattle.timetable_lines.specs.Lines.{header, refused};
 ghost use Rattle.timetable_turns.specs.Inner.Turn.{isRefused, firstText};
-ghost use Rattle.timetable_turns.specs.Lent.{Lends};
+ghost use Rattle.timetable_text.specs.Lent.{Lends};
 ghost use Rattle.timetable_turns.specs.Inner.Answers.{Begins};
 
-pub mod lent; // text put into a lent buffer
 pub mod turns; // one turn
 mod whole; // the timetable of a whole input
 
+pub use timetable_text::Put;
 pub use whole::timetable;
-
-// Text put into a lent buffer.
-pub enum Put {
-    // the offset past it
-    Past(usize),
-    // it does not fit: number 36, place 0, and the buffer is as it was
-    TooShort,
-}
 
 // The table before its first turn.
 pub struct Begun {

@@ -1,7 +1,6 @@
 // One turn of the table: the rows of one position, or the text that closes it.
 use crate::Drafted;
 use crate::Turned;
-use crate::lent::lend;
 use plan::Activity;
 use plan::Plan;
 use run_path::activity_number;
@@ -20,6 +19,7 @@ use timetable_steps::Heard;
 use timetable_steps::Step;
 use timetable_steps::output_of;
 use timetable_steps::step_of;
+use timetable_text::lent::lend;
 ghost use mathlib.Core.Path.{_≡_};
 ghost use mathlib.Core.Bool.{cond};
 ghost use Prim.Native.Nat.{_+_, _-_, _≤_, _<_};

@@ -1,24 +1,25 @@
 // The timetable of a whole input. The inner functions put what fits, and answer the offset past the text.
 use crate::Place;
-use crate::Put;
 use crate::begin;
-use crate::lent::copy;
-use crate::lent::past;
 use crate::turns::counted;
 use crate::turns::left_after;
 use crate::turns::turn_by;
 use plan::Plan;
 use timetable_lines::put_refused;
 use timetable_steps::Heard;
+use timetable_text::Put;
+use timetable_text::lent::copy;
+use timetable_text::lent::past;
+use timetable_text::plan_length;
 ghost use mathlib.Core.Path.{_≡_};
 ghost use mathlib.Core.Bool.{cond};
-ghost use Prim.Native.Nat.{_+_, _*_, _≤_, _<_};
-ghost use lib.ListN.{length, drop, getD, take};
+ghost use Prim.Native.Nat.{_+_, _≤_, _<_};
+ghost use lib.ListN.{length, drop, take};
 ghost use Rattle.wire.specs.Puts.{Puts};
 ghost use Rattle.timetable_lines.specs.Laws.Lines.{Remains};
 ghost use Rattle.timetable_turns.specs.Inner.Turn.{headOf, mostTurns};
 ghost use Rattle.timetable_turns.specs.Timetable.{timetableOf, textOfPlan};
-ghost use Rattle.timetable_turns.specs.Lent.{Lends};
+ghost use Rattle.timetable_text.specs.Lent.{Lends};
 ghost use Rattle.timetable_turns.specs.Inner.Whole.{leftText, Standing};
 
 // The byte at an offset, if there is one.
@@ -99,22 +100,6 @@ fn put_table(out: &mut [u8], input: &[u8], n: usize) -> usize
     put_turns(out, input, end, plan, first)
 }
 
-fn wide(x: u8) -> usize
-    ensures { λ r. ⌜ (r ≡ x) × (r < 256) ⌝ }
-{
-    x as usize
-}
-
-// "the plan's length (two bytes)", the lowest byte first.
-fn plan_length(input: &[u8]) -> usize
-    requires { ⌜ 2 ≤ length (now input) ⌝ }
-    ensures { λ r. ⌜ (r ≡ getD (now (input .entry)) 0 0 + 256 * getD (now (input .entry)) 1 0) × (r ≤ 65_535) ⌝ }
-{
-    let low = wide(input[0]);
-    let high = wide(input[1]);
-    low + 256 * high
-}
-
 // The whole text of an input.
 fn put_timetable(out: &mut [u8], input: &[u8]) -> usize
     ensures { λ r. ⌜ Puts (now (out .entry)) 0 (timetableOf (now (input .entry))) (now (out .exit)) r ⌝ }
@@ -122,7 +107,7 @@ fn put_timetable(out: &mut [u8], input: &[u8]) -> usize
     if input.len() < 2 {
         return put_refused(out, 0, 1, 0);
     }
-    let n = plan_length(input);
+    let n = plan_length(input[0], input[1]);
     let present = input.len() - 2;
     if present < n {
         return put_refused(out, 0, 1, present as u64);

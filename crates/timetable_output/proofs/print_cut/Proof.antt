@@ -1,7 +1,7 @@
 -- `print_cut` meets its contract. Assumes nothing.
 use native.Mathlib.Omega.{arith}
 use Rattle.timetable_lines.specs.Laws.Lines.{refused-length}
-use Rattle.timetable_turns.specs.Laws.Lent.{lent-puts}
+use Rattle.timetable_text.specs.Laws.Lent.{lent-puts}
 use borrow.Author.Needs.{needs}
 use Rattle.timetable_output.proofs.print_cut.Statement.{statement}
 use Rattle.timetable_output.proofs.print_cut.Tie as tie

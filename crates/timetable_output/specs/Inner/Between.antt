@@ -1,50 +1,16 @@
--- What holds between two turns of the program: what was handed on and what is gathered are together the text so far.
+-- What holds between two turns of the program, and what several turns print.
 use mathlib.Core.Path.{_≡_}
 use mathlib.Core.Bool.{false, cond}
 use mathlib.Core.List.{List, _++_}
 use Prim.Native.Nat.{ℕ, _+_, _-_, _*_, _≤_, _<_}
-use lib.ListN.{length, take, drop}
+use lib.ListN.{length}
 use Rattle.plan.specs.declared.Plan.{Plan}
 use Rattle.timetable_turns.specs.Inner.Turn.{turnOf, turnsFrom, readAfter, mostTurns, Open}
 use Rattle.timetable_turns.specs.Timetable.{textOfPlan}
-use Rattle.timetable_turns.specs.Laws.Stepping.{asks}
 use Rattle.timetable_steps.specs.declared.Heard.{Heard}
-use Rattle.timetable_steps.specs.declared.Step.{Step}
-use Rattle.timetable_output.specs.declared.Output.{Output}
+use Rattle.timetable_streams.specs.declared.Output.{Output}
+use Rattle.timetable_streams.specs.Inner.Gathering.{Gathers}
 use Rattle.timetable_output.specs.declared.Between.{Between}
-use Rattle.timetable_output.specs.declared.Outcomes.{Outcomes}
-use Rattle.timetable_output.specs.declared.Asked.{Asked}
-
--- ---- the text so far
-
--- the first bytes of `text` were handed on, the others are gathered at the front of the buffer
-pub record Gathers (text out : List ℕ) (o : Output) : Type 0 where
-  pub whole : o .handed + o .gathered ≡ length text
-  pub rest : take (o .gathered) out ≡ drop (o .handed) text
-
--- what a function does to the output is no more than to hand on
-pub record HandsOn (out : List ℕ) (o r : Output) : Type 0 where
-  pub count : r .handed + r .gathered ≡ o .handed + o .gathered
-  pub gathers : (text : List ℕ) → Gathers text out o → Gathers text out r
-
--- ---- an outcome byte
-
--- the outcome bytes that are not yet taken stand in a block of 65,536
-pub record Held (u : Outcomes) : Type 0 where
-  pub order : u .at ≤ u .end
-  pub within : u .end ≤ 65_536
-  pub most : u .most ≤ 65_536
-
--- what is read or taken of them, no text is lost
-pub record Listens (out : List ℕ) (o : Output) (r : Asked) : Type 0 where
-  pub hands : HandsOn out o (r .output)
-  pub fewer : r .output .gathered ≤ o .gathered
-  pub held : Held (r .outcomes)
-
--- a byte is taken only where the turn asks for one
-pub record Asks (out : List ℕ) (o : Output) (unheard : Step) (r : Asked) : Type 0 where
-  pub listens : Listens out o r
-  pub unasked : asks unheard ≡ false → r .heard ≡ Heard.Nothing
 
 -- ---- a turn
 

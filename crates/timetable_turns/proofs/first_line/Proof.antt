@@ -1,7 +1,7 @@
 -- `first_line` meets its contract: by the verdict. Assumes nothing.
 use mathlib.Core.Path.{sym, ap}
 use Rattle.timetable_turns.specs.Inner.Turn.{firstText}
-use Rattle.timetable_turns.specs.Laws.Lent.{lends-as}
+use Rattle.timetable_text.specs.Laws.Lent.{lends-as}
 use Rattle.timetable_turns.proofs.Begins.{lends-refused}
 use borrow.Author.Needs.{needs}
 use Rattle.timetable_turns.proofs.first_line.Statement.{statement}

@@ -1,7 +1,7 @@
 -- `refused_line` meets its contract. Assumes nothing.
 use native.Mathlib.Omega.{arith}
 use Rattle.timetable_lines.specs.Laws.Lines.{refused-length}
-use Rattle.timetable_turns.specs.Laws.Lent.{lends-front, front-there}
+use Rattle.timetable_text.specs.Laws.Lent.{lends-front, front-there}
 use borrow.Author.Needs.{needs}
 use Rattle.timetable_turns.proofs.refused_line.Statement.{statement}
 use Rattle.timetable_turns.proofs.refused_line.Tie as tie

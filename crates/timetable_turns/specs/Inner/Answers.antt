@@ -14,7 +14,7 @@ use Rattle.timetable_steps.specs.declared.Step.{Step}
 use Rattle.timetable_turns.specs.declared.Begun.{Begun}
 use Rattle.timetable_turns.specs.declared.Drafted.{Drafted}
 use Rattle.timetable_turns.specs.declared.Turned.{Turned}
-use Rattle.timetable_turns.specs.Lent.{Lends}
+use Rattle.timetable_text.specs.Lent.{Lends}
 use Rattle.timetable_turns.specs.Inner.Turn.{OneTurn, isRefused, firstText, firstProgress, Open}
 
 -- the table of the plan `bytes` is begun at the front of a buffer

@@ -25,7 +25,7 @@ use Rattle.timetable_steps.specs.declared.Heard.{Heard}
 use Rattle.timetable_steps.specs.declared.Step.{Step}
 use Rattle.timetable_steps.specs.Inner.Steps.{chosenStep, heardStep, nextStep, stepOf, outputOf}
 use Rattle.timetable_steps.specs.Laws.Steps.{chosen-below}
-use Rattle.timetable_turns.specs.Inner.Turn.{OneTurn, closes, takes, chooses, hears, turnBy, turnOf, isWaiting, waitsOf, Open}
+use Rattle.timetable_turns.specs.Inner.Turn.{OneTurn, closes, takes, chooses, hears, turnBy, turnOf, Open}
 use Rattle.timetable_turns.specs.Inner.Stepped.{taking, stepped}
 
 -- ---- the turn
@@ -143,21 +143,3 @@ step-fitting p g within h x a e f m b q =
     subst (λ (y : Activity). StepFits (p .resources) y (m .input) g) (sym o)
     (subst (λ (t : Transition). StepFits (p .resources) (emittedOf p (t .output)) (t .input) g) (sym (k .is))
     (step-fits p (within .plan) (k .index) (k .low) g (within .progress)))
-
--- ---- whether a byte is asked for
-
--- whether the turn waits for an outcome byte
-abbrev pub asks : Step → Bool
-asks Step.Ends = false
-asks (Step.Waits e) = true
-asks Step.Lacks = false
-asks (Step.Takes m heard) = false
-
-pub step-asks : (p : Plan) (g : Progress) → asks (stepOf (p .automaton) (p .outcomes) (g .state) Heard.Nothing) ≡ waitsOf p g
-unfolding stepOf
-step-asks p g = go (nextOf (p .automaton) (g .state))
-  where
-    go : (n : Next) → asks (nextStep (p .automaton) (p .outcomes) (g .state) Heard.Nothing n) ≡ isWaiting n
-    go Next.Ended = refl
-    go (Next.Goes t) = refl
-    go (Next.Waits e) = refl

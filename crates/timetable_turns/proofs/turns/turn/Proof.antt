@@ -4,7 +4,7 @@ use native.Mathlib.Omega.{arith}
 use Rattle.timetable_turns.specs.Inner.Turn.{Open}
 use Rattle.timetable_turns.specs.Laws.InLimits.{turn-open}
 use Rattle.timetable_turns.specs.Laws.Short.{turn-short}
-use Rattle.timetable_turns.specs.Laws.Lent.{lends-front, front-there}
+use Rattle.timetable_text.specs.Laws.Lent.{lends-front, front-there}
 use borrow.Author.Needs.{needs}
 use Rattle.timetable_turns.proofs.turns.turn.Statement.{statement}
 use Rattle.timetable_turns.proofs.turns.turn.Tie as tie

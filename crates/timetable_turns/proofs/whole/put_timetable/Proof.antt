@@ -11,21 +11,17 @@ use Rattle.timetable_turns.proofs.whole.put_timetable.Tie as tie
 returns : tie.Need-returns
 returns c = puts-as _ 0 _ _ _ _ (sym (whole-none (now (c .before .before .before .before .before .before .before .args .input)) (c .before .before .before .before .if1 .taken))) (c .before .before .put-refused .ensures)
 
-plan-length-requires : tie.Need-plan-length-requires
-plan-length-requires c κs = omega (arith, c .if1 .left)
-
 returns-2 : tie.Need-returns-2
 returns-2 c =
+    let a = c .before .before .before .before .before .before .before .before .before .before .before .args in
     let n = c .before .before .before .before .before .plan-length in
-    puts-as _ 0 _ _ _ _ (sym (whole-cut (now (c .before .before .before .before .before .before .before .before .before .args .input)) (n .result) (omega (arith, c .before .before .before .before .before .before .if1 .left)) (n .ensures .0) (c .before .before .before .before .if2 .taken))) (c .before .before .put-refused2 .ensures)
-
-put-table-requires : tie.Need-put-table-requires
-put-table-requires c κs = (c .before .before .plan-length .ensures .1, omega (arith, c .before .if2 .left, c .before .before .before .if1 .left))
+    puts-as _ 0 _ _ _ _ (sym (whole-cut (now (a .input)) (n .result) (omega (arith, c .before .before .before .before .before .before .before .before .if1 .left)) (n .ensures .0) (c .before .before .before .before .if2 .taken))) (c .before .before .put-refused2 .ensures)
 
 returns-3 : tie.Need-returns-3
 returns-3 c =
+    let a = c .before .before .before .before .before .before .before .before .before .before .before .args in
     let n = c .before .before .before .before .before .plan-length in
-    puts-as _ 0 _ _ _ _ (sym (whole-plan (now (c .before .before .before .before .before .before .before .before .before .args .input)) (n .result) (omega (arith, c .before .before .before .before .before .before .if1 .left)) (n .ensures .0) (omega (arith, c .before .before .before .before .if2 .left)))) (c .before .before .put-table .ensures)
+    puts-as _ 0 _ _ _ _ (sym (whole-plan (now (a .input)) (n .result) (omega (arith, c .before .before .before .before .before .before .before .before .if1 .left)) (n .ensures .0) (omega (arith, c .before .before .before .before .if2 .left)))) (c .before .before .put-table .ensures)
 
 pub put-timetable-spec : {M : Type 1} → statement M
 put-timetable-spec =
@@ -34,11 +30,13 @@ put-timetable-spec =
     (λ c κs. search needs)
     (λ c. search needs)
     returns
-    plan-length-requires
+    (λ c. search needs)
+    (λ c. search needs)
+    (λ c κs. search needs)
     (λ c. search needs)
     (λ c κs. search needs)
     (λ c. search needs)
     returns-2
-    put-table-requires
+    (λ c κs. search needs)
     (λ c. search needs)
     returns-3)

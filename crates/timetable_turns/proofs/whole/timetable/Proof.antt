@@ -2,7 +2,7 @@
 use native.Mathlib.Omega.{arith}
 use denote.Ref.{now}
 use Rattle.timetable_turns.specs.Timetable.{timetableOf}
-use Rattle.timetable_turns.specs.Laws.Lent.{lends-past, lends-short}
+use Rattle.timetable_text.specs.Laws.Lent.{lends-past, lends-short}
 use borrow.Author.Needs.{needs}
 use Rattle.timetable_turns.proofs.whole.timetable.Statement.{statement}
 use Rattle.timetable_turns.proofs.whole.timetable.Tie as tie

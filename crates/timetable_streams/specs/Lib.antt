@@ -1,0 +1,2 @@
+-- What is read and handed on between two turns of the program.
+pub mod Inner
