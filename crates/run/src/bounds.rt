@@ -3,7 +3,6 @@ use crate::Run;
 ghost use mathlib.Core.Path.{_≡_};
 ghost use Rattle.run.specs.Limits.{runInLimits};
 ghost use Rattle.run.specs.Inner.Checks.{storedInLimits};
-
 pub use run_checks::bounds::slack_in_limits;
 
 // Where the behaviour stands, the window and the stop.

@@ -12,15 +12,14 @@ mod openings;
 use plan::Fault;
 use plan::Plan;
 use plan::Verdict;
-use time::Clock;
-use times::Progress;
 use run_checks::Check;
-use run_window::Entry;
-use run_window::Sought;
-
 pub use run_checks::Halt;
 pub use run_checks::Refusal;
 pub use run_checks::Stop;
+use run_window::Entry;
+use run_window::Sought;
+use time::Clock;
+use times::Progress;
 
 pub struct Run {
     pub plan: Plan,

@@ -27,8 +27,8 @@ returns c =
     let v = c .before .before .before .before .before .before .before .before .vacant in
     let g = c .before .before .before .before .before .before .before .before .before .told-of in
     let e = l .ensures
-        ∙ ap (λ (y : Progress). parts.further (a .run .plan) mostPending y (set (a .run .window) (a .i) (v .result))) (g .ensures)
-        ∙ ap (λ (y : Entry). parts.further (a .run .plan) mostPending (toldOf (a .run .progress) (a .e) (a .x) (a .o)) (set (a .run .window) (a .i) y)) (v .ensures) in
+    ∙ ap (λ (y : Progress). parts.further (a .run .plan) mostPending y (set (a .run .window) (a .i) (v .result))) (g .ensures)
+    ∙ ap (λ (y : Entry). parts.further (a .run .plan) mostPending (toldOf (a .run .progress) (a .e) (a .x) (a .o)) (set (a .run .window) (a .i) y)) (v .ensures) in
     rw (c .halt-after .ensures, c .before .reply-after .ensures) (learnt-parts (a .run) (a .t) (a .i) (toldOf (a .run .progress) (a .e) (a .x) (a .o)) (l .result) e)
 
 pub learnt-spec : {M : Type 1} → statement M
