@@ -9,44 +9,50 @@ pub type Check = fn(Mutation) -> Answer;
 /// A row: what is checked, and what must be noticed.
 pub struct Row(pub &'static str, pub Check, pub &'static [Mutation]);
 
-const SETUP: &str = "commands/setup";
-const START: &str = "commands/start";
 const MANIFEST: &str = "commands/Cargo.toml";
+
+const fn edit(file: &'static str, old: &'static str, new: &'static str) -> Mutation {
+    Edit { file, old, new }
+}
+
+const fn setup(old: &'static str, new: &'static str) -> Mutation {
+    edit("commands/setup", old, new)
+}
+
+const fn start(old: &'static str, new: &'static str) -> Mutation {
+    edit("commands/start", old, new)
+}
+
+const fn pack(old: &'static str, new: &'static str) -> Mutation {
+    edit("release", old, new)
+}
 
 pub const ROWS: &[Row] = &[
     Row(
         "a line for each crate",
         set_up::each_crate,
         &[
-            Edit {
-                file: SETUP,
-                old: "print name \": \" count",
-                new: "print > \"/dev/null\"; x = name \": \" count",
-            },
-            Edit { file: SETUP, old: "/^rt: [a-z_0-9]+ proved \\(/ { count++ }", new: "" },
-            Edit { file: SETUP, old: "{ seen[more[m]]; list[++count] = more[m] }", new: "{ }" },
+            setup("print name \": \" count", "print > \"/dev/null\"; x = name \": \" count"),
+            setup("/^rt: [a-z_0-9]+ proved \\(/ { count++ }", ""),
+            setup("{ seen[more[m]]; list[++count] = more[m] }", "{ }"),
         ],
     ),
     Row(
         "a proof that fails",
         set_up::failing_proof,
         &[
-            Edit { file: SETUP, old: "[ \"${PIPESTATUS[0]}\" -eq 0 ] || failed \"$1\"", new: ":" },
-            Edit { file: SETUP, old: "head -n 5", new: "head -n 0" },
-            Edit { file: SETUP, old: "tail -n 5", new: "head -n 5" },
-            Edit { file: SETUP, old: "if [ \"$crate\" ]; then", new: "if false; then" },
+            setup("[ \"${PIPESTATUS[0]}\" -eq 0 ] || failed \"$1\"", ":"),
+            setup("head -n 5", "head -n 0"),
+            setup("tail -n 5", "head -n 5"),
+            setup("if [ \"$crate\" ]; then", "if false; then"),
         ],
     ),
     Row(
         "a small package",
         set_up::small_package,
         &[
-            Edit { file: MANIFEST, old: "[features]\n", new: "[features]\ndefault = [\"quick\"]\n" },
-            Edit {
-                file: SETUP,
-                old: "set_up_command judge proved",
-                new: "set_up_command judge proved,quick",
-            },
+            edit(MANIFEST, "[features]\n", "[features]\ndefault = [\"quick\"]\n"),
+            setup("set_up_command judge proved", "set_up_command judge proved,quick"),
         ],
     ),
     Row("speed", input::speed, &[Toggle("SlowDigits"), Toggle("SlowOutcomes")]),
@@ -58,11 +64,7 @@ pub const ROWS: &[Row] = &[
     Row(
         "output that fails, of the scripts",
         output::failing_output_of_scripts,
-        &[Edit {
-            file: START,
-            old: "exec \"$target/$name\" \"${words[@]}\"",
-            new: "\"$target/$name\" \"${words[@]}\" | cat",
-        }],
+        &[start("exec \"$target/$name\" \"${words[@]}\"", "\"$target/$name\" \"${words[@]}\" | cat")],
     ),
     Row("rows as they settle", output::rows_settle, &[Toggle("TableGathered")]),
     Row(
@@ -86,94 +88,70 @@ pub const ROWS: &[Row] = &[
             Toggle("HelpIsAFile"),
             Toggle("DirectoryIsNoFile"),
             Toggle("OutcomeAbove255"),
-            Edit { file: START, old: "-h | --help)", new: "-h)" },
-            Edit { file: START, old: "elif [ -d \"$plan\" ]", new: "elif [ -d \"$plan/none\" ]" },
+            start("-h | --help)", "-h)"),
+            start("elif [ -d \"$plan\" ]", "elif [ -d \"$plan/none\" ]"),
         ],
     ),
     Row(
         "missing tools",
         set_up::missing_tools,
         &[
-            Edit { file: SETUP, old: "    needs rt \"$2\"\n", new: "" },
-            Edit { file: SETUP, old: "    needs cargo \"command $what\"\n", new: "" },
-            Edit { file: SETUP, old: "|| cut -d' ' -f2- \"target/setup/$1\" 2>/dev/null", new: "" },
+            setup("    needs rt \"$2\"\n", ""),
+            setup("    needs cargo \"command $what\"\n", ""),
+            setup("|| cut -d' ' -f2- \"target/setup/$1\" 2>/dev/null", ""),
         ],
     ),
     Row(
         "a crate that has changed",
         set_up::changed_crate,
         &[
-            Edit {
-                file: SETUP,
-                old: "is_ready program \"$file\" \"$sources\" &&",
-                new: "[ -e \"$file\" ] &&",
-            },
-            Edit {
-                file: SETUP,
-                old: "is_ready library \"$file\" \"$sources\" &&",
-                new: "[ -e \"$file\" ] &&",
-            },
-            Edit { file: SETUP, old: "$(sum crates crates.txt)", new: "$(sum crates)" },
-            Edit { file: SETUP, old: "\n    built program \"$sources\"", new: "" },
+            setup("is_ready program \"$file\" \"$sources\" &&", "[ -e \"$file\" ] &&"),
+            setup("is_ready library \"$file\" \"$sources\" &&", "[ -e \"$file\" ] &&"),
+            setup("$(sum crates crates.txt)", "$(sum crates)"),
+            setup("\n    built program \"$sources\"", ""),
         ],
     ),
-    Row("two at once", set_up::two_at_once, &[Edit { file: SETUP, old: "! flock -n 9", new: "false" }]),
+    Row("two at once", set_up::two_at_once, &[setup("! flock -n 9", "false")]),
     Row(
         "--quick",
         set_up::quick,
         &[
             Toggle("QuickUntold"),
-            Edit {
-                file: START,
-                old: "\"$here/setup\" \"$name\" quick",
-                new: "\"$here/setup\" \"$name\" quick \"$name\"",
-            },
+            start("\"$here/setup\" \"$name\" quick", "\"$here/setup\" \"$name\" quick \"$name\""),
         ],
     ),
     Row(
         "with no proof",
         set_up::with_no_proof,
-        &[Edit {
-            file: "crates/plan/src/lib.rt",
-            old: "pub mod numbers;",
-            new: "pub mod wire;\npub mod numbers;",
-        }],
+        &[edit("crates/plan/src/lib.rt", "pub mod numbers;", "pub mod wire;\npub mod numbers;")],
     ),
     Row(
         "versions",
         set_up::versions,
         &[
-            Edit { file: MANIFEST, old: "rust-version = \"1.82\"\n", new: "" },
-            Edit { file: "rust/Cargo.toml", old: "rust-version = \"1.82\"\n", new: "" },
-            Edit { file: "README.md", old: "Rust 1.82 or later", new: "Rust" },
-            Edit { file: "VERSION", old: "0.1.0", new: "0.2.0" },
+            edit(MANIFEST, "rust-version = \"1.82\"\n", ""),
+            edit("rust/Cargo.toml", "rust-version = \"1.82\"\n", ""),
+            edit("README.md", "Rust 1.82 or later", "Rust"),
+            edit("VERSION", "0.1.0", "0.2.0"),
         ],
     ),
     Row(
         "a release that is refused",
         release::refused,
         &[
-            Edit { file: "commands/commit", old: " && [ -z \"$changes\" ]", new: "" },
-            Edit { file: "release", old: "[ \"$tested\" != \"$commit\" ]", new: "false" },
-            Edit {
-                file: "release",
-                old: "[[ ! $last =~ ^[1-9][0-9]*\\ passed,\\ 0\\ failed$ ]]",
-                new: "false",
-            },
-            Edit { file: "release", old: "[ \"$programs\" != \"$(commands/programs)\" ]", new: "false" },
+            edit("commands/commit", " && [ -z \"$changes\" ]", ""),
+            pack("[ \"$tested\" != \"$commit\" ]", "false"),
+            pack("[[ ! $last =~ ^[1-9][0-9]*\\ passed,\\ 0\\ failed$ ]]", "false"),
+            pack("[ \"$programs\" != \"$(commands/programs)\" ]", "false"),
         ],
     ),
     Row(
         "a release that is packed",
         release::packed,
         &[
-            Edit {
-                file: "release",
-                old: "    --mtime=\"@$(git log -1 --format=%ct)\" \"$folder\"",
-                new: "    \"$folder\"",
-            },
-            Edit { file: "release", old: "    cp target/bin/timetable \"$room/$folder/bin\" &&\n", new: "" },
-            Edit { file: "release", old: "toolchain=$(rt version)", new: "toolchain=$(true)" },
+            pack("    --mtime=\"@$(git log -1 --format=%ct)\" \"$folder\"", "    \"$folder\""),
+            pack("    cp target/bin/timetable \"$room/$folder/bin\" &&\n", ""),
+            pack("toolchain=$(rt version)", "toolchain=$(true)"),
         ],
     ),
 ];

@@ -1,13 +1,11 @@
--- An activity copied, or put together, node by node. Assumes nothing.
+-- An activity put together, node by node. Assumes nothing.
 use mathlib.Core.Path.{_≡_, sym, ap, _∙_, subst}
-use mathlib.Core.List.{List, _++_}
-use Prim.Native.Nat.{ℕ, suc, _+_, _-_, _*_, _<_}
+use mathlib.Core.List.{List}
+use Prim.Native.Nat.{ℕ, _+_, _*_, _<_}
 use native.Mathlib.Omega.{arith}
 use borrow.Author.Count.{below-more}
-use lib.ListN.{length, getD, set, replicate, length-set}
-use lib.Seq.{set-at, append-snoc, ext-getD, getD-set-same, getD-set-other}
-use Rattle.basis.specs.Parts.{part}
-use Rattle.basis.specs.Laws.Parts.{part-more}
+use lib.ListN.{length, getD, set, length-set}
+use lib.Seq.{ext-getD, getD-set-same, getD-set-other}
 use Rattle.basis.specs.Laws.PartsHold.{length-part, getD-part}
 use Rattle.plan.specs.Plan.{pastNode, sizeOf, nodesOf, activityOf}
 use Rattle.plan.specs.Limits.{InLimits}
@@ -15,17 +13,6 @@ use Rattle.plan.specs.declared.Node.{Node}
 use Rattle.plan.specs.declared.Activity.{Activity}
 use Rattle.plan.specs.declared.Plan.{Plan}
 use Rattle.activity.specs.Inner.Fits.{NodeFits, Fits}
-use Rattle.activity.specs.Inner.Copied.{emptyNode, filled}
-
-pub filled-more : (p : Plan) (a n : ℕ) → n < 64 → set (filled p a n) n (getD (p .nodes) (64 * a + n) pastNode) ≡ filled p a (n + 1)
-filled-more p a n h =
-    let l = part pastNode (p .nodes) (64 * a) n in
-    let v = getD (p .nodes) (64 * a + n) pastNode in
-    let z : 64 - n ≡ suc (64 - (n + 1)) = omega arith in
-    ap (λ (k : ℕ). set (l ++ replicate k emptyNode) n v) z
-    ∙ set-at l emptyNode (replicate (64 - (n + 1)) emptyNode) v n (length-part pastNode (p .nodes) (64 * a) n)
-    ∙ sym (append-snoc l v (replicate (64 - (n + 1)) emptyNode))
-    ∙ ap (λ (m : List Node). m ++ replicate (64 - (n + 1)) emptyNode) (sym (part-more pastNode (p .nodes) n (64 * a)))
 
 -- the first n of the nodes l are those of activity a
 pub record Gathers (p : Plan) (a n : ℕ) (l : List Node) : Type 0 where

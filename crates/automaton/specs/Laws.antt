@@ -8,6 +8,7 @@ pub mod Tests
 pub mod Bounds
 pub mod Decides
 pub mod Example
+pub mod Following
 pub mod Halts
 pub mod Later
 pub mod Lowest

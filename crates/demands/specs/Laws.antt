@@ -9,7 +9,6 @@ pub mod Leaving
 pub mod Along
 pub mod Printed
 -- Openings
-pub mod Numbers
 pub mod OpeningTests
 pub mod FirstPath
 -- Calls of any run

@@ -1,6 +1,6 @@
 -- The checks at a call: the answer to a call is what they object to, or what is left once they object to nothing; a run that
 -- passes them is in limits, so that every sum with Ψ fits and every number of a found entry names something.
-use mathlib.Core.Path.{_≡_, refl, sym, _∙_, ap, subst}
+use mathlib.Core.Path.{_≡_, refl, sym, _∙_, subst}
 use mathlib.Core.Bool.{Bool, true, false, true≢false}
 use mathlib.Core.List.{List, [], _∷_}
 use mathlib.Core.Logic.{⊎-elim}

@@ -2,11 +2,11 @@
 use mathlib.Core.Path.{_≡_, refl, sym, _∙_, ap}
 use mathlib.Core.Bool.{Bool, true, false}
 use mathlib.Core.List.{List, [], _∷_, _++_, append-assoc}
-use Prim.Native.Nat.{ℕ, zero, suc, _+_, _≤_, _<_}
+use Prim.Native.Nat.{ℕ, suc, _+_, _≤_, _<_}
 use native.Mathlib.Omega.{arith}
 use native.Mathlib.Numerals.{add-one}
 use lib.ListN.{length, getD, take, drop, set, take-append-drop, drop-of-length-le}
-use lib.Seq.{take-nil, drop-nil, take-suc, drop-cons, take-suc-set, drop-set-lt}
+use lib.Seq.{take-suc, drop-cons, take-suc-set, drop-set-lt}
 use Rattle.run_window.specs.declared.Entry.{Entry}
 use Rattle.run_window.specs.Window.{isFree, placed}
 use Rattle.run_window.specs.Laws.Placed.{placed-nothing, placed-none, placed-first, placed-past}
@@ -37,20 +37,3 @@ module _ (w : List Entry) (d : Entry) (at : ℕ) (h : at < length w) where
   from-free x es e f =
       rw (add-one, take-suc-set w at x, append-assoc, drop-set-lt (suc at) w at x (omega arith), drop-cons w at d)
       (ap (λ (l : List Entry). take at w ++ l) (placed-first (getD w at d) (drop (suc at) w) x es (sym e ∙ f)))
-
--- ---- one entry further
-
-pub next-entry : (l : List Entry) (d : Entry) (n k : ℕ) → n < k → n < length l → drop n (take k l) ≡ getD l n d ∷ drop (n + 1) (take k l)
-next-entry l d n k h g = rw add-one (cons l n k h g)
-  where
-    cons : (l : List Entry) (n k : ℕ) → n < k → n < length l → drop n (take k l) ≡ getD l n d ∷ drop (suc n) (take k l)
-    cons [] n k h g = absurd (omega arith)
-    cons (x ∷ l) n zero h g = absurd (omega arith)
-    cons (x ∷ l) zero (suc k) h g = refl
-    cons (x ∷ l) (suc n) (suc k) h g = cons l n k (omega arith) (omega arith)
-
-pub no-entry : (l : List Entry) (n k : ℕ) → k ≤ n → drop n (take k l) ≡ []
-no-entry [] n k h = rw (take-nil k) (drop-nil n)
-no-entry (x ∷ l) n zero h = drop-nil n
-no-entry (x ∷ l) zero (suc k) h = absurd (omega arith)
-no-entry (x ∷ l) (suc n) (suc k) h = no-entry l n k (omega arith)

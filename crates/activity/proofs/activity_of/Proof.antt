@@ -7,7 +7,7 @@ use mathlib.Core.Path.{_≡_, ap, _∙_}
 use native.Mathlib.Omega.{arith}
 use lib.ListN.{getD, set}
 use Rattle.activity.specs.Inner.Copied.{filled, copied}
-use Rattle.activity.proofs.Copying.{filled-more}
+use Rattle.activity.specs.Laws.Copied.{filled-more}
 use borrow.Author.Needs.{needs}
 use Rattle.activity.proofs.activity_of.Statement.{statement}
 use Rattle.activity.proofs.activity_of.Tie as tie

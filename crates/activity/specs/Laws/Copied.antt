@@ -1,14 +1,16 @@
 -- One activity, copied out of a plan: its nodes, and zeros in the spare room.
 use mathlib.Core.Path.{_≡_, sym, ap, _∙_, subst}
 use mathlib.Core.List.{List, _++_}
-use Prim.Native.Nat.{ℕ, _+_, _-_, _*_, _<_}
+use Prim.Native.Nat.{ℕ, suc, _+_, _-_, _*_, _<_}
 use native.Mathlib.Omega.{arith}
-use lib.ListN.{length, getD, replicate, List·getD-append}
-use lib.Seq.{ext-getD}
+use lib.ListN.{length, getD, set, replicate, List·getD-append}
+use lib.Seq.{set-at, append-snoc, ext-getD}
 use Rattle.basis.specs.Parts.{part}
+use Rattle.basis.specs.Laws.Parts.{part-more}
 use Rattle.basis.specs.Laws.PartsHold.{length-part, getD-part}
 use Rattle.plan.specs.Plan.{pastNode, sizeOf, nodesOf, activityOf}
 use Rattle.plan.specs.Limits.{InLimits, nodeAt}
+use Rattle.plan.specs.declared.Node.{Node}
 use Rattle.plan.specs.declared.Plan.{Plan}
 use Rattle.activity.specs.Inner.Fits.{NodeFits, Fits}
 use Rattle.activity.specs.Inner.Copied.{copied, filled, emptyNode}
@@ -25,6 +27,17 @@ part-front d l m =
     at i h =
         let z : 0 + i ≡ i = omega arith in
         getD-part d (l ++ m) 0 (length l) i h ∙ ap (λ (j : ℕ). getD (l ++ m) j d) z ∙ List·getD-append l m d i h
+
+-- one node more of the copy
+pub filled-more : (p : Plan) (a n : ℕ) → n < 64 → set (filled p a n) n (getD (p .nodes) (64 * a + n) pastNode) ≡ filled p a (n + 1)
+filled-more p a n h =
+    let l = part pastNode (p .nodes) (64 * a) n in
+    let v = getD (p .nodes) (64 * a + n) pastNode in
+    let z : 64 - n ≡ suc (64 - (n + 1)) = omega arith in
+    ap (λ (k : ℕ). set (l ++ replicate k emptyNode) n v) z
+    ∙ set-at l emptyNode (replicate (64 - (n + 1)) emptyNode) v n (length-part pastNode (p .nodes) (64 * a) n)
+    ∙ sym (append-snoc l v (replicate (64 - (n + 1)) emptyNode))
+    ∙ ap (λ (m : List Node). m ++ replicate (64 - (n + 1)) emptyNode) (sym (part-more pastNode (p .nodes) n (64 * a)))
 
 -- the copy has the activity's nodes
 pub nodes-copied : (p : Plan) (a : ℕ) → nodesOf (copied p a) ≡ activityOf p a

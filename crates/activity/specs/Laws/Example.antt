@@ -2,8 +2,10 @@
 use mathlib.Core.Path.{_≡_, refl}
 use mathlib.Core.List.{List, [], _∷_, _++_, map}
 use Prim.Native.Nat.{ℕ, _-_}
-use lib.ListN.{length, getD, replicate}
+use lib.ListN.{length, replicate}
 use Rattle.basis.specs.Tests.{every, some}
+use Rattle.plan.specs.Plan.{resourceOf, activityOf}
+use Rattle.plan.specs.Laws.Example.{planT}
 use Rattle.plan.specs.declared.Kind.{Kind}
 use Rattle.plan.specs.declared.Node.{Node}
 use Rattle.plan.specs.declared.Fault.{Fault}
@@ -29,23 +31,11 @@ action x p d ps = nodeOf (Kind.Action x p) d ps
 abbrev event : ℕ → ℕ → List ℕ → Node
 event e d ps = nodeOf (Kind.Event e) d ps
 
--- peripherals 0 and 1 belong to resource 0, peripheral 2 to resource 1
-abbrev belongsT : ℕ → ℕ
-belongsT p = getD (0 ∷ 0 ∷ 1 ∷ []) p 0
+abbrev firstOfT : List Node
+firstOfT = activityOf planT 0
 
-abbrev pub firstOfT : List Node
-firstOfT =
-    claim 0 []
-    ∷ claim 1 []
-    ∷ action 0 2 3000 (1 ∷ [])
-    ∷ action 1 0 5000 (0 ∷ 2 ∷ [])
-    ∷ event 0 1000 (3 ∷ [])
-    ∷ release 0 (3 ∷ [])
-    ∷ release 1 (2 ∷ [])
-    ∷ []
-
-abbrev pub secondOfT : List Node
-secondOfT = claim 0 [] ∷ action 2 1 2000 (0 ∷ []) ∷ release 0 (1 ∷ []) ∷ []
+abbrev secondOfT : List Node
+secondOfT = activityOf planT 1
 
 abbrev cases : List (List Node)
 cases =
@@ -63,7 +53,7 @@ cases =
     ∷ []
 
 judged :
-    map (faultOf belongsT) cases
+    map (faultOf (resourceOf planT)) cases
     ≡ (
     Finding.Good
     ∷ Finding.Good

@@ -10,6 +10,7 @@ use native.Mathlib.Decide.{decLt}
 use Rattle.basis.specs.Inner.Tells.{Tells, holds, fails}
 use Rattle.basis.specs.Laws.Tells.{tells-and}
 use Rattle.plan.specs.Fault.{numberOf}
+use Rattle.plan.specs.Laws.Faults.{same-fault}
 use Rattle.plan.specs.declared.Node.{Node}
 use Rattle.plan.specs.declared.Fault.{Fault}
 use Rattle.activity.specs.declared.Finding.{Finding}
@@ -21,7 +22,7 @@ use Rattle.activity.specs.Laws.TestsRight.{tells-noCycle, tells-I, tells
 use Rattle.activity.specs.Inner.Closure.{Closure}
 use Rattle.activity.specs.Laws.Closure.{words-right}
 use Rattle.activity.specs.Inner.Order.{Below}
-use Rattle.activity.specs.Laws.Order.{up, same-number}
+use Rattle.activity.specs.Laws.Order.{up}
 
 module _ (belongs : ℕ → ℕ) (a : List Node) where
   -- no number below 11 is an activity's
@@ -134,7 +135,7 @@ module _ (belongs : ℕ → ℕ) (a : List Node) where
         | no n ↦
             elim (decLt (numberOf g) (numberOf f)) [
               | yes l ↦ absurd (q .broken (p .earlier g l))
-              | no k ↦ let e : numberOf f ≡ numberOf g = omega arith in ap Finding.Bad (same-number f g e)
+              | no k ↦ let e : numberOf f ≡ numberOf g = omega arith in ap Finding.Bad (same-fault f g e)
             ]
       ]
 

@@ -2,10 +2,8 @@
 use mathlib.Core.Path.{_≡_, refl}
 use mathlib.Core.List.{List, [], _∷_, _++_, map}
 use Prim.Native.Nat.{ℕ, zero, suc, _+_, _^_}
-use lib.ListN.{length, replicate}
+use lib.ListN.{length}
 use Rattle.basis.specs.Tests.{falses}
-use Rattle.plan.specs.declared.Kind.{Kind}
-use Rattle.plan.specs.declared.Node.{Node}
 use Rattle.plan.specs.declared.Input.{Input}
 use Rattle.plan.specs.declared.Output.{Output}
 use Rattle.plan.specs.declared.Transition.{Transition}
@@ -13,36 +11,22 @@ use Rattle.plan.specs.declared.Automaton.{Automaton}
 use Rattle.plan.specs.declared.Plan.{Plan}
 use Rattle.plan.specs.declared.Fault.{Fault}
 use Rattle.plan.specs.declared.Verdict.{Verdict}
-use Rattle.plan.specs.Plan.{pastNode}
+use Rattle.plan.specs.Laws.Example.{planT}
 use Rattle.automaton.specs.Tests.{all}
 use Rattle.automaton.specs.Next.{nextFrom, chosenFrom}
 use Rattle.automaton.specs.Number.{automatonVerdict, stateVerdict, wayVerdict, pathVerdict, judgeCounts, lowest, noWayOut, apartFrom, branchesIn, serves, finalsOf, passBack, again, advanced, passOn}
 
-nodesT : List Node
-nodesT =
-    record { kind = Kind.Claim 0; duration = 0; count = 0; preds = [] } ∷
-    record { kind = Kind.Claim 1; duration = 0; count = 0; preds = [] } ∷
-    record { kind = Kind.Action 0 2; duration = 3000; count = 1; preds = 1 ∷ [] } ∷
-    record { kind = Kind.Action 1 0; duration = 5000; count = 2; preds = 0 ∷ 2 ∷ [] } ∷
-    record { kind = Kind.Event 0; duration = 1000; count = 1; preds = 3 ∷ [] } ∷
-    record { kind = Kind.Release 0; duration = 0; count = 1; preds = 3 ∷ [] } ∷
-    record { kind = Kind.Release 1; duration = 0; count = 1; preds = 2 ∷ [] } ∷
-    (replicate 57 pastNode ++
-    record { kind = Kind.Claim 0; duration = 0; count = 0; preds = [] } ∷
-    record { kind = Kind.Action 2 1; duration = 2000; count = 1; preds = 0 ∷ [] } ∷
-    record { kind = Kind.Release 0; duration = 0; count = 1; preds = 1 ∷ [] } ∷ [])
-
 -- T with another automaton
 withT : Automaton → Plan
 withT a = record {
-  resources = 2;
-  peripherals = 3;
-  belongs = 0 ∷ 0 ∷ 1 ∷ [];
-  events = 1;
-  outcomes = 2 ∷ [];
-  activities = 2;
-  sizes = 7 ∷ 3 ∷ [];
-  nodes = nodesT;
+  resources = planT .resources;
+  peripherals = planT .peripherals;
+  belongs = planT .belongs;
+  events = planT .events;
+  outcomes = planT .outcomes;
+  activities = planT .activities;
+  sizes = planT .sizes;
+  nodes = planT .nodes;
   automaton = a;
 }
 
@@ -62,9 +46,6 @@ sensing = Output.Activity 0
 
 last : Output
 last = Output.Activity 1
-
-pub planT : Plan
-planT = upTo 2 (goes 0 1 sensing ∷ when 1 1 0 sensing ∷ when 1 2 1 last ∷ [])
 
 -- K3: one state, initial and final, and nothing else
 pub plan3 : Plan
@@ -114,5 +95,5 @@ cases =
     (many 9, Verdict.Refused Fault.TooManyPending 0) ∷ []
 
 pub cases-right : map (λ c. automatonVerdict (c .0)) cases ≡ map (λ c. c .1) cases
-unfolding cases withT upTo goes when sensing last emitting processing many planT plan3 nodesT automatonVerdict stateVerdict wayVerdict pathVerdict judgeCounts lowest noWayOut apartFrom branchesIn serves falses finalsOf passBack again advanced passOn all nextFrom chosenFrom
+unfolding cases withT upTo goes when sensing last emitting processing many plan3 automatonVerdict stateVerdict wayVerdict pathVerdict judgeCounts lowest noWayOut apartFrom branchesIn serves falses finalsOf passBack again advanced passOn all nextFrom chosenFrom
 cases-right = refl

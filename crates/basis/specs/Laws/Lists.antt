@@ -2,10 +2,12 @@
 use mathlib.Core.Path.{_≡_, refl, sym, ap, ap₂, _∙_, subst}
 use mathlib.Core.Logic.{_⊎_, inl, inr}
 use mathlib.Core.List.{List, [], _∷_, _++_, map}
-use Prim.Native.Nat.{ℕ, zero, suc, _≤_, _<_}
+use Prim.Native.Nat.{ℕ, zero, suc, _+_, _≤_, _<_}
 use native.Mathlib.Omega.{arith}
 use native.Mathlib.Nat.{eq-or-lt-of-le, le-of-suc-le-suc}
-use lib.ListN.{length, getD, replicate, length-append, length-map}
+use native.Mathlib.Numerals.{add-one}
+use lib.ListN.{length, getD, take, drop, replicate, length-append, length-map}
+use lib.Seq.{take-nil, drop-nil}
 use Rattle.basis.specs.Lists.{Among, Distinct}
 
 module _ {X : Type 0} where
@@ -147,6 +149,22 @@ among-at d (x ∷ xs) (suc k) l = inr (among-at d xs k (omega arith))
 pub at-among : {A : Type 0} (d : A) (x : A) (xs : List A) → Among x xs → (k : ℕ) × (k < length xs) × (getD xs k d ≡ x)
 at-among d x (y ∷ ys) (inl e) = (0, omega arith, sym e)
 at-among d x (y ∷ ys) (inr h) = let r = at-among d x ys h in (suc (r .0), (let u = r .1 in omega arith), r .2)
+
+-- the entries from place n up to place k: one, and the rest; or none
+pub next-entry : {A : Type 0} (l : List A) (d : A) (n k : ℕ) → n < k → n < length l → drop n (take k l) ≡ getD l n d ∷ drop (n + 1) (take k l)
+next-entry {A} l d n k h g = rw add-one (cons l n k h g)
+  where
+    cons : (l : List A) (n k : ℕ) → n < k → n < length l → drop n (take k l) ≡ getD l n d ∷ drop (suc n) (take k l)
+    cons [] n k h g = absurd (omega arith)
+    cons (x ∷ l) n zero h g = absurd (omega arith)
+    cons (x ∷ l) zero (suc k) h g = refl
+    cons (x ∷ l) (suc n) (suc k) h g = cons l n k (omega arith) (omega arith)
+
+pub no-entry : {A : Type 0} (l : List A) (n k : ℕ) → k ≤ n → drop n (take k l) ≡ []
+no-entry [] n k h = rw (take-nil k) (drop-nil n)
+no-entry (x ∷ l) n zero h = drop-nil n
+no-entry (x ∷ l) zero (suc k) h = absurd (omega arith)
+no-entry (x ∷ l) (suc n) (suc k) h = no-entry l n k (omega arith)
 
 pub all-same : {A : Type 0} (n j : ℕ) (x : A) → getD (replicate n x) j x ≡ x
 all-same zero j x = refl

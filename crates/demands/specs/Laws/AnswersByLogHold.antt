@@ -15,11 +15,10 @@ use Rattle.plan.specs.declared.Plan.{Plan}
 use Rattle.times_combined.specs.Combined.{Ident}
 use Rattle.times_combined.specs.Paths.{Lawful}
 use Rattle.times_combined.specs.Times.{Timing}
-use Rattle.run_window.specs.Window.{isHeld, isStarted}
+use Rattle.run_window.specs.Window.{isStarted}
 use Rattle.run_window.specs.Places.{Holds}
 use Rattle.run_window.specs.Laws.Tests.{started-true}
 use Rattle.run_window.specs.declared.Entry.{Entry}
-use Rattle.run_window.specs.declared.Phase.{Phase}
 use Rattle.run_outcomes.specs.Told.{toldOf}
 use Rattle.judge.specs.Judge.{judgeOf}
 use Rattle.run.specs.Loading.{further, mostPending}
@@ -43,6 +42,7 @@ use Rattle.demands_theory.specs.TheWord.{stateAfter, wholeOf, Takes, TheWord}
 use Rattle.demands_theory.specs.Laws.Replies.{failed-by}
 use Rattle.demands_theory.specs.Laws.TheWord.{told-once, takes-follows}
 use Rattle.demands_run.specs.Laws.Later.{takes-more}
+use Rattle.demands_run.specs.Laws.Ways.{held-loaded}
 use Rattle.demands_run.specs.Laws.OneLoading.{one-loading}
 use Rattle.demands_run.specs.Laws.Theorem as Works
 use Rattle.demands.specs.Accepted.{Bytes}
@@ -86,14 +86,9 @@ module _ (run : Run) (log : Log) (is : List ℕ) (S C : Ident → ℕ) (availabl
           let n : (run .psi .0 + e .end .0 ≤ t .0 → ⊥) = λ l. y .not-overdue .none i (record { started = ap (λ (x : Entry). x .phase) (h .entry) ∙ started-true (e .phase) s; past = (let z = ap (λ (x : Entry). x .end .0) (h .entry) in omega arith) }) in
           omega arith
 
-      loaded : (s : Phase) → isHeld s ≡ true → isStarted s ≡ false → s ≡ Phase.Loaded
-      loaded Phase.Free h s = absurd (let z : _≡_ {A = ℕ} 0 1 = cc in omega arith)
-      loaded Phase.Loaded h s = refl
-      loaded Phase.Started h s = absurd (let z : _≡_ {A = ℕ} 0 1 = cc in omega arith)
-
       late : (i : ℕ) (e : Entry) → Holds (run .window) i e → isStarted (e .phase) ≡ false → t .0 ≤ run .psi .0 + e .start .0 + run .slack
       late i e h s =
-          let n : (run .psi .0 + e .start .0 + run .slack < t .0 → ⊥) = λ l. y .none i (record { unstarted = ap (λ (x : Entry). x .phase) (h .entry) ∙ loaded (e .phase) (h .held) s; past = (let z = ap (λ (x : Entry). x .start .0) (h .entry) in omega arith) }) in
+          let n : (run .psi .0 + e .start .0 + run .slack < t .0 → ⊥) = λ l. y .none i (record { unstarted = ap (λ (x : Entry). x .phase) (h .entry) ∙ held-loaded (e .phase) (h .held) s; past = (let z = ap (λ (x : Entry). x .start .0) (h .entry) in omega arith) }) in
           omega arith
 
   -- how loading after an accepted outcome ends

@@ -22,6 +22,7 @@ use Rattle.run_checks.specs.declared.Refusal.{Refusal}
 use Rattle.run_loading.specs.declared.Failure.{Failure}
 use Rattle.run_outcomes.specs.Told.{toldOf}
 use Rattle.run.specs.Calls.{answer, refuse, stops, readingOf, isDone, asked, kindOf, reported, completedBy, completed, cleared, afterLoading, learnt, learnsBy, learns, timely, called, askOf, completionOf, outcomeOf, callOf}
+use Rattle.run.specs.Inner.Calls.{replyAfter}
 use Rattle.demands.specs.Conditions.{entryAt, OverdueAt, LateAt, DueAt, NodeAt, NamedAt, IsReport, RightKind, IsAction, IsEvent, Nowhere, FirstOf, Going, Rises, NotOverdue, Timely, Reports, Learns, loadingAfter, Ended, Refuses, Halts, Asks, Takes, Condition}
 use Rattle.demands.specs.InLimits.{RunInLimits}
 use Rattle.demands.specs.Laws.InLimitsIff.{tells-run, in-limits}
@@ -179,12 +180,7 @@ lacking run t o i e k l = rw (k, le-ltb o (outcomesOf (run .plan) e) l)
 
 -- ---- the reply of an accepted outcome, by how loading after it ends
 
-abbrev loadedReply : Failure → Reply
-loadedReply Failure.None = Reply.Taken
-loadedReply Failure.Full = Reply.Stopped Stop.Full
-loadedReply Failure.Beyond = Reply.Stopped Stop.Beyond
-
-after-loading : (f : Failure) (run : Run) → afterLoading f run .reply ≡ loadedReply f
+after-loading : (f : Failure) (run : Run) → afterLoading f run .reply ≡ replyAfter f
 after-loading Failure.None run = refl
 after-loading Failure.Full run = refl
 after-loading Failure.Beyond run = refl
@@ -193,10 +189,10 @@ learns-event : (run : Run) (t : Clock) (o i e : ℕ) → kindOf run (entryAt run
     → learnsBy run t i (entryAt run i) o (kindOf run (entryAt run i)) ≡ learnt (cleared run t i (toldOf (run .progress) e (entryAt run i) o))
 learns-event run t o i e k l = rw (k, lt-ltb o (outcomesOf (run .plan) e) l)
 
-at-loading : (run : Run) (t : Clock) (p n o i e : ℕ) (f : Failure) → Learns run t p n o i e → loadingAfter run t o i e ≡ f → callOf run (Call.Outcome t p n o) .reply ≡ loadedReply f
+at-loading : (run : Run) (t : Clock) (p n o i e : ℕ) (f : Failure) → Learns run t p n o i e → loadingAfter run t o i e ≡ f → callOf run (Call.Outcome t p n o) .reply ≡ replyAfter f
 at-loading run t p n o i e f l q =
-    at-report run (Call.Outcome t p n o) i (loadedReply f) (l .reports)
-    (ap replyOf (learns-event run t o i e (l .event) (l .has)) ∙ (after-loading (loadingAfter run t o i e) _ ∙ ap loadedReply q))
+    at-report run (Call.Outcome t p n o) i (replyAfter f) (l .reports)
+    (ap replyOf (learns-event run t o i e (l .event) (l .has)) ∙ (after-loading (loadingAfter run t o i e) _ ∙ ap replyAfter q))
 
 -- ---- every reply
 

@@ -18,14 +18,11 @@ use Rattle.plan.specs.Limits.{InLimits, KindNames, OutputNames}
 use Rattle.plan.specs.declared.Kind.{Kind}
 use Rattle.plan.specs.declared.Output.{Output}
 use Rattle.plan.specs.declared.Plan.{Plan}
-use Rattle.plan.specs.declared.Automaton.{Automaton}
-use Rattle.automaton.specs.Next.{nextOf, chosenOf}
+use Rattle.automaton.specs.Next.{nextOf}
 use Rattle.automaton.specs.declared.Next.{Next}
-use Rattle.automaton.specs.declared.Chosen.{Chosen}
 use Rattle.times.specs.Engine.{lastPosition}
 use Rattle.times.specs.Queues.{noInstance, pendingOf, instanceOf}
 use Rattle.times.specs.Limits.{InstanceInLimits}
-use Rattle.times.specs.declared.Told.{Told}
 use Rattle.times.specs.declared.Progress.{Progress}
 use Rattle.run_window.specs.Window.{vacant, startedOf, isHeld, isStarted, isDue, isNode, startsBefore, placed, vacancies}
 use Rattle.run_window.specs.Laws.Tests.{due-tells, node-tells}
@@ -39,20 +36,20 @@ use Rattle.run_path.specs.Path.{Path, activityNumber, takenBy, entriesBy, pathF
 use Rattle.run_path.specs.Pathed.{ProgressIn, Leads, pathed}
 use Rattle.run_path.specs.Laws.Stepping.{next-leads, taken-kept}
 use Rattle.run_path.specs.Laws.InTime.{loads}
-use Rattle.run_outcomes.specs.Told.{tell, toldFrom, toldOf, oldestTold}
-use Rattle.run_outcomes.specs.Way.{onTold, onChosen, wayOn}
+use Rattle.run_outcomes.specs.Told.{tell, toldFrom, toldOf}
+use Rattle.run_outcomes.specs.Way.{wayOn}
 use Rattle.run_checks.specs.Laws.Checks.{by-timely}
 use Rattle.run.specs.declared.Run.{Run}
 use Rattle.run_checks.specs.declared.Halt.{Halt}
 use Rattle.run.specs.declared.Call.{Call}
 use Rattle.run.specs.declared.Answer.{Answer}
 use Rattle.run_loading.specs.declared.Failure.{Failure}
+use Rattle.run_loading.specs.Laws.Loading.{way-leads}
 use Rattle.run.specs.Loading.{Loading}
 use Rattle.run_checks.specs.declared.Refusal.{Refusal}
 use Rattle.run.specs.Loading.{load, onWay, onLoading, further, mostPending}
 use Rattle.run.specs.Limits.{runInLimits}
 use Rattle.run.specs.Calls.{refuse, heard, asked, reported, completedBy, completed, afterLoading, cleared, learnsBy, learns, timely, called, askOf, completionOf, outcomeOf, callOf, kindOf}
-use Rattle.demands_theory.specs.Laws.Next.{chosen-found}
 use Rattle.demands_run.specs.Laws.Entries.{brought}
 use Rattle.demands_run.specs.Laws.Telling.{told-cases}
 use Rattle.demands_run.specs.Laws.Loaded.{not-beyond}
@@ -106,23 +103,7 @@ module _ (p : Plan) (limits : InLimits p) where
       go q more = by-test (λ (r : Path). r .beyond ≡ false → AllNamed p (r .entries)) (takenBy p t g .beyond) _ _ (λ c z. absurd (true≢false z))
           (λ c z e m. ⊎-elim (λ n. named-by t g l q e n) (λ n. more (taken-kept p t g limits l h c) z e n) (among-either e (entriesBy p t g) (rest .entries) m))
 
--- ---- the way on is a transition of the plan
-
-module _ (a : Automaton) (g : Progress) where
-  chosen-leads : (e o : ℕ) (c : Chosen) → chosenOf a (g .state) e o ≡ c → Leads (a .count) (onChosen c Next.Goes (Next.Waits e))
-  chosen-leads e o Chosen.Nothing q = tt
-  chosen-leads e o (Chosen.Move t) q = let u = chosen-found a (g .state) e o t q .below in omega arith
-
-  told-leads : (e : ℕ) (t : Told) → Leads (a .count) (onTold t (λ o. onChosen (chosenOf a (g .state) e o) Next.Goes (Next.Waits e)) (Next.Waits e))
-  told-leads e Told.Nothing = tt
-  told-leads e (Told.Outcome o) = chosen-leads e o (chosenOf a (g .state) e o) refl
-
-  way-leads : (n : Next) → Leads (a .count) (wayOn a g n)
-  unfolding wayOn
-  way-leads Next.Ended = tt
-  way-leads (Next.Goes t) = tt
-  way-leads (Next.Waits e) = told-leads e (oldestTold g e)
-
+-- the way on is a transition of the plan
 by-way : {A : Type 0} (P : A → Type 0) (n : Next) (c : ℕ) → Leads c n → (f : ℕ → A) (z : A) → ((t : ℕ) → t < c → P (f t)) → P z → P (onWay n f z)
 by-way P Next.Ended c l f z k q = q
 by-way P (Next.Goes t) c l f z k q = k t l

@@ -13,7 +13,7 @@ use Rattle.automaton.specs.Laws.States.{NextIs, ended, goes, waits, next-is}
 use Rattle.automaton.specs.Laws.Later.{processes-waits, waits-chosen}
 use Rattle.automaton.specs.declared.Next.{Next}
 use Rattle.automaton.specs.declared.Chosen.{Chosen}
-use Rattle.automaton.specs.Laws.Cases.{unlike}
+use Rattle.automaton.specs.Laws.Cases.{unlike, same-outcome}
 
 module _ (p : Plan) (limits : InLimits p) (m : MeetsAutomaton p) where
   abbrev a : Automaton
@@ -29,9 +29,6 @@ module _ (p : Plan) (limits : InLimits p) (m : MeetsAutomaton p) where
       by Next.Ended (ended x) = absurd (x t h)
       by (Next.Goes i) (goes k x) = ap Next.Goes (same i k)
       by (Next.Waits ev) (waits u x) = unlike (sym e ∙ ap (λ (i : ℕ). move a i .input) (sym (same (x .index) (x .leaves))) ∙ x .input)
-
-  same-outcome : {e u f v : ℕ} → Input.Outcome e u ≡ Input.Outcome f v → u ≡ v
-  same-outcome h = cc
 
   pub chosen-is : (s t e u : ℕ) → s < a .states → Leaves a s t → move a t .input ≡ Input.Outcome e u → chosenOf a s e u ≡ Chosen.Move t
   chosen-is s t e u low h x =

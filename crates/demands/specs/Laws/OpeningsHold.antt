@@ -13,6 +13,7 @@ use Rattle.basis.specs.Laws.Bools.{by-test}
 use Rattle.time.specs.Time.{horizon}
 use Rattle.time.specs.declared.Clock.{Clock}
 use Rattle.plan.specs.Fault.{numberOf}
+use Rattle.plan.specs.Laws.Faults.{faultAt, fault-at, no-fault}
 use Rattle.plan.specs.declared.Fault.{Fault}
 use Rattle.plan.specs.declared.Verdict.{Verdict}
 use Rattle.judge.specs.Judge.{judgeOf}
@@ -33,7 +34,6 @@ use Rattle.demands.specs.Accepted.{Bytes}
 use Rattle.demands.specs.Verdicts.{Judged}
 use Rattle.demands.specs.Laws.VerdictsHold.{verdict}
 use Rattle.demands.specs.Laws.FirstPath.{atOpening, firstPath, tells-44, tells-43}
-use Rattle.demands.specs.Laws.Numbers.{faultAt, fault-at}
 
 -- ---- from the tests to the condition
 
@@ -160,10 +160,6 @@ refusalAt n place =
     (cond (eqb n 43) Unopened.Full
     (cond (eqb n 44) Unopened.Beyond
     (Unopened.Plan (faultAt n) place))))))
-
--- no fault has a number that none of the list has
-no-fault : (f : Fault) (n : ℕ) → faultAt n ≡ Fault.Ends → (numberOf Fault.Ends ≡ n → ⊥) → numberOf f ≡ n → ⊥
-no-fault f n none other e = other (ap numberOf (sym none ∙ ap faultAt (sym e) ∙ fault-at f) ∙ e)
 
 author-at : (f : Fault) (place : ℕ) → refusalAt (numberOf f) place ≡ Unopened.Plan f place
 author-at f place =

@@ -14,12 +14,13 @@ use Rattle.plan.specs.declared.Output.{Output}
 use Rattle.plan.specs.declared.Plan.{Plan}
 use Rattle.activity.specs.Rules.{node}
 use Rattle.times_combined.specs.Word.{size}
-use Rattle.times_combined.specs.Combined.{Ident, identity, NotClaim, NotRelease, Nodes, Joined}
+use Rattle.times_combined.specs.Combined.{Ident, identity, Nodes, Joined}
 use Rattle.times_combined.specs.Paths.{wordOf}
 use Rattle.times_combined.specs.Laws.Shape.{node-place, sort}
 use Rattle.run_path.specs.Path.{isWork, activityNumber}
 use Rattle.demands_log.specs.Log.{Id}
 use Rattle.demands_theory.specs.Nodes.{Working, Work, EmitsAt, here, earlier}
+use Rattle.demands_theory.specs.Laws.Nodes.{not-claim, not-release}
 use Rattle.demands_theory.specs.TheWord.{wholeOf}
 use Rattle.demands_run.specs.Laws.Taken.{size-is}
 use Rattle.demands_run.specs.Laws.Loaded.{work-working, working-work}
@@ -149,16 +150,6 @@ sorted p (t ∷ is) =
     let o = node-of q a 0 xs y n in
     let v = ap (λ (z : Row). z .id .position) (o .row) in
     inl (omega arith))
-
--- ---- actions and events
-
-not-claim : (k : Kind) → Working k → NotClaim k
-not-claim (Kind.Action a x) w = tt
-not-claim (Kind.Event x) w = tt
-
-not-release : (k : Kind) → Working k → NotRelease k
-not-release (Kind.Action a x) w = tt
-not-release (Kind.Event x) w = tt
 
 -- an activity that has a node is one of the plan's
 output-is : (p : Plan) (o : Output) (n : ℕ) → n < length (emittedBy p o) → o ≡ Output.Activity (activityNumber o)

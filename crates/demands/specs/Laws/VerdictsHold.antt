@@ -8,6 +8,7 @@ use native.Mathlib.Omega.{arith}
 use Rattle.basis.specs.Lists.{Among}
 use Rattle.basis.specs.Laws.Lists.{among-right}
 use Rattle.plan.specs.Fault.{numberOf}
+use Rattle.plan.specs.Laws.Faults.{same-fault}
 use Rattle.plan.specs.Limits.{InLimits}
 use Rattle.plan.specs.Reading.{readPlan, zeroPlan}
 use Rattle.plan.specs.declared.Fault.{Fault}
@@ -31,7 +32,6 @@ use Rattle.automaton.specs.Rules.{Judges, number21, number22, number23, number2
 use Rattle.automaton.specs.Laws.Decides as D
 use Rattle.judge.specs.Judge.{onVerdict, accepted, refusedPlan, judgeAutomaton, judgePlan, judgeOf}
 use Rattle.demands.specs.Accepted.{Bytes}
-use Rattle.demands.specs.Laws.Numbers.{same-fault}
 use Rattle.judge.specs.Laws.Judge.{passed}
 use Rattle.demands.specs.Alike.{SamePlan}
 use Rattle.demands.specs.Laws.ReadAlike.{read-alike}

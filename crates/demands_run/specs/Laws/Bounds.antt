@@ -23,7 +23,7 @@ use Rattle.run_limits.specs.Laws.Stored.{tells-progress}
 use Rattle.run.specs.Limits.{runInLimits, haltInLimits, stopInLimits}
 use Rattle.run_checks.specs.declared.Halt.{Halt}
 use Rattle.run_checks.specs.declared.Stop.{Stop}
-use Rattle.demands_run.specs.Laws.Engine.{Within}
+use Rattle.run_path.specs.Pathed.{ProgressIn}
 use Rattle.demands_run.specs.Laws.Stands.{Accepted}
 
 -- ---- the window
@@ -69,7 +69,7 @@ module _ (p : Plan) (psi : Clock) (slack : ℕ) (given : Accepted p psi slack) w
   limits : InLimits p
   limits = given .lawful .file .limits
 
-  pub run-passes : (g : Progress) (w : List Entry) (last : Clock) (halt : Halt) → Within p g → ((j : ℕ) → entryInLimits (p .activities) (p .sizes) (getD w j vacant) ≡ true) → haltInLimits halt ≡ true
+  pub run-passes : (g : Progress) (w : List Entry) (last : Clock) (halt : Halt) → ProgressIn p g → ((j : ℕ) → entryInLimits (p .activities) (p .sizes) (getD w j vacant) ≡ true) → haltInLimits halt ≡ true
       → runInLimits (record { plan = p; psi = psi; slack = slack; progress = g; window = w; last = last; halt = halt }) ≡ true
   unfolding runInLimits
   run-passes g w last halt inside entries stop =

@@ -22,11 +22,12 @@ use Rattle.times_combined.specs.Laws.Plans.{good-path}
 use Rattle.times.specs.Queues.{noInstance, pendingOf, queueOf}
 use Rattle.times.specs.declared.Instance.{Instance}
 use Rattle.times.specs.declared.Progress.{Progress}
+use Rattle.times_equal.specs.Laws.Seen.{Pending}
 use Rattle.demands_log.specs.Log.{Log}
 use Rattle.demands_theory.specs.TheWord.{stateAfter, wholeOf, Takes}
 use Rattle.demands_theory.specs.Laws.TheWord.{takes-follows}
 use Rattle.demands_theory.specs.Laws.Next.{few-pending}
-use Rattle.demands_run.specs.Laws.Engine.{rest, remaining, Pending, Possible}
+use Rattle.demands_run.specs.Laws.Engine.{rest, remaining, Possible}
 use Rattle.demands_run.specs.Laws.Stands.{identOf, Stands}
 
 -- ---- the queues

@@ -14,33 +14,15 @@ use Rattle.automaton.specs.Next.{nextOf, chosenOf}
 use Rattle.automaton.specs.Rules.{MeetsAutomaton}
 use Rattle.automaton.specs.declared.Next.{Next}
 use Rattle.automaton.specs.declared.Chosen.{Chosen}
-use Rattle.times_combined.specs.Laws.Engine.{State, Steps}
+use Rattle.times_combined.specs.Laws.Engine.{Steps}
 use Rattle.times_combined.specs.Paths.{stepOf, Lawful}
 use Rattle.times.specs.Times.{at}
 use Rattle.times.specs.Queues.{pendingOf, queueOf, floorOf, emission}
-use Rattle.times.specs.Limits.{ProgressInLimits}
 use Rattle.times.specs.declared.Instance.{Instance}
 use Rattle.times.specs.declared.Progress.{Progress}
+use Rattle.times_equal.specs.Laws.Seen.{seen, Whole, Pending}
 use Rattle.run_path.specs.Path.{takenBy}
-
--- the arrays of a progress have the lengths of their types
-pub record Sized (g : Progress) : Type 0 where
-  pub available : length (g .available) ≡ 16
-  pub latest : length (g .latest) ≡ 16
-  pub lengths : length (g .lengths) ≡ 16
-  pub pending : length (g .pending) ≡ 128
-
--- it is within the limits of the plan
-abbrev pub Within : Plan → Progress → Type 0
-Within p g = ProgressInLimits (p .resources) (p .events) (p .automaton .states) (p .outcomes) g
-
--- the engine's state that a progress stores
-abbrev pub stateOf : Progress → State
-stateOf g = record {
-  free = λ r. at (g .available) r;
-  last = λ e. at (g .latest) e;
-  queue = λ e. map (λ x. x .end .0) (queueOf g e);
-}
+use Rattle.run_path.specs.Pathed.{ProgressIn}
 
 abbrev pub rest : List Instance → List Instance
 rest [] = []
@@ -51,16 +33,11 @@ abbrev pub remaining : Input → Progress → ℕ → List Instance
 remaining Input.Nothing g f = queueOf g f
 remaining (Input.Outcome e o) g f = cond (eqb e f) (rest (queueOf g f)) (queueOf g f)
 
--- what is processed is pending
-abbrev pub Pending : Input → Progress → Type 0
-Pending Input.Nothing g = Unit {0}
-Pending (Input.Outcome e o) g = 0 < pendingOf g e
-
 -- transition t can be taken at g
 pub record Possible (p : Plan) (t : ℕ) (g : Progress) : Type 0 where
   pub low : t < p .automaton .count
-  pub sized : Sized g
-  pub within : Within p g
+  pub sized : Whole g
+  pub within : ProgressIn p g
   pub pending : Pending (move (p .automaton) t .input) g
   -- "at most 8 of one event are pending": before it, and after it
   pub few : (e : ℕ) → pendingOf g e ≤ 8
@@ -70,12 +47,12 @@ pub record Possible (p : Plan) (t : ℕ) (g : Progress) : Type 0 where
 pub record Advances (p : Plan) (t : ℕ) (g : Progress) : Type 0 where
   -- the nodes of each event, in the order of "before"
   pub emitted : ℕ → List ℕ
-  pub steps : Steps (p .resources) (stepOf p (move (p .automaton) t)) (stateOf g) (floorOf (move (p .automaton) t .input) g)
-      (λ n. at (takenBy p t g .schedule .start) n) (λ n. at (takenBy p t g .schedule .end) n) emitted (stateOf (takenBy p t g .progress))
+  pub steps : Steps (p .resources) (stepOf p (move (p .automaton) t)) (seen g) (floorOf (move (p .automaton) t .input) g)
+      (λ n. at (takenBy p t g .schedule .start) n) (λ n. at (takenBy p t g .schedule .end) n) emitted (seen (takenBy p t g .progress))
   pub queues : (e : ℕ) → queueOf (takenBy p t g .progress) e
       ≡ remaining (move (p .automaton) t .input) g e ++ map (λ n. emission (g .position) n (at (takenBy p t g .schedule .end) n)) (emitted e)
-  pub sized : Sized (takenBy p t g .progress)
-  pub within : takenBy p t g .beyond ≡ false → Within p (takenBy p t g .progress)
+  pub sized : Whole (takenBy p t g .progress)
+  pub within : takenBy p t g .beyond ≡ false → ProgressIn p (takenBy p t g .progress)
 
 -- at most k transitions that process nothing lead from state s to one that waits or is final
 abbrev pub Settles : Automaton → ℕ → ℕ → Type 0

@@ -1,8 +1,8 @@
 -- The laws of the engine hold: one transition goes the way whose times are those of the combined activity, a path settles, and an
 -- awaited event has a transition for each outcome.
-use mathlib.Core.Path.{_≡_, refl, sym, ap, ap₂, _∙_, subst}
-use mathlib.Core.Bool.{false, cond}
-use mathlib.Core.List.{List, [], _∷_, _++_, map}
+use mathlib.Core.Path.{_≡_, refl, sym, ap, _∙_, subst}
+use mathlib.Core.Bool.{cond}
+use mathlib.Core.List.{List, _++_, map}
 use Prim.Native.Nat.{ℕ, zero, suc, _+_, _*_, _-_, _≤_, _<_}
 use native.Mathlib.Omega.{arith}
 use native.Mathlib.Decide.{ℕ-discrete}
@@ -12,8 +12,8 @@ use lib.ListN.{length, getD}
 use Rattle.basis.specs.Parts.{part}
 use Rattle.basis.specs.Laws.Parts.{part-same}
 use Rattle.basis.specs.Laws.PartsHold.{length-part}
-use Rattle.plan.specs.Plan.{pastNode, nodesOf, sizeOf, activityOf, resourceOf, emittedBy, move}
-use Rattle.plan.specs.Limits.{KindNames, InputNames, OutputNames, NodeInLimits, InLimits}
+use Rattle.plan.specs.Plan.{pastNode, sizeOf, activityOf, resourceOf, emittedBy, move}
+use Rattle.plan.specs.Limits.{KindNames, OutputNames, NodeInLimits, InLimits}
 use Rattle.plan.specs.declared.Kind.{Kind}
 use Rattle.plan.specs.declared.Node.{Node}
 use Rattle.plan.specs.declared.Activity.{Activity}
@@ -30,36 +30,30 @@ use Rattle.times_combined.specs.Laws.TimesEqual.{good-empty}
 use Rattle.times_combined.specs.Laws.Plans.{good-activity, node-is}
 use Rattle.times.specs.Times.{at}
 use Rattle.times.specs.Queues.{noInstance, pendingOf, queueOf, shiftedOf, oldestGone, processedOf, emission}
-use Rattle.times.specs.Engine.{advanceOf}
-use Rattle.times.specs.Limits.{KindFits, ActivityFits, InputFits, StepFits}
 use Rattle.times.specs.Laws.Places.{shifted-inside, shifted-outside}
-use Rattle.times.specs.Laws.Kept.{kept}
 use Rattle.times.specs.declared.Instance.{Instance}
 use Rattle.times.specs.declared.Progress.{Progress}
-use Rattle.times_equal.specs.Laws.Seen.{Whole, Ready, emitted}
-use Rattle.times_equal.specs.Laws.Seen as Seen
+use Rattle.times_equal.specs.Laws.Seen.{Whole, Pending, Ready, emitted}
 use Rattle.times_equal.specs.Laws.Steps.{steps, queue-grows, whole-after}
 use Rattle.times_equal.specs.Laws.Queue.{apart, gone-length}
 use Rattle.run_path.specs.Path.{takenBy}
-use Rattle.demands_run.specs.Laws.Engine.{Sized, Within, rest, remaining, Pending, Possible, Advances, Settles, EngineLaws}
+use Rattle.run_path.specs.Laws.Stepping.{taken-kept}
+use Rattle.demands_run.specs.Laws.Engine.{rest, remaining, Possible, Advances, Settles, EngineLaws}
 
 -- ---- the queues after an instance is processed
-
-whole : (g : Progress) → Sized g → Whole g
-whole g s = record { available = s .available; latest = s .latest; lengths = s .lengths; pending = s .pending }
 
 rest-part : (q : List Instance) (i k : ℕ) → 0 < k → part noInstance q (i + 1) (k - 1) ≡ rest (part noInstance q i k)
 rest-part q i zero l = absurd (omega arith)
 rest-part q i (suc k) l = let z : suc k - 1 ≡ k = omega arith in ap (part noInstance q (i + 1)) z
 
-module _ (g : Progress) (e : ℕ) (s : Sized g) (p : 0 < pendingOf g e) (few : (f : ℕ) → pendingOf g f ≤ 8) where
+module _ (g : Progress) (e : ℕ) (s : Whole g) (p : 0 < pendingOf g e) (few : (f : ℕ) → pendingOf g f ≤ 8) where
   gone-queue : (f : ℕ) → queueOf (oldestGone e g) f ≡ cond (eqb e f) (rest (queueOf g f)) (queueOf g f)
   gone-queue f = by (ℕ-discrete f e)
     where
       own : queueOf (oldestGone e g) e ≡ rest (queueOf g e)
       own =
           let u = few e in
-          let z : pendingOf (oldestGone e g) e ≡ pendingOf g e - 1 = gone-length g e (whole g s) p e ∙ rw (eq-eqb e e refl) in
+          let z : pendingOf (oldestGone e g) e ≡ pendingOf g e - 1 = gone-length g e s p e ∙ rw (eq-eqb e e refl) in
           ap (part noInstance (shiftedOf (8 * e) 7 (g .pending)) (8 * e)) z
           ∙ part-same noInstance (shiftedOf (8 * e) 7 (g .pending)) (g .pending) (pendingOf g e - 1) (8 * e) (8 * e + 1)
           (λ n q. shifted-inside 7 (8 * e) (g .pending) (8 * e + n) (omega arith) (omega arith)
@@ -69,7 +63,7 @@ module _ (g : Progress) (e : ℕ) (s : Sized g) (p : 0 < pendingOf g e) (few : (
       other : (f ≡ e → ⊥) → queueOf (oldestGone e g) f ≡ queueOf g f
       other n =
           let u = few f in
-          let z : pendingOf (oldestGone e g) f ≡ pendingOf g f = gone-length g e (whole g s) p f ∙ rw (ne-eqb e f (λ q. n (sym q))) in
+          let z : pendingOf (oldestGone e g) f ≡ pendingOf g f = gone-length g e s p f ∙ rw (ne-eqb e f (λ q. n (sym q))) in
           ap (part noInstance (shiftedOf (8 * e) 7 (g .pending)) (8 * f)) z
           ∙ part-same noInstance (shiftedOf (8 * e) 7 (g .pending)) (g .pending) (pendingOf g f) (8 * f) (8 * f)
           (λ m q. shifted-outside 7 (8 * e) (g .pending) (8 * f + m) (apart f e m n (omega arith)))
@@ -78,39 +72,14 @@ module _ (g : Progress) (e : ℕ) (s : Sized g) (p : 0 < pendingOf g e) (few : (
       by (yes q) = rw (eq-eqb e f (sym q)) (subst (λ (n : ℕ). queueOf (oldestGone e g) n ≡ rest (queueOf g n)) (sym q) own)
       by (no n) = rw (ne-eqb e f (λ q. n (sym q))) (other n)
 
-processed-queue : (i : Input) (g : Progress) → Sized g → Pending i g → ((f : ℕ) → pendingOf g f ≤ 8) → (f : ℕ) → queueOf (processedOf i g) f ≡ remaining i g f
+processed-queue : (i : Input) (g : Progress) → Whole g → Pending i g → ((f : ℕ) → pendingOf g f ≤ 8) → (f : ℕ) → queueOf (processedOf i g) f ≡ remaining i g f
 unfolding processedOf
 processed-queue Input.Nothing g s p few f = refl
 processed-queue (Input.Outcome e o) g s p few f = rw (lt-ltb 0 (pendingOf g e) p) (gone-queue g e s p few f)
 
-is-pending : (i : Input) (g : Progress) → Pending i g → Seen.Pending i g
-is-pending Input.Nothing g h = tt
-is-pending (Input.Outcome e o) g h = h
-
 -- ---- the activity of a transition is within the limits
 
-part-all : {A : Type 0} (d : A) (l m : List A) (i : ℕ) → ((j : ℕ) → j < length m → getD l (i + j) d ≡ getD m j d) → part d l i (length m) ≡ m
-part-all d l [] i h = refl
-part-all d l (x ∷ m) i h =
-    let z : i ≡ i + 0 = omega arith in
-    ap₂ (λ y ys. y ∷ ys) (ap (λ (n : ℕ). getD l n d) z ∙ h 0 (omega arith))
-    (part-all d l m (i + 1) (λ j k. let y : i + 1 + j ≡ i + suc j = omega arith in ap (λ (n : ℕ). getD l n d) y ∙ h (suc j) (omega arith)))
-
--- an activity as it is stored
-abbrev storedOf : List Node → Activity
-storedOf a = record { count = length a; nodes = a }
-
-stored-nodes : (a : List Node) → nodesOf (storedOf a) ≡ a
-stored-nodes a = part-all pastNode a a 0 (λ j l. let z : 0 + j ≡ j = omega arith in ap (λ (n : ℕ). getD a n pastNode) z)
-
-kind-fits : (p : Plan) (k : Kind) → KindNames p k → KindFits (p .resources) (p .events) k
-kind-fits p (Kind.Action a x) h = tt
-kind-fits p (Kind.Claim r) h = h
-kind-fits p (Kind.Release r) h = h
-kind-fits p (Kind.Event e) h = h
-
 module _ (p : Plan) (limits : InLimits p) where
-
   -- each of its nodes is within the limits
   node-within : (o : Output) → OutputNames p o → (n : ℕ) → n < length (emittedBy p o) → NodeInLimits p (length (emittedBy p o)) (node (emittedBy p o) n)
   node-within Output.Empty h n l = absurd (omega arith)
@@ -121,16 +90,6 @@ module _ (p : Plan) (limits : InLimits p) where
   short : (o : Output) → OutputNames p o → length (emittedBy p o) ≤ 64
   short Output.Empty h = omega arith
   short (Output.Activity a) h = let u = length-part pastNode (p .nodes) (64 * a) (sizeOf p a) in let v = limits .sizes a h .1 in omega arith
-
-  activity-fits : (o : Output) → OutputNames p o → ActivityFits (p .resources) (p .events) (storedOf (emittedBy p o))
-  activity-fits o h = record {
-    count = short o h;
-    nodes = λ n l. let x = node-within o h n l in record { names = kind-fits p (node (emittedBy p o) n .kind) (x .names); duration = x .duration; few = x .few; arrows = x .arrows };
-  }
-
-  input-fits : (i : Input) → InputNames p i → InputFits (p .events) i
-  input-fits Input.Nothing h = tt
-  input-fits (Input.Outcome e o) h = h .0
 
   few-events : (o : Output) → OutputNames p o → (n e : ℕ) → Is (emittedBy p o) n (Kind.Event e) → e < 16
   few-events o h n e i =
@@ -166,8 +125,8 @@ module _ (p : Plan) (lawful : Lawful p) (t : ℕ) (g : Progress) (can : Possible
     size = short p limits (move (p .automaton) t .output) names;
     good = good-output p lawful (move (p .automaton) t .output) names;
     events = few-events p limits (move (p .automaton) t .output) names;
-    whole = whole g (can .sized);
-    processes = is-pending i g (can .pending);
+    whole = can .sized;
+    processes = can .pending;
     few = can .few;
     room = λ e.
         let u = ap length (left e) in
@@ -176,34 +135,13 @@ module _ (p : Plan) (lawful : Lawful p) (t : ℕ) (g : Progress) (can : Possible
         omega arith;
   }
 
-  fits : StepFits (p .resources) (storedOf a) i g
-  fits = record {
-    events = p .events;
-    states = p .automaton .states;
-    outcomes = p .outcomes;
-    few-resources = limits .resources;
-    few-events = limits .events;
-    activity = activity-fits p limits (move (p .automaton) t .output) names;
-    input = input-fits p limits i (limits .moves t (can .low) .input);
-    progress = can .within;
-  }
-
-  stays-within : takenBy p t g .beyond ≡ false → Within p (takenBy p t g .progress)
-  unfolding fits
-  stays-within =
-      subst (λ (ns : List Node). advanceOf (p .resources) ns i (move (p .automaton) t .to) g .beyond ≡ false → Within p (advanceOf (p .resources) ns i (move (p .automaton) t .to) g .progress)) (stored-nodes a)
-      (kept (p .resources) (storedOf a) i (move (p .automaton) t .to) g fits (limits .moves t (can .low) .to))
-
-  sized-after : Whole (takenBy p t g .progress) → Sized (takenBy p t g .progress)
-  sized-after w = record { available = w .available; latest = w .latest; lengths = w .lengths; pending = w .pending }
-
   advances : Advances p t g
   advances = record {
     emitted = λ e. emitted a (takenBy p t g .schedule) e;
     steps = steps (p .resources) (resourceOf p) a i (move (p .automaton) t .to) g ready;
     queues = λ e. queue-grows (p .resources) (resourceOf p) a i (move (p .automaton) t .to) g ready e ∙ ap (λ (q : List Instance). q ++ map (λ n. emission (g .position) n (at (takenBy p t g .schedule .end) n)) (emitted a (takenBy p t g .schedule) e)) (left e);
-    sized = sized-after (whole-after (p .resources) (resourceOf p) a i (move (p .automaton) t .to) g ready);
-    within = stays-within;
+    sized = whole-after (p .resources) (resourceOf p) a i (move (p .automaton) t .to) g ready;
+    within = taken-kept p t g limits (can .low) (can .within);
   }
 
 -- ---- paths settle

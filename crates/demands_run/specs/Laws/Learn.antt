@@ -38,10 +38,11 @@ use Rattle.run.specs.declared.Reply.{Reply}
 use Rattle.run_loading.specs.declared.Failure.{Failure}
 use Rattle.run.specs.Limits.{haltInLimits}
 use Rattle.run.specs.Loading.{Loading}
+use Rattle.run.specs.Inner.Calls.{replyAfter, haltAfter}
 use Rattle.demands_log.specs.Log.{Id, Log, Always, said, Accepts, Reports, Reported, StoppedIn}
 use Rattle.demands_log.specs.Log as Log
 use Rattle.demands_theory.specs.Laws.Machine.{World, Held}
-use Rattle.demands_theory.specs.Laws.Way.{learns, Agrees, haltOf, replyOf}
+use Rattle.demands_theory.specs.Laws.Way.{learns, Agrees}
 use Rattle.demands_theory.specs.Laws.Way as Way
 use Rattle.demands_theory.specs.Loading.{Unreported, EndsAt, whole, beyond, full, Loads}
 use Rattle.demands_theory.specs.Laws.Accounts.{always-map}
@@ -75,7 +76,7 @@ tolds-few (x ∷ q) = let u = tolds-few q in let v = one (x .told) in omega arit
     one Told.Nothing = omega arith
     one (Told.Outcome o) = omega arith
 
-failed-limits : (f : Failure) → haltInLimits (haltOf f) ≡ true
+failed-limits : (f : Failure) → haltInLimits (haltAfter f) ≡ true
 failed-limits Failure.None = refl
 failed-limits Failure.Full = refl
 failed-limits Failure.Beyond = refl
@@ -120,7 +121,7 @@ module _ (laws : EngineLaws) (p : Plan) (psi : Clock) (slack : ℕ) (given : Acc
     inside : e .position < lengthOf is
     inside = old-position p (given .lawful) available is (stateAfter p is) path (idOf e) (agrees .node)
 
-    accepts : (f : Failure) → Accepts (replyOf f) log
+    accepts : (f : Failure) → Accepts (replyAfter f) log
     accepts Failure.None = tt
     accepts Failure.Full = (tt, unstopped)
     accepts Failure.Beyond = (tt, unstopped)
@@ -137,10 +138,10 @@ module _ (laws : EngineLaws) (p : Plan) (psi : Clock) (slack : ℕ) (given : Acc
     -- the log with this call, whose answer tells how loading went
     module _ (f : Failure) where
       abbrev log1 : Log
-      log1 = said c (replyOf f) ∷ log
+      log1 = said c (replyAfter f) ∷ log
 
       stands : Stands p available log1 is g1
-      stands = stands-informed p (given .lawful) (given .automaton) available log is g (good .stands) e ev o event inside low (ltb-true _ _ has) t (replyOf f) (accepts f)
+      stands = stands-informed p (given .lawful) (given .automaton) available log is g (good .stands) e ev o event inside low (ltb-true _ _ has) t (replyAfter f) (accepts f)
 
       start : Loaded p (given .lawful) (given .automaton) available log1 is w1 is g1 w1
       start = record {
@@ -189,7 +190,7 @@ module _ (laws : EngineLaws) (p : Plan) (psi : Clock) (slack : ℕ) (given : Acc
           further-loads p (given .lawful) (given .automaton) available log1 is w1 laws psi slack t Halt.Going (told-once log1 reports-once) unreported held-still old-report
           mostPending is g1 w1 start (good .rests) few
 
-      after-loading : l .failure ≡ f → Good p psi slack available log1 (loads .word) (runOf p psi slack given available (loads .progress) (loads .window) t (haltOf f))
+      after-loading : l .failure ≡ f → Good p psi slack available log1 (loads .word) (runOf p psi slack given available (loads .progress) (loads .window) t (haltAfter f))
       after-loading q =
           let x = loads in
           let e = subst (EndsAt p available log1 (x .word)) q (loads-end p available log1 is (x .word) (l .failure) (x .says)) in

@@ -21,7 +21,7 @@ use Rattle.plan.specs.declared.Plan.{Plan}
 use Rattle.automaton.specs.Rules.{MeetsAutomaton}
 use Rattle.activity.specs.Rules.{node}
 use Rattle.times_combined.specs.Word.{Word, size}
-use Rattle.times_combined.specs.Combined.{named, NotClaim, Nodes, Joined}
+use Rattle.times_combined.specs.Combined.{named, Nodes, Joined}
 use Rattle.times_combined.specs.Paths.{wordOf, Follows, Lawful}
 use Rattle.times_combined.specs.Laws.Theorems.{plan-times-only, plan-run-equal}
 use Rattle.times_combined.specs.Laws.Shape.{node-place, sort}
@@ -45,6 +45,7 @@ use Rattle.demands_theory.specs.Laws.Way.{Agrees, Extends}
 use Rattle.demands_theory.specs.Nodes.{whose, Working, lengthOf, EmitsAt, here, idOf}
 use Rattle.demands_theory.specs.TheWord.{stateAfter, Takes}
 use Rattle.demands_theory.specs.Laws.OfPlan.{worldOf}
+use Rattle.demands_theory.specs.Laws.Nodes.{not-claim}
 use Rattle.demands_theory.specs.Laws.TheWord.{takes-follows}
 use Rattle.demands_theory.specs.Laws.World.{extends, old-position}
 use Rattle.demands_theory.specs.Laws.Growth.{Tail, later, extends-on}
@@ -68,12 +69,6 @@ working-work (Kind.Action a x) h = refl
 working-work (Kind.Claim r) h = absurd h
 working-work (Kind.Release r) h = absurd h
 working-work (Kind.Event v) h = refl
-
-working-not-claim : (k : Kind) → Working k → NotClaim k
-working-not-claim (Kind.Action a x) h = tt
-working-not-claim (Kind.Claim r) h = absurd h
-working-not-claim (Kind.Release r) h = tt
-working-not-claim (Kind.Event v) h = tt
 
 -- ---- a transition that does not pass the limits of number 44
 
@@ -148,7 +143,7 @@ module _ (p : Plan) (lawful : Lawful p) (automaton : MeetsAutomaton p) (availabl
     timed n l k = subst (λ (q : ℕ). Timed q n) place (there, sym start ∙ same .0, sym end ∙ same .1)
       where
         there : W .Node (t ∷ us) (id (size (wordOf p us)) n)
-        there = (node a n .kind, (node a n .duration, Joined.right (Nodes.own l refl refl) (working-not-claim (node a n .kind) (work-working (node a n .kind) k))), work-working (node a n .kind) k)
+        there = (node a n .kind, (node a n .duration, Joined.right (Nodes.own l refl refl) (not-claim (node a n .kind) (work-working (node a n .kind) k))), work-working (node a n .kind) k)
 
         same : (startAt (on .trace) (named (suc (size (wordOf p us))) n) ≡ W .start (t ∷ us) (id (size (wordOf p us)) n)) × (endAt (on .trace) (named (suc (size (wordOf p us))) n) ≡ W .completion (t ∷ us) (id (size (wordOf p us)) n))
         same =

@@ -6,21 +6,19 @@ use mathlib.Core.Logic.{inl}
 use mathlib.Core.List.{List, [], _∷_, _++_, map}
 use Prim.Native.Nat.{ℕ, zero, suc, _+_, _*_, _<_}
 use native.Mathlib.Omega.{arith}
-use borrow.Author.Tests.{ltb-true, lt-ltb, eqb-true}
-use lib.Dec.{ltb, eqb}
+use borrow.Author.Tests.{ltb-true, lt-ltb}
+use lib.Dec.{ltb}
 use lib.ListN.{length, length-append, getD}
 use Rattle.basis.specs.Parts.{part}
 use Rattle.basis.specs.Laws.PartsHold.{length-part}
-use Rattle.plan.specs.Plan.{pastMove, move, outcomesOf}
-use Rattle.plan.specs.Limits.{InputNames}
+use Rattle.plan.specs.Plan.{move, outcomesOf}
 use Rattle.plan.specs.declared.Input.{Input}
-use Rattle.plan.specs.declared.Automaton.{Automaton}
-use Rattle.plan.specs.declared.Transition.{Transition}
 use Rattle.plan.specs.declared.Plan.{Plan}
-use Rattle.automaton.specs.Next.{onInput, nextFrom, nextOf, chosenOf}
+use Rattle.automaton.specs.Next.{nextOf, chosenOf}
 use Rattle.automaton.specs.Rules.{MeetsAutomaton}
 use Rattle.automaton.specs.declared.Next.{Next}
 use Rattle.automaton.specs.declared.Chosen.{Chosen}
+use Rattle.automaton.specs.Laws.Following.{chosen-leaves, awaited-below}
 use Rattle.automaton.specs.Laws.Cases.{goes-same, ended-goes, waits-goes}
 use Rattle.times_combined.specs.Word.{times}
 use Rattle.times_combined.specs.Combined.{Instance}
@@ -36,40 +34,10 @@ use Rattle.demands_log.specs.Log.{Id, Log}
 use Rattle.demands_log.specs.Log as Log
 use Rattle.demands_theory.specs.Nodes.{whose}
 use Rattle.demands_theory.specs.TheWord.{stateAfter, nextAfter, wholeOf, Oldest, Takes, hears, Stuck, ended, waits}
-use Rattle.demands_theory.specs.Laws.Next.{Found, chosen-found}
 use Rattle.demands_theory.specs.Laws.Nodes.{whose-same}
 use Rattle.demands_run.specs.Laws.Engine.{rest, EngineLaws}
-use Rattle.demands_run.specs.Laws.Stands.{identOf, idOf, ToldAs, Queued, Stands}
+use Rattle.demands_run.specs.Laws.Stands.{identOf, idOf, ToldAs, Queued, Stands, next-after}
 use Rattle.demands_run.specs.Laws.Paths.{isTold, tolds, Rests}
-
--- ---- a state that awaits an event has a transition that processes it
-
-abbrev Awaits : List Transition → ℕ → ℕ → ℕ → Next → Type 0
-Awaits ts s i k Next.Ended = Unit {0}
-Awaits ts s i k (Next.Goes t) = Unit {0}
-Awaits ts s i k (Next.Waits e) = (t : ℕ) × (o : ℕ) × Found ts s i k t (Input.Outcome e o)
-
-awaits-later : (ts : List Transition) (s i k : ℕ) (n : Next) → Awaits ts s (i + 1) k n → Awaits ts s i (suc k) n
-awaits-later ts s i k Next.Ended h = tt
-awaits-later ts s i k (Next.Goes t) h = tt
-awaits-later ts s i k (Next.Waits e) (t, o, f) =
-    (t, o, record { from-i = (let u = f .from-i in omega arith); below = (let u = f .below in omega arith); from = f .from; input = f .input })
-
-next-awaits : (ts : List Transition) (s i k : ℕ) → Awaits ts s i k (nextFrom (part pastMove ts i k) s i)
-unfolding nextFrom
-next-awaits ts s i zero = tt
-next-awaits ts s i (suc k) = go (eqb (getD ts i pastMove .from) s) refl (next-awaits ts s (i + 1) k)
-  where
-    here : (x : Input) → getD ts i pastMove .input ≡ x → getD ts i pastMove .from ≡ s → Awaits ts s i (suc k) (onInput x i)
-    here Input.Nothing e f = tt
-    here (Input.Outcome ev o) e f = (i, o, record { from-i = omega arith; below = omega arith; from = f; input = e })
-
-    go : (b : Bool) → eqb (getD ts i pastMove .from) s ≡ b → Awaits ts s (i + 1) k (nextFrom (part pastMove ts (i + 1) k) s (i + 1)) → Awaits ts s i (suc k) (cond b (onInput (getD ts i pastMove .input) i) (nextFrom (part pastMove ts (i + 1) k) s (i + 1)))
-    go true e h = here (getD ts i pastMove .input) refl (eqb-true (getD ts i pastMove .from) s e)
-    go false e h = awaits-later ts s i k (nextFrom (part pastMove ts (i + 1) k) s (i + 1)) h
-
-pub awaited : (a : Automaton) (s e : ℕ) → nextOf a s ≡ Next.Waits e → (t : ℕ) × (o : ℕ) × Found (a .moves) s 0 (a .count) t (Input.Outcome e o)
-awaited a s e h = subst (Awaits (a .moves) s 0 (a .count)) h (next-awaits (a .moves) s 0 (a .count))
 
 -- ---- the oldest of a queue
 
@@ -107,14 +75,6 @@ module _ (p : Plan) (lawful : Lawful p) (automaton : MeetsAutomaton p) (availabl
   here : stateAfter p us ≡ g .state
   here = sym (s .place)
 
-  after-here : (n : Next) → nextOf (p .automaton) (g .state) ≡ n → nextAfter p us ≡ n
-  after-here n e = ap (nextOf (p .automaton)) here ∙ e
-
-  low-event : (e : ℕ) → nextOf (p .automaton) (g .state) ≡ Next.Waits e → e < p .events
-  low-event e w =
-      let f = awaited (p .automaton) (g .state) e w in
-      subst (InputNames p) (f .2 .input) (lawful .file .limits .moves (f .0) (let u = f .2 .below in omega arith) .input) .0
-
   -- what the log tells of the oldest makes it go on
   heard : (e o t : ℕ) → nextOf (p .automaton) (g .state) ≡ Next.Waits e → 0 < pendingOf g e → instanceOf g e 0 .told ≡ Told.Outcome o → chosenOf (p .automaton) (g .state) e o ≡ Chosen.Move t → Heard t
   heard e o t w l told c =
@@ -125,12 +85,12 @@ module _ (p : Plan) (lawful : Lawful p) (automaton : MeetsAutomaton p) (availabl
         event = e;
         outcome = o;
         instance = idOf (instanceOf g e 0);
-        awaits = after-here (Next.Waits e) w;
+        awaits = next-after s w;
         oldest = head-oldest e l;
         told = known;
-        takes = hears e o (idOf (instanceOf g e 0)) (s .taken) (after-here (Next.Waits e) w) (head-oldest e l) known there;
-        input = chosen-found (p .automaton) (g .state) e o t c .input;
-        low = low-event e w;
+        takes = hears e o (idOf (instanceOf g e 0)) (s .taken) (next-after s w) (head-oldest e l) known there;
+        input = chosen-leaves (p .automaton) (g .state) e o t c .1;
+        low = awaited-below p (lawful .file .limits) (g .state) e w;
         fewer = (let u = ap tolds (queue-head g e l) in let z = ap isTold told in omega arith);
       }
 
@@ -197,9 +157,9 @@ module _ (p : Plan) (lawful : Lawful p) (automaton : MeetsAutomaton p) (availabl
           whose-same (idOf (instanceOf g e 0)) x
           (only-instance (wholeOf p us) e (q .past) (identOf (instanceOf g e 0)) (map identOf (rest (queueOf g e))) (q .listing) (whose x)
           (subst (λ (n : ℕ). Instance (wholeOf p us) e (n + 1) (whose x)) (sym (q .count)) old)) in
-          telling e w l (instanceOf g e 0 .told) refl (q .told (instanceOf g e 0) (inl refl)) (s .within .pending e 0 (low-event e w) l .told) o (subst (λ (z : Id). Log.Told log z o) (sym same) k)
+          telling e w l (instanceOf g e 0 .told) refl (q .told (instanceOf g e 0) (inl refl)) (s .within .pending e 0 (awaited-below p (lawful .file .limits) (g .state) e w) l .told) o (subst (λ (z : Id). Log.Told log z o) (sym same) k)
 
       by : (n : Next) → nextOf (p .automaton) (g .state) ≡ n → Stuck p log us
-      by Next.Ended w = ended (after-here Next.Ended w)
-      by (Next.Goes t) w = absurd (rests t (after-here (Next.Goes t) w))
-      by (Next.Waits e) w = waits e (after-here (Next.Waits e) w) (untold e w)
+      by Next.Ended w = ended (next-after s w)
+      by (Next.Goes t) w = absurd (rests t (next-after s w))
+      by (Next.Waits e) w = waits e (next-after s w) (untold e w)

@@ -71,7 +71,8 @@ use Rattle.demands_run.specs.Laws.Silent.{one-rest}
 use Rattle.demands_run.specs.Laws.PathLimits.{Quiet, tells-quiet}
 use Rattle.demands_run.specs.Laws.PathNodes.{low, Passes, passes-quiet}
 use Rattle.demands_run.specs.Laws.Many.{too-many, not-many}
-use Rattle.demands_run.specs.Laws.Engine.{stateOf, Settles, EngineLaws}
+use Rattle.times_equal.specs.Laws.Seen.{seen}
+use Rattle.demands_run.specs.Laws.Engine.{Settles, EngineLaws}
 use Rattle.demands_run.specs.Laws.Stands.{identOf, Stands, Accepted, Good}
 use Rattle.demands_run.specs.Laws.Bounds.{vacant-passes}
 use Rattle.demands_run.specs.Laws.Short.{short-none, by-shortest}
@@ -118,7 +119,7 @@ module _ (laws : EngineLaws) (p : Plan) (psi : Clock) (slack : ℕ) (given : Acc
 
   first-stands : Stands p available [] [] g
   first-stands = record {
-    trace = record { state = λ i. stateOf g; floor = λ i. 0; start = λ i n. 0; end = λ i n. 0; emits = λ i e. [] };
+    trace = record { state = λ i. seen g; floor = λ i. 0; start = λ i n. 0; end = λ i n. 0; emits = λ i e. [] };
     runs = opens (λ r. given-at ts (16 - length ts) r) (λ e. ap (λ (s : Specified). s .0) (all-same 16 e (specified 0))) (λ e. ap (map (λ x. x .end .0)) (empty-queue e));
     state = refl;
     queues = λ e. record {

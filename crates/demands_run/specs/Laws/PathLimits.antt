@@ -19,7 +19,7 @@ use Rattle.demands_theory.specs.TheWord.{nextAfter, Takes, goes}
 use Rattle.demands_theory.specs.Loading.{Silently, stays, goes-on, Beyond, PathBeyond}
 use Rattle.demands_theory.specs.Laws.TheWord.{last, step-same}
 use Rattle.demands_run.specs.Laws.Engine.{Settles, EngineLaws}
-use Rattle.demands_run.specs.Laws.Stands.{Stands}
+use Rattle.demands_run.specs.Laws.Stands.{Stands, next-after}
 use Rattle.demands_run.specs.Laws.Silent.{silent-first, silent-next}
 use Rattle.demands_run.specs.Laws.Taken.{next-state, stands-on}
 use Rattle.demands_run.specs.Laws.Counts.{possible, pending-length}
@@ -64,26 +64,23 @@ module _ (p : Plan) (lawful : Lawful p) (automaton : MeetsAutomaton p) (availabl
       go (nextOf (p .automaton) (g .state)) refl
       (λ t e next b. tells-quiet k (t ∷ us) (takenBy p t g .progress) (on us g s t next b) (subst (Settles (p .automaton) k) (sym (next-state p t g)) (settles t e)))
     where
-      after : (n : Next) → nextOf (p .automaton) (g .state) ≡ n → nextAfter p us ≡ n
-      after n e = ap (nextOf (p .automaton)) (sym (s .place)) ∙ e
-
       go : (n : Next) → nextOf (p .automaton) (g .state) ≡ n
           → ((t : ℕ) → nextOf (p .automaton) (g .state) ≡ Next.Goes t → Takes p log (t ∷ us) → takenBy p t g .beyond ≡ false → Tells (pathFrom p k (nextOf (p .automaton) (takenBy p t g .progress .state)) (takenBy p t g .progress) .beyond) (Quiet (t ∷ us)))
           → Tells (pathFrom p (suc k) n g .beyond) (Quiet us)
-      go Next.Ended e more = fails (no-quiet us (λ t z. ended-goes (sym (after Next.Ended e) ∙ z)))
-      go (Next.Waits x) e more = fails (no-quiet us (λ t z. waits-goes (sym (after (Next.Waits x) e) ∙ z)))
+      go Next.Ended e more = fails (no-quiet us (λ t z. ended-goes (sym (next-after s e) ∙ z)))
+      go (Next.Waits x) e more = fails (no-quiet us (λ t z. waits-goes (sym (next-after s e) ∙ z)))
       go (Next.Goes t) e more = step (takenBy p t g .beyond) refl (tells-beyond p lawful automaton available log laws us g s t next) (more t e next)
         where
           next : Takes p log (t ∷ us)
-          next = goes (s .taken) (after (Next.Goes t) e)
+          next = goes (s .taken) (next-after s e)
 
           rest : Path
           rest = pathFrom p k (nextOf (p .automaton) (takenBy p t g .progress .state)) (takenBy p t g .progress)
 
           step : (b : Bool) → takenBy p t g .beyond ≡ b → Tells b (Beyond p available (t ∷ us)) → (takenBy p t g .beyond ≡ false → Tells (rest .beyond) (Quiet (t ∷ us)))
               → Tells (cond {A = Path} b (record { beyond = true; entries = []; progress = g }) (record { beyond = rest .beyond; entries = entriesBy p t g ++ rest .entries; progress = rest .progress }) .beyond) (Quiet us)
-          step true q (holds y) f = holds (record { before = us; number = t; silent = stays; next = after (Next.Goes t) e; beyond = y })
-          step false q (fails n) f = tells-iff (quiet-back us t (after (Next.Goes t) e), quiet-on us t (after (Next.Goes t) e) n) (f q)
+          step true q (holds y) f = holds (record { before = us; number = t; silent = stays; next = next-after s e; beyond = y })
+          step false q (fails n) f = tells-iff (quiet-back us t (next-after s e), quiet-on us t (next-after s e) n) (f q)
 
   -- ---- the next path
 

@@ -19,7 +19,7 @@ use Rattle.automaton.specs.Rules.{MeetsAutomaton}
 use Rattle.automaton.specs.declared.Next.{Next}
 use Rattle.automaton.specs.Laws.Cases.{ended-goes, waits-goes}
 use Rattle.times_combined.specs.Word.{size}
-use Rattle.times_combined.specs.Combined.{NotRelease, NotClaim, Nodes, Joined}
+use Rattle.times_combined.specs.Combined.{Nodes, Joined}
 use Rattle.times_combined.specs.Paths.{wordOf, Lawful}
 use Rattle.times_combined.specs.Laws.Shape.{node-place, sort}
 use Rattle.times.specs.declared.Schedule.{Schedule}
@@ -28,26 +28,19 @@ use Rattle.run_path.specs.Path.{Path, isWork, loaded, activityNumber, takenBy, 
 use Rattle.run_window.specs.Window.{vacant}
 use Rattle.run_window.specs.declared.Entry.{Entry}
 use Rattle.demands_log.specs.Log.{Id, id, Log}
-use Rattle.demands_theory.specs.Nodes.{whose, Working, Work, lengthOf, idOf}
-use Rattle.demands_theory.specs.TheWord.{stateAfter, nextAfter, wholeOf, Rests, Takes, goes}
+use Rattle.demands_theory.specs.Nodes.{whose, Work, lengthOf, idOf}
+use Rattle.demands_theory.specs.TheWord.{stateAfter, wholeOf, Rests, Takes, goes}
 use Rattle.demands_theory.specs.Loading.{Silently, stays}
+use Rattle.demands_theory.specs.Laws.Nodes.{not-claim, not-release}
 use Rattle.demands_theory.specs.Laws.TheWord.{takes-follows}
 use Rattle.demands_theory.specs.Laws.World.{old-position}
 use Rattle.demands_run.specs.Laws.Engine.{Settles, EngineLaws}
-use Rattle.demands_run.specs.Laws.Stands.{Stands}
+use Rattle.demands_run.specs.Laws.Stands.{Stands, next-after}
 use Rattle.demands_run.specs.Laws.Silent.{silent-first}
 use Rattle.demands_run.specs.Laws.Taken.{size-is, next-state}
 use Rattle.demands_run.specs.Laws.Entries.{brought, brings, different}
 use Rattle.demands_run.specs.Laws.Loaded.{work-working, working-work}
 use Rattle.demands_run.specs.Laws.PathLimits.{on}
-
-not-release : (k : Kind) → Working k → NotRelease k
-not-release (Kind.Action a p) h = tt
-not-release (Kind.Event e) h = tt
-
-not-claim : (k : Kind) → Working k → NotClaim k
-not-claim (Kind.Action a p) h = tt
-not-claim (Kind.Event e) h = tt
 
 -- members that differ by place are distinct
 distinct-ids : (es : List Entry) → ((k l : ℕ) → k < length es → l < length es → idOf (getD es k vacant) ≡ idOf (getD es l vacant) → k ≡ l) → Distinct (map idOf es)
@@ -173,18 +166,15 @@ module _ (p : Plan) (lawful : Lawful p) (automaton : MeetsAutomaton p) (availabl
       go (nextOf (p .automaton) (g .state)) refl
       (λ t e next c. passes-quiet k (t ∷ us) (takenBy p t g .progress) (on p lawful automaton available log laws us g s t next c) (subst (Settles (p .automaton) k) (sym (next-state p t g)) (settles t e))) b
     where
-      after : (n : Next) → nextOf (p .automaton) (g .state) ≡ n → nextAfter p us ≡ n
-      after n e = ap (nextOf (p .automaton)) (sym (s .place)) ∙ e
-
       go : (n : Next) → nextOf (p .automaton) (g .state) ≡ n
           → ((t : ℕ) → nextOf (p .automaton) (g .state) ≡ Next.Goes t → Takes p log (t ∷ us) → takenBy p t g .beyond ≡ false → pathFrom p k (nextOf (p .automaton) (takenBy p t g .progress .state)) (takenBy p t g .progress) .beyond ≡ false → Passes (t ∷ us) (t ∷ us) (pathFrom p k (nextOf (p .automaton) (takenBy p t g .progress .state)) (takenBy p t g .progress)))
           → pathFrom p (suc k) n g .beyond ≡ false → Passes us us (pathFrom p (suc k) n g)
-      go Next.Ended e more b = ends-here us (s .taken) (λ t z. ended-goes (sym (after Next.Ended e) ∙ z)) g
-      go (Next.Waits x) e more b = ends-here us (s .taken) (λ t z. waits-goes (sym (after (Next.Waits x) e) ∙ z)) g
+      go Next.Ended e more b = ends-here us (s .taken) (λ t z. ended-goes (sym (next-after s e) ∙ z)) g
+      go (Next.Waits x) e more b = ends-here us (s .taken) (λ t z. waits-goes (sym (next-after s e) ∙ z)) g
       go (Next.Goes t) e more b =
-          let next = goes (s .taken) (after (Next.Goes t) e) in
+          let next = goes (s .taken) (next-after s e) in
           let r = first k us g s t next (more t e next) b in
-          record { word = r .word; taken = r .taken; silent = silent-first p us t (after (Next.Goes t) e) (r .word) (r .silent); rests = r .rests; brings = r .brings }
+          record { word = r .word; taken = r .taken; silent = silent-first p us t (next-after s e) (r .word) (r .silent); rests = r .rests; brings = r .brings }
 
   pub passes : (k : ℕ) (us : List ℕ) (g : Progress) (s : Stands p available log us g) (t : ℕ) → Takes p log (t ∷ us) → (takenBy p t g .beyond ≡ false → Settles (p .automaton) k (takenBy p t g .progress .state))
       → pathFrom p (suc k) (Next.Goes t) g .beyond ≡ false → Passes us (t ∷ us) (pathFrom p (suc k) (Next.Goes t) g)

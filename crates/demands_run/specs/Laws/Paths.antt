@@ -12,6 +12,7 @@ use Rattle.plan.specs.declared.Plan.{Plan}
 use Rattle.automaton.specs.Next.{nextOf}
 use Rattle.automaton.specs.Rules.{MeetsAutomaton}
 use Rattle.automaton.specs.declared.Next.{Next}
+use Rattle.automaton.specs.Laws.Following.{next-leaves}
 use Rattle.automaton.specs.Laws.Cases.{waits-goes, ended-goes}
 use Rattle.times_combined.specs.Paths.{Lawful}
 use Rattle.times.specs.Times.{at}
@@ -28,9 +29,9 @@ use Rattle.demands_theory.specs.TheWord.{nextAfter, Takes, goes}
 use Rattle.demands_theory.specs.Loading.{Silently, stays}
 use Rattle.demands_run.specs.Laws.Silent.{silent-first}
 pub use Rattle.demands_theory.specs.TheWord.{Rests}
-use Rattle.demands_theory.specs.Laws.Next.{next-found}
 use Rattle.demands_theory.specs.Laws.Growth.{Tail, here, later}
 use Rattle.demands_run.specs.Laws.Engine.{remaining, Settles, EngineLaws}
+use Rattle.demands_run.specs.Laws.Stands.{next-after}
 use Rattle.demands_run.specs.Laws.Counts.{possible}
 use Rattle.demands_run.specs.Laws.Taken.{next-state}
 use Rattle.demands_run.specs.Laws.Loaded.{Loaded, loads-one, all-new}
@@ -140,6 +141,5 @@ module _ (p : Plan) (lawful : Lawful p) (automaton : MeetsAutomaton p) (availabl
       go Next.Ended e more = stops us g w h (λ t z. ended-goes (sym e ∙ z))
       go (Next.Waits x) e more = stops us g w h (λ t z. waits-goes (sym e ∙ z))
       go (Next.Goes t) e more =
-          let f = next-found (p .automaton) (g .state) t e in
-          subst (λ (i : Input). Fits us w (λ e. tolds (remaining i g e)) (pathFrom p (suc k) (Next.Goes t) g)) (f .input) λ b room.
-          sooner us t (ap (nextOf (p .automaton)) (sym (h .stands .place)) ∙ e) w _ _ (first-of k us g w h t (goes (h .stands .taken) (ap (nextOf (p .automaton)) (sym (h .stands .place)) ∙ e)) (more t e) b room)
+          subst (λ (i : Input). Fits us w (λ e. tolds (remaining i g e)) (pathFrom p (suc k) (Next.Goes t) g)) (next-leaves (p .automaton) (g .state) t e .1) λ b room.
+          sooner us t (next-after (h .stands) e) w _ _ (first-of k us g w h t (goes (h .stands .taken) (next-after (h .stands) e)) (more t e) b room)

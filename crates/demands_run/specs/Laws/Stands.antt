@@ -1,7 +1,7 @@
 -- What a run knows of itself after the calls of a log: it is in limits and keeps the opening's plan, Ψ and slack; its word is
 -- taken by what the log tells, up to a waiting or final state, within the limits of 44, and as far as it goes unless a loading has
 -- failed, by the next path; and where it stands is where the engine's way over that word leads.
-use mathlib.Core.Path.{_≡_}
+use mathlib.Core.Path.{_≡_, sym, ap, _∙_}
 use mathlib.Core.Bool.{true}
 use mathlib.Core.List.{List, _++_, map}
 use Prim.Native.Nat.{ℕ, _≤_, _<_}
@@ -10,7 +10,9 @@ use Rattle.basis.specs.Lists.{Among}
 use Rattle.time.specs.Time.{horizon}
 use Rattle.time.specs.declared.Clock.{Clock}
 use Rattle.plan.specs.declared.Plan.{Plan}
+use Rattle.automaton.specs.Next.{nextOf}
 use Rattle.automaton.specs.Rules.{MeetsAutomaton}
+use Rattle.automaton.specs.declared.Next.{Next}
 use Rattle.times_combined.specs.Word.{size, times}
 use Rattle.times_combined.specs.Combined.{Ident, Graph, identity}
 use Rattle.times_combined.specs.Laws.Engine.{Trace, Run as Runs}
@@ -20,6 +22,8 @@ use Rattle.times.specs.Queues.{queueOf}
 use Rattle.times.specs.declared.Told.{Told}
 use Rattle.times.specs.declared.Instance.{Instance}
 use Rattle.times.specs.declared.Progress.{Progress}
+use Rattle.times_equal.specs.Laws.Seen.{seen, Whole}
+use Rattle.run_path.specs.Pathed.{ProgressIn}
 use Rattle.run_window.specs.Window.{vacant}
 use Rattle.run_limits.specs.Window.{entryInLimits}
 use Rattle.run.specs.Limits.{slackInLimits, haltInLimits}
@@ -29,11 +33,10 @@ use Rattle.run_checks.specs.declared.Stop.{Stop}
 use Rattle.demands_log.specs.Log.{Id, id, Log, FailedIn}
 use Rattle.demands_log.specs.Log as Log
 use Rattle.demands_theory.specs.Nodes.{lengthOf}
-use Rattle.demands_theory.specs.TheWord.{stateAfter, wholeOf, Rests, Takes, Stuck}
+use Rattle.demands_theory.specs.TheWord.{stateAfter, nextAfter, wholeOf, Rests, Takes, Stuck}
 use Rattle.demands_theory.specs.Loading.{PathBeyond, PathFull}
 use Rattle.demands_theory.specs.Loading as Loading
 use Rattle.demands_theory.specs.Laws.OfPlan.{Long}
-use Rattle.demands_run.specs.Laws.Engine.{Sized, Within, stateOf}
 
 -- ---- pending instances
 
@@ -60,15 +63,19 @@ pub record Queued (G : Graph) (log : Log) (e n : ℕ) (q : List Instance) : Type
 pub record Stands (p : Plan) (available : ℕ → ℕ) (log : Log) (is : List ℕ) (g : Progress) : Type 0 where
   pub trace : Trace
   pub runs : Runs (p .resources) available trace (wordOf p is)
-  pub state : trace .state (size (wordOf p is)) ≡ stateOf g
+  pub state : trace .state (size (wordOf p is)) ≡ seen g
   pub queues : (e : ℕ) → Queued (wholeOf p is) log e (times e (wordOf p is)) (queueOf g e)
   pub place : g .state ≡ stateAfter p is
   pub position : g .position ≡ lengthOf is
-  pub sized : Sized g
-  pub within : Within p g
+  pub sized : Whole g
+  pub within : ProgressIn p g
   pub taken : Takes p log is
   -- nothing is told of nodes that are not in the word
   pub known : (x : Id) (o : ℕ) → Log.Told log x o → x .position < lengthOf is
+
+-- what follows the word is what its state does next
+pub next-after : {p : Plan} {available : ℕ → ℕ} {log : Log} {is : List ℕ} {g : Progress} → Stands p available log is g → {n : Next} → nextOf (p .automaton) (g .state) ≡ n → nextAfter p is ≡ n
+next-after {p} s e = ap (nextOf (p .automaton)) (sym (s .place)) ∙ e
 
 -- ---- the opening's plan, Ψ and slack
 

@@ -30,13 +30,14 @@ use Rattle.times.specs.Engine.{heldOf, closedOf, emitsOf, timedOf}
 use Rattle.times.specs.Laws.Fits.{processed-position, left-position}
 use Rattle.times.specs.declared.Instance.{Instance}
 use Rattle.times.specs.declared.Progress.{Progress}
+use Rattle.times_equal.specs.Laws.Seen.{seen, Pending}
 use Rattle.run_path.specs.Path.{takenBy}
 use Rattle.demands_log.specs.Log.{Log}
 use Rattle.demands_log.specs.Log as Log
 use Rattle.demands_theory.specs.Nodes.{lengthOf}
 use Rattle.demands_theory.specs.TheWord.{stateAfter, wholeOf, Takes}
 use Rattle.demands_theory.specs.Laws.TheWord.{takes-follows}
-use Rattle.demands_run.specs.Laws.Engine.{stateOf, rest, remaining, Pending, Advances}
+use Rattle.demands_run.specs.Laws.Engine.{rest, remaining, Advances}
 use Rattle.demands_run.specs.Laws.Stands.{identOf, idOf, ToldAs, Queued, Stands}
 
 -- ---- the next position and state
@@ -124,15 +125,15 @@ module _ (p : Plan) (lawful : Lawful p) (available : ℕ → ℕ) (log : Log) (i
           ∙ sym (map-append identOf q (map (λ m. emission (g .position) m (at (takenBy p t g .schedule .end) m)) (adv .emitted e))))
 
   abbrev pub trace : Trace
-  trace = put (s .trace) (size w) (floorOf (move (p .automaton) t .input) g) (λ n. at (takenBy p t g .schedule .start) n) (λ n. at (takenBy p t g .schedule .end) n) (adv .emitted) (stateOf (takenBy p t g .progress))
+  trace = put (s .trace) (size w) (floorOf (move (p .automaton) t .input) g) (λ n. at (takenBy p t g .schedule .start) n) (λ n. at (takenBy p t g .schedule .end) n) (adv .emitted) (seen (takenBy p t g .progress))
 
   -- the engine's way over the longer word, past the limits too
   pub runs-on : Runs (p .resources) available trace (w ▷ x)
   runs-on =
       extended (p .resources) available (s .trace) w x _ _ _ _ _ (s .runs)
-      (subst (λ (z : State). Steps (p .resources) x z (floorOf (move (p .automaton) t .input) g) (λ n. at (takenBy p t g .schedule .start) n) (λ n. at (takenBy p t g .schedule .end) n) (adv .emitted) (stateOf (takenBy p t g .progress))) (sym (s .state)) (adv .steps))
+      (subst (λ (z : State). Steps (p .resources) x z (floorOf (move (p .automaton) t .input) g) (λ n. at (takenBy p t g .schedule .start) n) (λ n. at (takenBy p t g .schedule .end) n) (adv .emitted) (seen (takenBy p t g .progress))) (sym (s .state)) (adv .steps))
 
-  pub state-on : trace .state (size (w ▷ x)) ≡ stateOf (takenBy p t g .progress)
+  pub state-on : trace .state (size (w ▷ x)) ≡ seen (takenBy p t g .progress)
   state-on = rw (lt-leb (suc (size w)) (size w) (omega arith))
 
   -- the times of its nodes are those of the schedule

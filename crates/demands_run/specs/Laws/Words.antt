@@ -14,13 +14,13 @@ use Rattle.basis.specs.Lists.{Among}
 use Rattle.basis.specs.Laws.Lists.{among-either, map-among}
 use Rattle.basis.specs.Laws.PartsHold.{among-part}
 use Rattle.plan.specs.Plan.{move, emittedBy, outcomesOf, resourceOf}
-use Rattle.plan.specs.Limits.{InputNames}
 use Rattle.plan.specs.declared.Input.{Input}
 use Rattle.plan.specs.declared.Plan.{Plan}
 use Rattle.automaton.specs.Next.{chosenOf}
 use Rattle.automaton.specs.Rules.{MeetsAutomaton}
 use Rattle.automaton.specs.declared.Next.{Next}
 use Rattle.automaton.specs.declared.Chosen.{Chosen}
+use Rattle.automaton.specs.Laws.Following.{next-leaves, chosen-leaves, awaited-below}
 use Rattle.automaton.specs.Laws.Cases.{ended-goes, waits-goes}
 use Rattle.times_combined.specs.Word.{size, once, times}
 use Rattle.times_combined.specs.Combined.{Ident, named, Instance, processing}
@@ -40,7 +40,6 @@ use Rattle.demands_log.specs.Log.{Id, Log}
 use Rattle.demands_log.specs.Log as Log
 use Rattle.demands_theory.specs.Nodes.{whose, lengthOf}
 use Rattle.demands_theory.specs.TheWord.{stateAfter, nextAfter, wholeOf, Oldest, Takes, goes, hears, Stuck, ended, waits, TheWord}
-use Rattle.demands_theory.specs.Laws.Next.{next-found, chosen-found}
 use Rattle.demands_theory.specs.Laws.TheWord.{takes-follows}
 use Rattle.demands_theory.specs.Laws.Nodes.{whose-same}
 use Rattle.demands_run.specs.Laws.Engine.{rest, Settles, EngineLaws}
@@ -48,7 +47,6 @@ use Rattle.demands_run.specs.Laws.Stands.{identOf, idOf, ToldAs, Queued,
 use Rattle.demands_run.specs.Laws.Taken.{size-is, popped, emissions-are}
 use Rattle.demands_run.specs.Laws.Paths.{isTold, tolds, tolds-append, tolds-new, Rests}
 use Rattle.demands_run.specs.Laws.Sums.{sum, sum-same, sum-falls}
-use Rattle.demands_run.specs.Laws.Onward.{awaited}
 
 -- the instances of each event, less the one that is processed
 abbrev left : Input → (ℕ → List Pending) → ℕ → List Pending
@@ -82,11 +80,6 @@ module _ (p : Plan) (lawful : Lawful p) (automaton : MeetsAutomaton p) (log : Lo
   low-state : (us : List ℕ) → Takes p log us → stateAfter p us < p .automaton .states
   low-state [] h = lawful .file .limits .initial
   low-state (t ∷ us) h = lawful .file .limits .moves t (takes-follows p log (t ∷ us) h .1 .0) .to
-
-  low-event : (us : List ℕ) (e : ℕ) → nextAfter p us ≡ Next.Waits e → e < p .events
-  low-event us e w =
-      let f = awaited (p .automaton) (stateAfter p us) e w in
-      subst (InputNames p) (f .2 .input) (lawful .file .limits .moves (f .0) (let u = f .2 .below in omega arith) .input) .0
 
   -- ---- one transition more
 
@@ -161,9 +154,9 @@ module _ (p : Plan) (lawful : Lawful p) (automaton : MeetsAutomaton p) (log : Lo
         go Next.Ended e more = record { word = us; queue = q; pends = h; rests = λ t z. ended-goes (sym e ∙ z); told = λ e. refl }
         go (Next.Waits x) e more = record { word = us; queue = q; pends = h; rests = λ t z. waits-goes (sym e ∙ z); told = λ e. refl }
         go (Next.Goes t) e more =
-            let f = next-found (p .automaton) (stateAfter p us) t e in
-            let r = more t e _ (pends-on us q h t (goes (h .taken) e) Input.Nothing (f .input) tt) in
-            record { word = r .word; queue = r .queue; pends = r .pends; rests = r .rests; told = λ x. r .told x ∙ tolds-on us q h t (goes (h .taken) e) Input.Nothing (f .input) tt x }
+            let f = next-leaves (p .automaton) (stateAfter p us) t e .1 in
+            let r = more t e _ (pends-on us q h t (goes (h .taken) e) Input.Nothing f tt) in
+            record { word = r .word; queue = r .queue; pends = r .pends; rests = r .rests; told = λ x. r .told x ∙ tolds-on us q h t (goes (h .taken) e) Input.Nothing f tt x }
 
     -- ---- at a waiting state
 
@@ -209,7 +202,7 @@ module _ (p : Plan) (lawful : Lawful p) (automaton : MeetsAutomaton p) (log : Lo
           queue = λ f. left (Input.Outcome e o) q f ++ new us q h (c .0) next (Input.Outcome e o) input ready f;
           pends = pends-on us q h (c .0) next (Input.Outcome e o) input ready;
           fewer =
-              sum-falls (p .events) e (λ f. tolds (q f)) (λ f. tolds (left (Input.Outcome e o) q f ++ new us q h (c .0) next (Input.Outcome e o) input ready f)) (low-event us e w)
+              sum-falls (p .events) e (λ f. tolds (q f)) (λ f. tolds (left (Input.Outcome e o) q f ++ new us q h (c .0) next (Input.Outcome e o) input ready f)) (awaited-below p (lawful .file .limits) (stateAfter p us) e w)
               (λ f n. tolds-on us q h (c .0) next (Input.Outcome e o) input ready f ∙ rw (ne-eqb e f (λ s. n (sym s))))
               (let u : tolds (left (Input.Outcome e o) q e ++ new us q h (c .0) next (Input.Outcome e o) input ready e) ≡ tolds (rest (q e)) = tolds-on us q h (c .0) next (Input.Outcome e o) input ready e ∙ rw (eq-eqb e e refl) in
               let a : tolds (rest (q e)) ≡ tolds ys = ap (λ (m : List Pending). tolds (rest m)) z in
@@ -219,7 +212,7 @@ module _ (p : Plan) (lawful : Lawful p) (automaton : MeetsAutomaton p) (log : Lo
         }
           where
             names : o < outcomesOf p e
-            names = subst (ToldNames (outcomesOf p e)) told (h .names e (low-event us e w) y (subst (Among y) (sym z) (inl refl)))
+            names = subst (ToldNames (outcomesOf p e)) told (h .names e (awaited-below p (lawful .file .limits) (stateAfter p us) e w) y (subst (Among y) (sym z) (inl refl)))
 
             c : (t : ℕ) × (chosenOf (p .automaton) (stateAfter p us) e o ≡ Chosen.Move t)
             c = laws .chosen p lawful automaton (stateAfter p us) e o (low-state us (h .taken)) w names
@@ -228,7 +221,7 @@ module _ (p : Plan) (lawful : Lawful p) (automaton : MeetsAutomaton p) (log : Lo
             next = hears e o (idOf y) (h .taken) w oldest (subst (ToldAs log (idOf y)) told (head .told y (inl refl))) (c .1)
 
             input : move (p .automaton) (c .0) .input ≡ Input.Outcome e o
-            input = chosen-found (p .automaton) (stateAfter p us) e o (c .0) (c .1) .input
+            input = chosen-leaves (p .automaton) (stateAfter p us) e o (c .0) (c .1) .1
 
             ready : 0 < length (q e)
             ready = let u = ap length z in omega arith

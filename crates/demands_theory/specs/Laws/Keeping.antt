@@ -13,10 +13,11 @@ use Rattle.run_checks.specs.declared.Refusal.{Refusal}
 use Rattle.run_checks.specs.declared.Stop.{Stop}
 use Rattle.run_checks.specs.declared.Halt.{Halt}
 use Rattle.run_loading.specs.declared.Failure.{Failure}
+use Rattle.run.specs.Inner.Calls.{replyAfter, haltAfter}
 use Rattle.demands_log.specs.Log.{Id, Said, said, Log, reading, Started, Stops, StoppedBy, Accepts, Finishes}
 use Rattle.demands_log.specs.Host.{HostAt, Mild}
 use Rattle.demands_theory.specs.Laws.Machine.{World, Machine, Window, Waiting}
-use Rattle.demands_theory.specs.Laws.Way.{Stays, Loads, Turns, haltOf, replyOf, Answers, Way, keeps, refuses, overdues, lates, begins, idles, completes, learns}
+use Rattle.demands_theory.specs.Laws.Way.{Stays, Loads, Turns, Answers, Way, keeps, refuses, overdues, lates, begins, idles, completes, learns}
 use Rattle.demands_theory.specs.Laws.Works.{Works}
 use Rattle.demands_theory.specs.Laws.Accounts.{Accounts, accounts-quiet, accounts-begin, accounts-report, accounts-load}
 use Rattle.demands_theory.specs.Laws.Clock.{Clock, clock-refused, clock-next, never-late}
@@ -137,22 +138,22 @@ module _ (W : World) (M : Machine) (psi slack : ℕ) (Good : Log → W .Word →
     clock = λ p. subst (λ (l : ℕ). Clock psi slack l (x ∷ log) (M .holds run′)) (sym (u .last)) (clock′ f q (sym (u .halt) ∙ p));
     halted = λ a p. failure-halted f (Call.Outcome t (e .position) (e .node) o) log a (sym (u .halt) ∙ p);
     stopped = λ a. ⊎-elim (λ p. u .halt ∙ failure-stopped f a p) (λ p. absurd (unstopped (u .going) a p));
-    numbers = (not-50 (replyOf f) (failure-other f), v .numbers);
+    numbers = (not-50 (replyAfter f) (failure-other f), v .numbers);
     latest = record { done-final = λ p. absurd (failure-unfinished f p); done-empty = λ p. absurd (failure-unfinished f p); wait-only = λ p. absurd (failure-unwaiting f p) };
     mild = λ C m host. let b = v .mild C (λ id p. m id (inr p) ∙ q .extends .completions id (v .accounts .started-node id p)) (host .1) in ((failure-mild f, b .0), subst MildHalt (sym (u .halt)) (failure-halt f));
   }
     where
       x : Said
-      x = said (Call.Outcome t (e .position) (e .node) o) (replyOf f)
+      x = said (Call.Outcome t (e .position) (e .node) o) (replyAfter f)
 
       cleared : Window
       cleared j d = (j ≡ i → ⊥) × M .holds run j d
 
       reported : Accounts W psi slack word (x ∷ log) cleared
-      reported = accounts-report W psi slack word log _ (v .accounts) (w .one run) (Call.Outcome t (e .position) (e .node) o) (replyOf f) i e h s (k .not-overdue i e h s)
+      reported = accounts-report W psi slack word log _ (v .accounts) (w .one run) (Call.Outcome t (e .position) (e .node) o) (replyAfter f) i e h s (k .not-overdue i e h s)
           (failure-starts f) (refl, failure-accepts f log (v .clock (u .going) .unstopped)) (λ id p. p .0) cleared (λ j d. (λ p. p, λ p. p))
 
-      clock′ : (f′ : Failure) → Loads W (M .holds run) (M .holds run′) i (e .end .0) word later → haltOf f′ ≡ Halt.Going → Clock psi slack (t .0) (said (Call.Outcome t (e .position) (e .node) o) (replyOf f′) ∷ log) (M .holds run′)
+      clock′ : (f′ : Failure) → Loads W (M .holds run) (M .holds run′) i (e .end .0) word later → haltAfter f′ ≡ Halt.Going → Clock psi slack (t .0) (said (Call.Outcome t (e .position) (e .node) o) (replyAfter f′) ∷ log) (M .holds run′)
       clock′ Failure.None l p = clock-next _ _ _ log _ (v .clock (u .going)) (Call.Outcome t (e .position) (e .node) o) Reply.Taken _ refl (λ z. z) k
           (λ j d y z. ⊎-elim (λ a. inl (a .1)) (λ n. inr (let b = n .held-back in let m = k .not-overdue i e h s in omega arith)) (l .only j d y)) (λ n z. absurd z)
       clock′ Failure.Full l p = absurd (not-going Stop.Full p)

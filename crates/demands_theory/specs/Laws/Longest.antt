@@ -11,8 +11,8 @@ use Rattle.run.specs.declared.Call.{Call}
 use Rattle.run_checks.specs.declared.Halt.{Halt}
 use Rattle.run_checks.specs.declared.Stop.{Stop}
 use Rattle.run_loading.specs.declared.Failure.{Failure}
+use Rattle.run.specs.Inner.Calls.{replyAfter, haltAfter}
 use Rattle.demands_log.specs.Log.{Id, Log, said, Told, FailedIn, StoppedBy}
-use Rattle.demands_theory.specs.Laws.Way.{haltOf, replyOf}
 use Rattle.demands_theory.specs.TheWord.{nextAfter, Rests, Takes, Stuck}
 use Rattle.demands_theory.specs.Loading.{Exceeds, Beyond, Within, Silently, stays, goes-on, Onward, NextPath, PathBeyond, PathFull, EndsAt, whole, beyond, full, Loads, ends, later, Fits}
 use Rattle.demands_theory.specs.Laws.Replies.{not-going, failed-by}
@@ -118,17 +118,17 @@ full-beyond : {A : Type 0} → Halt.Stopped Stop.Full ≡ Halt.Stopped Stop.Beyo
 full-beyond e = absurd (let z : _≡_ {A = ℕ} 0 1 = cc in omega arith)
 
 module _ (p : Plan) (available : ℕ → ℕ) (log1 : Log) (us : List ℕ) where
-  pub ends-whole : (c : Call) (log : Log) (f : Failure) → EndsAt p available log1 us f → (FailedIn (said c (replyOf f) ∷ log) → ⊥) → Stuck p log1 us
+  pub ends-whole : (c : Call) (log : Log) (f : Failure) → EndsAt p available log1 us f → (FailedIn (said c (replyAfter f) ∷ log) → ⊥) → Stuck p log1 us
   ends-whole c log f (whole s) nf = s
   ends-whole c log f (beyond y) nf = absurd (nf (inl tt))
   ends-whole c log f (full y) nf = absurd (nf (inl tt))
 
-  pub ends-beyond : (f : Failure) → EndsAt p available log1 us f → haltOf f ≡ Halt.Stopped Stop.Beyond → PathBeyond p available log1 us
+  pub ends-beyond : (f : Failure) → EndsAt p available log1 us f → haltAfter f ≡ Halt.Stopped Stop.Beyond → PathBeyond p available log1 us
   ends-beyond f (whole s) e = absurd (not-going Stop.Beyond (sym e))
   ends-beyond f (beyond y) e = y
   ends-beyond f (full y) e = full-beyond e
 
-  pub ends-full : (f : Failure) → EndsAt p available log1 us f → haltOf f ≡ Halt.Stopped Stop.Full → PathFull p available log1 us
+  pub ends-full : (f : Failure) → EndsAt p available log1 us f → haltAfter f ≡ Halt.Stopped Stop.Full → PathFull p available log1 us
   ends-full f (whole s) e = absurd (not-going Stop.Full (sym e))
   ends-full f (beyond y) e = full-beyond (sym e)
   ends-full f (full y) e = y

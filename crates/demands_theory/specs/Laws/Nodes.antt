@@ -1,12 +1,14 @@
--- A node is known by its position and number, and the activity at a position is one of the word's.
+-- A node is known by its position and number, an action or event is neither claim nor release, and the activity at a position is one
+-- of the word's.
 use mathlib.Core.Path.{_≡_}
 use mathlib.Core.List.{List, _∷_}
 use Prim.Native.Nat.{ℕ, _<_}
 use native.Mathlib.Omega.{arith}
+use Rattle.plan.specs.declared.Kind.{Kind}
 use Rattle.plan.specs.declared.Plan.{Plan}
-use Rattle.times_combined.specs.Combined.{identity}
+use Rattle.times_combined.specs.Combined.{identity, NotClaim, NotRelease}
 use Rattle.demands_log.specs.Log.{Id}
-use Rattle.demands_theory.specs.Nodes.{whose, lengthOf, EmitsAt, here, earlier}
+use Rattle.demands_theory.specs.Nodes.{whose, Working, lengthOf, EmitsAt, here, earlier}
 
 position-same : {q m r n : ℕ} → identity q m ≡ identity r n → q ≡ r
 position-same e = cc
@@ -19,6 +21,14 @@ whose-same x y e =
     let p : x .position ≡ y .position = (let u = position-same e in omega arith) in
     let n : x .node ≡ y .node = number-same e in
     λ i. record { position = p i; node = n i }
+
+pub not-claim : (k : Kind) → Working k → NotClaim k
+not-claim (Kind.Action a p) h = tt
+not-claim (Kind.Event e) h = tt
+
+pub not-release : (k : Kind) → Working k → NotRelease k
+not-release (Kind.Action a p) h = tt
+not-release (Kind.Event e) h = tt
 
 pub emits-below : (p : Plan) (is : List ℕ) (q a : ℕ) → EmitsAt p is q a → q < lengthOf is
 emits-below p (i ∷ is) q a (here e o) = omega arith

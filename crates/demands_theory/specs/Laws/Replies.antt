@@ -9,10 +9,11 @@ use Rattle.run_checks.specs.declared.Refusal.{Refusal}
 use Rattle.run_checks.specs.declared.Stop.{Stop}
 use Rattle.run_checks.specs.declared.Halt.{Halt}
 use Rattle.run_loading.specs.declared.Failure.{Failure}
+use Rattle.run.specs.Inner.Calls.{replyAfter, haltAfter}
 use Rattle.demands_log.specs.Log.{Id, Log, said, Starts, Stops, StoppedIn, StoppedBy, Fails, FailedIn, Accepts, Finishes}
 use Rattle.demands_log.specs.Host.{isRefused, Mild}
 use Rattle.demands_theory.specs.Laws.Machine.{Waiting}
-use Rattle.demands_theory.specs.Laws.Way.{Idle, haltOf, replyOf}
+use Rattle.demands_theory.specs.Laws.Way.{Idle}
 use Rattle.demands_theory.specs.Laws.Invariant.{MildHalt}
 
 abbrev Goes : Halt → Type 0
@@ -96,47 +97,47 @@ stop-accepts s log h p = p .1 h
 
 -- ---- what an outcome is answered
 
-pub failure-starts : (f : Failure) (x : Id) → Starts (replyOf f) x → ⊥
+pub failure-starts : (f : Failure) (x : Id) → Starts (replyAfter f) x → ⊥
 failure-starts Failure.None x p = p
 failure-starts Failure.Full x p = p
 failure-starts Failure.Beyond x p = p
 
-pub failure-accepts : (f : Failure) (log : Log) → (StoppedIn log → ⊥) → Accepts (replyOf f) log
+pub failure-accepts : (f : Failure) (log : Log) → (StoppedIn log → ⊥) → Accepts (replyAfter f) log
 failure-accepts Failure.None log h = tt
 failure-accepts Failure.Full log h = (tt, h)
 failure-accepts Failure.Beyond log h = (tt, h)
 
-pub failure-unfinished : (f : Failure) → Finishes (replyOf f) → ⊥
+pub failure-unfinished : (f : Failure) → Finishes (replyAfter f) → ⊥
 failure-unfinished Failure.None p = p
 failure-unfinished Failure.Full p = p
 failure-unfinished Failure.Beyond p = p
 
-pub failure-unwaiting : (f : Failure) → Waiting (replyOf f) → ⊥
+pub failure-unwaiting : (f : Failure) → Waiting (replyAfter f) → ⊥
 failure-unwaiting Failure.None p = p
 failure-unwaiting Failure.Full p = p
 failure-unwaiting Failure.Beyond p = p
 
-pub failure-mild : (f : Failure) → Mild (replyOf f)
+pub failure-mild : (f : Failure) → Mild (replyAfter f)
 failure-mild Failure.None = tt
 failure-mild Failure.Full = tt
 failure-mild Failure.Beyond = tt
 
-pub failure-halt : (f : Failure) → MildHalt (haltOf f)
+pub failure-halt : (f : Failure) → MildHalt (haltAfter f)
 failure-halt Failure.None = tt
 failure-halt Failure.Full = tt
 failure-halt Failure.Beyond = tt
 
-pub failure-other : (f : Failure) → Other (replyOf f)
+pub failure-other : (f : Failure) → Other (replyAfter f)
 failure-other Failure.None = tt
 failure-other Failure.Full = tt
 failure-other Failure.Beyond = tt
 
-pub failure-halted : (f : Failure) (c : Call) (log : Log) (s : Stop) → haltOf f ≡ Halt.Stopped s → StoppedIn (said c (replyOf f) ∷ log)
+pub failure-halted : (f : Failure) (c : Call) (log : Log) (s : Stop) → haltAfter f ≡ Halt.Stopped s → StoppedIn (said c (replyAfter f) ∷ log)
 failure-halted Failure.None c log s e = absurd (not-going s (sym e))
 failure-halted Failure.Full c log s e = inl tt
 failure-halted Failure.Beyond c log s e = inl tt
 
-pub failure-stopped : (f : Failure) (s : Stop) → replyOf f ≡ Reply.Stopped s → haltOf f ≡ Halt.Stopped s
+pub failure-stopped : (f : Failure) (s : Stop) → replyAfter f ≡ Reply.Stopped s → haltAfter f ≡ Halt.Stopped s
 failure-stopped Failure.None s e = absurd (not-stop Reply.Taken s (λ p. p) e)
 failure-stopped Failure.Full s e = ap Halt.Stopped (same-stop e)
 failure-stopped Failure.Beyond s e = ap Halt.Stopped (same-stop e)

@@ -3,13 +3,13 @@ use mathlib.Core.Path.{_≡_, refl, sym, ap₂, _∙_, subst}
 use mathlib.Core.List.{List, [], _∷_}
 use mathlib.Core.Logic.{_⊎_, inl, inr}
 use Prim.Native.Nat.{ℕ}
-use native.Mathlib.Omega.{arith}
 use Rattle.plan.specs.Plan.{resourceOf}
-use Rattle.plan.specs.declared.Input.{Input}
 use Rattle.plan.specs.declared.Plan.{Plan}
 use Rattle.automaton.specs.Next.{chosenOf}
+use Rattle.automaton.specs.Rules.{Leaves}
 use Rattle.automaton.specs.declared.Next.{Next}
 use Rattle.automaton.specs.declared.Chosen.{Chosen}
+use Rattle.automaton.specs.Laws.Following.{next-leaves, chosen-leaves}
 use Rattle.automaton.specs.Laws.Cases.{goes-same, waits-same, move-same, goes-waits, ended-goes, ended-waits}
 use Rattle.times_combined.specs.Word.{times}
 use Rattle.times_combined.specs.Paths.{wordOf, Follows, Lawful}
@@ -22,7 +22,6 @@ use Rattle.demands_theory.specs.Laws.Way.{Extends}
 use Rattle.demands_theory.specs.Nodes.{whose}
 use Rattle.demands_theory.specs.TheWord.{stateAfter, nextAfter, Oldest, Takes, none, goes, hears, Stuck, ended, waits, TheWord}
 use Rattle.demands_theory.specs.Laws.OfPlan.{worldOf}
-use Rattle.demands_theory.specs.Laws.Next.{Found, next-found, chosen-found}
 use Rattle.demands_theory.specs.Laws.World.{extends}
 use Rattle.demands_theory.specs.Laws.Growth.{extends-self, extends-on, Tail, here, later, tail-next, tail-empty}
 use Rattle.demands_theory.specs.Laws.Nodes.{whose-same}
@@ -67,16 +66,16 @@ last p log is (hears e o x h n old told c) = (h, heard e o x n old told c)
 
 -- ---- the transitions taken are a path
 
-step-found : (p : Plan) (log : Log) (is : List ℕ) (t : ℕ) → Step p log is t → (x : Input) × Found (p .automaton .moves) (stateAfter p is) 0 (p .automaton .count) t x
-step-found p log is t (silent e) = (Input.Nothing, next-found (p .automaton) (stateAfter p is) t e)
-step-found p log is t (heard e o x n old told c) = (Input.Outcome e o, chosen-found (p .automaton) (stateAfter p is) e o t c)
+step-leaves : (p : Plan) (log : Log) (is : List ℕ) (t : ℕ) → Step p log is t → Leaves (p .automaton) (stateAfter p is) t
+step-leaves p log is t (silent e) = next-leaves (p .automaton) (stateAfter p is) t e .0
+step-leaves p log is t (heard e o x n old told c) = chosen-leaves (p .automaton) (stateAfter p is) e o t c .0
 
 pub takes-follows : (p : Plan) (log : Log) (is : List ℕ) → Takes p log is → Follows p (p .automaton .initial) is (stateAfter p is)
 takes-follows p log [] h = refl
 takes-follows p log (t ∷ is) h =
     let l = last p log (t ∷ is) h in
-    let f = step-found p log is t (l .1) .1 in
-    (subst (Follows p (p .automaton .initial) is) (sym (f .from)) (takes-follows p log is (l .0)), ((let u = f .below in omega arith), refl))
+    let f = step-leaves p log is t (l .1) in
+    (subst (Follows p (p .automaton .initial) is) (sym (f .from)) (takes-follows p log is (l .0)), (f .low, refl))
 
 -- ---- it is determined
 

@@ -12,6 +12,7 @@ use Rattle.run_checks.specs.declared.Refusal.{Refusal}
 use Rattle.run_checks.specs.declared.Stop.{Stop}
 use Rattle.run_checks.specs.declared.Halt.{Halt}
 use Rattle.run_loading.specs.declared.Failure.{Failure}
+use Rattle.run.specs.Inner.Calls.{replyAfter, haltAfter}
 use Rattle.demands_log.specs.Log.{Id, reading, Finishes}
 use Rattle.demands_theory.specs.Laws.Machine.{World, Machine, Window, Held, Waiting}
 use Rattle.demands_theory.specs.Nodes.{idOf}
@@ -94,16 +95,6 @@ pub record Turns (M : Machine) (run run′ : M .Run) (t : ℕ) (h : Halt) : Type
   pub last : M .last run′ ≡ t
   pub halt : M .halt run′ ≡ h
 
-abbrev pub haltOf : Failure → Halt
-haltOf Failure.None = Halt.Going
-haltOf Failure.Full = Halt.Stopped Stop.Full
-haltOf Failure.Beyond = Halt.Stopped Stop.Beyond
-
-abbrev pub replyOf : Failure → Reply
-replyOf Failure.None = Reply.Taken
-replyOf Failure.Full = Reply.Stopped Stop.Full
-replyOf Failure.Beyond = Reply.Stopped Stop.Beyond
-
 -- wait or done
 abbrev pub Idle : Reply → Type 0
 Idle (Reply.Start p a n) = ⊥
@@ -138,6 +129,6 @@ pub data Way (W : World) (M : Machine) (psi slack : ℕ) (run run′ : M .Run) (
   completes : {t : Clock} (i : ℕ) (e : Entry) → Turns M run run′ (t .0) Halt.Going → Clear psi slack (M .last run) (M .holds run) (t .0)
       → M .holds run i e → isStarted (e .phase) ≡ true → Clears (M .holds run) (M .holds run′) i
       → Way W M psi slack run run′ word word (Call.Completion t (e .position) (e .node)) Reply.Taken
-  learns : {later : W .Word} {t : Clock} {o : ℕ} (i : ℕ) (e : Entry) (f : Failure) → Turns M run run′ (t .0) (haltOf f) → Clear psi slack (M .last run) (M .holds run) (t .0)
+  learns : {later : W .Word} {t : Clock} {o : ℕ} (i : ℕ) (e : Entry) (f : Failure) → Turns M run run′ (t .0) (haltAfter f) → Clear psi slack (M .last run) (M .holds run) (t .0)
       → M .holds run i e → isStarted (e .phase) ≡ true → Loads W (M .holds run) (M .holds run′) i (e .end .0) word later
-      → Way W M psi slack run run′ word later (Call.Outcome t (e .position) (e .node) o) (replyOf f)
+      → Way W M psi slack run run′ word later (Call.Outcome t (e .position) (e .node) o) (replyAfter f)

@@ -25,13 +25,10 @@ use Rattle.times_combined.specs.Laws.Plans.{good-path, counted-path}
 use Rattle.demands_log.specs.Log.{Id}
 use Rattle.demands_theory.specs.Laws.Way.{Outlasts, InOrder, Extends}
 use Rattle.demands_theory.specs.Nodes.{whose, Working, Work, lengthOf, earlier}
+use Rattle.demands_theory.specs.Laws.Nodes.{not-release}
 use Rattle.demands_theory.specs.TheWord.{Oldest}
 use Rattle.demands_theory.specs.Laws.Growth.{Tail, here, later}
 use Rattle.demands_theory.specs.Laws.OfPlan.{worldOf, Outlast, Long}
-
-not-release : (k : Kind) → Working k → NotRelease k
-not-release (Kind.Action a p) h = tt
-not-release (Kind.Event e) h = tt
 
 -- a node that is neither a claim nor a release
 working : (k : Kind) → NotRelease k → ((r : ℕ) → k ≡ Kind.Claim r → ⊥) → Working k

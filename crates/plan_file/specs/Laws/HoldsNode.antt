@@ -74,16 +74,16 @@ rising-iff n size wide i low (suc k) =
     let r = last-iff faultOrder t (λ more. done (x ∷ more)) n (λ more. tt) (rising-iff n size wide (i + 1) (x + 1) k) in (
       (λ h. step (pred-good size low x (h .1)) (r .0 (h .2))),
       (λ c.
-      let a = c .below i (omega arith) (omega arith) in
-      let b = c .least (omega arith) in (
-        omega arith,
-        rw (le-leb 0 x (omega arith), lt-ltb x size a, le-ltb x low b),
-        r .1 (record {
-          below = λ j l m. c .below j (omega arith) (omega arith);
-          rises = λ j l m. c .rises j (omega arith) (omega arith);
-          least = λ l. omega (arith, c .rises i (omega arith) (omega arith));
-        }),
-      )),
+          let a = c .below i (omega arith) (omega arith) in
+          let b = c .least (omega arith) in (
+            omega arith,
+            rw (le-leb 0 x (omega arith), lt-ltb x size a, le-ltb x low b),
+            r .1 (record {
+              below = λ j l m. c .below j (omega arith) (omega arith);
+              rises = λ j l m. c .rises j (omega arith) (omega arith);
+              least = λ l. omega (arith, c .rises i (omega arith) (omega arith));
+            }),
+          )),
     )
   where
     step : (getD (n .preds) i 0 < size) × (low ≤ getD (n .preds) i 0) → Climbs n size (i + 1) (getD (n .preds) i 0 + 1) k → Climbs n size i low (suc k)
@@ -165,25 +165,25 @@ module _ (p : Plan) (px : p .peripherals < 65) (pr : p .resources < 17) (pe : p 
     pub node-iff : Holds faultOrder (node X R E size) n ↔ (NodeInLimits p size n × NodeWritten n)
     node-iff = (
       (λ h.
-      let q = asked .0 h in
-      let c = q .1 .1 .1 .1 in (
-        record { names = q .1 .0 .1; duration = omega (arith, q .1 .1 .0); few = omega (arith, q .1 .1 .1 .0); arrows = below-among size (n .count) (n .preds) (λ j l. c .below j (omega arith) (omega arith)) },
-        record { rising = λ j l. c .rises j (omega arith) (omega arith); brief = q .0; action = q .1 .0 .0 },
-      )),
+          let q = asked .0 h in
+          let c = q .1 .1 .1 .1 in (
+            record { names = q .1 .0 .1; duration = omega (arith, q .1 .1 .0); few = omega (arith, q .1 .1 .1 .0); arrows = below-among size (n .count) (n .preds) (λ j l. c .below j (omega arith) (omega arith)) },
+            record { rising = λ j l. c .rises j (omega arith) (omega arith); brief = q .0; action = q .1 .0 .0 },
+          )),
       (λ q.
-      let l = q .0 in
-      let w = q .1 in
-      asked .1 (
-        w .brief,
-        (
-          (w .action, l .names),
-          (
-            omega (arith, l .duration),
+          let l = q .0 in
+          let w = q .1 in
+          asked .1 (
+            w .brief,
             (
-              omega (arith, l .few),
-              record { below = λ j a b. among-below size (n .count) (n .preds) (l .arrows) j (omega arith); rises = λ j a b. w .rising j (omega arith); least = λ h. omega arith },
+              (w .action, l .names),
+              (
+                omega (arith, l .duration),
+                (
+                  omega (arith, l .few),
+                  record { below = λ j a b. among-below size (n .count) (n .preds) (l .arrows) j (omega arith); rises = λ j a b. w .rising j (omega arith); least = λ h. omega arith },
+                ),
+              ),
             ),
-          ),
-        ),
-      )),
+          )),
     )

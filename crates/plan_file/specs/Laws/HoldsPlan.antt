@@ -177,51 +177,51 @@ module _ (p : Plan) where
   pub plan-iff : Holds faultOrder planFile p ↔ FileRules p
   plan-iff = (
     (λ h.
-    let q = sections-iff .0 h in
-    let o = q .1 .1 .1 .1 .0 in
-    let s = q .1 .1 .1 .1 .1 .1 .0 in
-    let t = q .1 .1 .1 .1 .1 .1 .1 in
-    record {
-      limits =
-          record {
-            resources = omega (arith, q .0);
-            peripherals = omega (arith, q .1 .0);
-            belongs = q .1 .1 .0;
-            events = omega (arith, q .1 .1 .1 .0);
-            outcomes = λ e l. (o e l .0, omega (arith, o e l .1));
-            activities = omega (arith, q .1 .1 .1 .1 .1 .0);
-            sizes = λ b l. (s b l .0 .0, omega (arith, s b l .0 .1));
-            nodes = λ b n l k. s b l .1 n k .0;
-            states = (t .0 .0, omega (arith, t .0 .1));
-            initial = t .1 .0;
-            finals = λ s e. no-high-bit (a .finals) (a .states) s (t .1 .1 .0 .1) e;
-            transitions = omega (arith, t .1 .1 .1 .0 .1);
-            moves = t .1 .1 .1 .1;
-          };
-      nodes = λ b n l k. s b l .1 n k .1;
-    }),
+        let q = sections-iff .0 h in
+        let o = q .1 .1 .1 .1 .0 in
+        let s = q .1 .1 .1 .1 .1 .1 .0 in
+        let t = q .1 .1 .1 .1 .1 .1 .1 in
+        record {
+          limits =
+              record {
+                resources = omega (arith, q .0);
+                peripherals = omega (arith, q .1 .0);
+                belongs = q .1 .1 .0;
+                events = omega (arith, q .1 .1 .1 .0);
+                outcomes = λ e l. (o e l .0, omega (arith, o e l .1));
+                activities = omega (arith, q .1 .1 .1 .1 .1 .0);
+                sizes = λ b l. (s b l .0 .0, omega (arith, s b l .0 .1));
+                nodes = λ b n l k. s b l .1 n k .0;
+                states = (t .0 .0, omega (arith, t .0 .1));
+                initial = t .1 .0;
+                finals = λ s e. no-high-bit (a .finals) (a .states) s (t .1 .1 .0 .1) e;
+                transitions = omega (arith, t .1 .1 .1 .0 .1);
+                moves = t .1 .1 .1 .1;
+              };
+          nodes = λ b n l k. s b l .1 n k .1;
+        }),
     (λ f.
-    let l = f .limits in
-    sections-iff .1 (
-      omega (arith, l .resources),
-      (
-        omega (arith, l .peripherals),
-        (
-          l .belongs,
+        let l = f .limits in
+        sections-iff .1 (
+          omega (arith, l .resources),
           (
-            omega (arith, l .events),
+            omega (arith, l .peripherals),
             (
-              (λ e i. (l .outcomes e i .0, omega (arith, l .outcomes e i .1))),
+              l .belongs,
               (
-                omega (arith, l .activities),
+                omega (arith, l .events),
                 (
-                  (λ b i. ((l .sizes b i .0, omega (arith, l .sizes b i .1)), (λ n k. (l .nodes b n i k, f .nodes b n i k)))),
-                  ((l .states .0, omega (arith, l .states .1)), (l .initial, ((omega arith, below-power (a .states) (a .finals) (l .finals)), ((omega arith, omega (arith, l .transitions)), l .moves)))),
+                  (λ e i. (l .outcomes e i .0, omega (arith, l .outcomes e i .1))),
+                  (
+                    omega (arith, l .activities),
+                    (
+                      (λ b i. ((l .sizes b i .0, omega (arith, l .sizes b i .1)), (λ n k. (l .nodes b n i k, f .nodes b n i k)))),
+                      ((l .states .0, omega (arith, l .states .1)), (l .initial, ((omega arith, below-power (a .states) (a .finals) (l .finals)), ((omega arith, omega (arith, l .transitions)), l .moves)))),
+                    ),
+                  ),
                 ),
               ),
             ),
           ),
-        ),
-      ),
-    )),
+        )),
   )

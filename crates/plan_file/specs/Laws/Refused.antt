@@ -1,12 +1,10 @@
 -- "While reading, first faulty field from the front, place = its byte offset; .. within a field the order below": of the reader.
-use mathlib.Core.Path.{_≡_, refl, sym, _∙_, ap}
-use mathlib.Core.Bool.{cond}
-use mathlib.Core.List.{List, [], _∷_}
+use mathlib.Core.Path.{_≡_, sym, _∙_, ap}
+use mathlib.Core.List.{List}
 use mathlib.Core.Logic.{_↔_}
 use Prim.Native.Nat.{ℕ, _+_, _≤_}
 use native.Mathlib.Omega.{arith}
 use lib.ListN.{length}
-use lib.Dec.{eqb}
 use Rattle.format.specs.Format.{refused, front, FirstFault, Refuses, faulty, more}
 use Rattle.format.specs.Laws.Reading.{all-refused-iff, fault-found, reached-in}
 use Rattle.format.specs.Writing.{Bytes, Agree}
@@ -15,51 +13,17 @@ use Rattle.plan.specs.declared.Fault.{Fault}
 use Rattle.plan.specs.declared.Verdict.{Verdict}
 use Rattle.plan.specs.declared.Plan.{Plan}
 use Rattle.plan.specs.Fault.{numberOf}
+use Rattle.plan.specs.Laws.Faults.{same-fault}
 use Rattle.plan.specs.Reading.{readPlan}
 use Rattle.plan_file.specs.PlanFile.{faultOrder, planFile, planOf}
 use Rattle.plan_file.specs.Laws.LinkPlan.{telling, plan-link}
-
--- the fault of each number
-abbrev faultFrom : List Fault → ℕ → Fault
-faultFrom [] n = Fault.Ends
-faultFrom (f ∷ fs) n = cond (eqb n (numberOf f)) f (faultFrom fs n)
-
-abbrev faultOf : ℕ → Fault
-faultOf = faultFrom
-    (Fault.Map ∷ Fault.NoAutomaton ∷ Fault.Count ∷ Fault.Names ∷ Fault.Duration ∷ Fault.NotRising ∷ Fault.LeftOver ∷ Fault.Cycle ∷ Fault.ActionsUnordered ∷ Fault.NamedTwice ∷ Fault.ActionUnheld
-    ∷ Fault.ClaimUnpaired ∷ Fault.ArrowPastEnd ∷ Fault.EventFirst ∷ Fault.EventsUnordered ∷ Fault.WayOutOfFinal ∷ Fault.ForbiddenBranch ∷ Fault.OutcomeMissing ∷ Fault.NoWayToFinal ∷ Fault.Unbalanced
-    ∷ Fault.TooManyPending ∷ [])
-
-known : (f : Fault) → faultOf (numberOf f) ≡ f
-known Fault.Ends = refl
-known Fault.Map = refl
-known Fault.NoAutomaton = refl
-known Fault.Count = refl
-known Fault.Names = refl
-known Fault.Duration = refl
-known Fault.NotRising = refl
-known Fault.LeftOver = refl
-known Fault.Cycle = refl
-known Fault.ActionsUnordered = refl
-known Fault.NamedTwice = refl
-known Fault.ActionUnheld = refl
-known Fault.ClaimUnpaired = refl
-known Fault.ArrowPastEnd = refl
-known Fault.EventFirst = refl
-known Fault.EventsUnordered = refl
-known Fault.WayOutOfFinal = refl
-known Fault.ForbiddenBranch = refl
-known Fault.OutcomeMissing = refl
-known Fault.NoWayToFinal = refl
-known Fault.Unbalanced = refl
-known Fault.TooManyPending = refl
 
 told : (end : ℕ) (v : Verdict) (p : Plan) (f : Fault) (k : ℕ) → telling end v p ≡ refused (numberOf f) k → v ≡ Verdict.Refused f k
 told end Verdict.Accepted p f k e = absurd (let z : _≡_ {A = ℕ} 0 1 = cc in omega arith)
 told end (Verdict.Refused g j) p f k e =
     let x : numberOf g ≡ numberOf f = cc in
     let y : j ≡ k = cc in
-    let z : g ≡ f = sym (known g) ∙ ap faultOf x ∙ known f in
+    let z = same-fault g f x in
     rw (z, y)
 
 -- "every number is its own field, the final bits are one": the fields are those of planFile

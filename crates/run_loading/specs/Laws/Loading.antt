@@ -94,7 +94,7 @@ module _ (a : Automaton) (g : Progress) where
   told-leads e (Told.Outcome o) = choice-leads e o (chosenOf a (g .state) e o) (chosen-is a (g .state) e o)
 
   -- it is a transition of the plan
-  way-leads : (n : Next) → Leads (a .count) (wayOn a g n)
+  pub way-leads : (n : Next) → Leads (a .count) (wayOn a g n)
   unfolding wayOn
   way-leads Next.Ended = tt
   way-leads (Next.Goes t) = tt

@@ -19,12 +19,13 @@ use Rattle.plan.specs.declared.Node.{Node}
 use Rattle.plan.specs.declared.Activity.{Activity}
 use Rattle.run_window.specs.Window.{vacant}
 use Rattle.activity.specs.Inner.Copied.{filled}
+use Rattle.activity.specs.Laws.Copied.{filled-more}
 use Rattle.run_path.specs.Path.{Path, pathFrom}
 use Rattle.run_path.specs.Pathed.{pathed}
 use Rattle.run_path.specs.declared.Pathed.{Pathed}
 use Rattle.run_path.specs.Inner.Path.{stored, stepBy, emittedOf, emittedCount}
 use Rattle.run_path.specs.Laws.Stepping.{Walking, walking-starts, walking-ended, walking-waits, walking-over, named, walking-stops, walking-on}
-use Rattle.run_path.specs.Laws.Storing.{filled-more, number-below, size-below, emitted-as, step-taken, step-is, step-long, step-few, store-kept, store-counted, store-end, stored-beyond, taken-past, taken-whole}
+use Rattle.run_path.specs.Laws.Storing.{number-below, size-below, emitted-as, step-taken, step-is, step-long, step-few, store-kept, store-counted, store-end, stored-beyond, taken-past, taken-whole}
 use Rattle.run_path.proofs.path.Statement.{statement}
 use Rattle.run_path.proofs.path.Tie as tie
 

@@ -2,22 +2,19 @@
 -- a part of a path. Assumes nothing.
 use mathlib.Core.Path.{_≡_, refl, sym, ap, _∙_, subst}
 use mathlib.Core.Bool.{true, false}
-use mathlib.Core.List.{List, [], _∷_, _++_}
-use Prim.Native.Nat.{ℕ, zero, suc, _+_, _-_, _*_, _≤_, _<_}
-use native.Mathlib.Numerals.{add-one}
+use mathlib.Core.List.{List, [], _∷_}
+use Prim.Native.Nat.{ℕ, zero, suc, _+_, _≤_, _<_}
 use native.Mathlib.Omega.{arith}
-use lib.ListN.{length, getD, set, take, drop, replicate}
-use lib.Seq.{take-nil, drop-nil, set-at, append-snoc}
-use Rattle.basis.specs.Parts.{part}
-use Rattle.basis.specs.Laws.PartsHold.{length-part}
-use Rattle.plan.specs.Plan.{pastNode, sizeOf, nodesOf, move}
+use lib.ListN.{length, getD, set, take, drop}
+use Rattle.basis.specs.Laws.Lists.{next-entry, no-entry}
+use Rattle.plan.specs.Plan.{sizeOf, nodesOf, move}
 use Rattle.plan.specs.Limits.{OutputNames, InLimits}
 use Rattle.plan.specs.declared.Node.{Node}
 use Rattle.plan.specs.declared.Output.{Output}
 use Rattle.plan.specs.declared.Activity.{Activity}
 use Rattle.plan.specs.declared.Transition.{Transition}
 use Rattle.plan.specs.declared.Plan.{Plan}
-use Rattle.activity.specs.Inner.Copied.{emptyNode, filled, copied}
+use Rattle.activity.specs.Inner.Copied.{filled, copied}
 use Rattle.times.specs.Engine.{advanceOf}
 use Rattle.times.specs.Limits.{StepFits}
 use Rattle.times.specs.declared.Progress.{Progress}
@@ -34,24 +31,6 @@ use Rattle.run_path.specs.Laws.Emitting.{emitted-nodes, step-fits}
 use Rattle.run_path.specs.Laws.Stepping.{taken-stops, taken-goes, entries-by}
 
 -- ---- the activity that is copied out
-
--- one element more at the end of a part
-part-more : {A : Type 0} (d : A) (l : List A) (i n : ℕ) → part d l i (suc n) ≡ part d l i n ++ (getD l (i + n) d ∷ [])
-part-more d l i zero = let z : i ≡ i + 0 = omega arith in ap (λ (j : ℕ). getD l j d ∷ []) z
-part-more d l i (suc n) =
-    let z : i + 1 + n ≡ i + suc n = omega arith in
-    ap (λ m. getD l i d ∷ m) (part-more d l (i + 1) n ∙ ap (λ (j : ℕ). part d l (i + 1) n ++ (getD l j d ∷ [])) z)
-
-pub filled-more : (p : Plan) (a n : ℕ) → n < 64 → set (filled p a n) n (getD (p .nodes) (64 * a + n) pastNode) ≡ filled p a (n + 1)
-filled-more p a n h =
-    let l = part pastNode (p .nodes) (64 * a) n in
-    let v = getD (p .nodes) (64 * a + n) pastNode in
-    let z : 64 - n ≡ suc (64 - (n + 1)) = omega arith in
-    ap (λ (k : ℕ). set (l ++ replicate k emptyNode) n v) z
-    ∙ set-at l emptyNode (replicate (64 - (n + 1)) emptyNode) v n (length-part pastNode (p .nodes) (64 * a) n)
-    ∙ sym (append-snoc l v (replicate (64 - (n + 1)) emptyNode))
-    ∙ ap (λ (m : List Node). m ++ replicate (64 - (n + 1)) emptyNode) (sym (part-more pastNode (p .nodes) (64 * a) n))
-    ∙ ap (λ (k : ℕ). part pastNode (p .nodes) (64 * a) k ++ replicate (64 - (n + 1)) emptyNode) (sym (add-one n))
 
 -- the activity that is named, and its size
 pub number-below : (p : Plan) → InLimits p → (o : Output) → OutputNames p o → activityNumber o < 32
@@ -128,21 +107,6 @@ module _ (p : Plan) (t : ℕ) (g : Progress) (s : Step) (e : s ≡ stepBy p t g)
     pub step-all : take (s .count) (s .entries) ≡ entriesBy p t g
     unfolding stepBy
     step-all = ap (λ (x : Step). take (x .count) (x .entries)) e ∙ take-firsts 64 (entriesBy p t g) (entries-by p t g h l)
-
-next-entry : (l : List Entry) (d : Entry) (n k : ℕ) → n < k → n < length l → drop n (take k l) ≡ getD l n d ∷ drop (n + 1) (take k l)
-next-entry l d n k h g = rw add-one (cons l n k h g)
-  where
-    cons : (l : List Entry) (n k : ℕ) → n < k → n < length l → drop n (take k l) ≡ getD l n d ∷ drop (suc n) (take k l)
-    cons [] n k h g = absurd (omega arith)
-    cons (x ∷ l) n zero h g = absurd (omega arith)
-    cons (x ∷ l) zero (suc k) h g = refl
-    cons (x ∷ l) (suc n) (suc k) h g = cons l n k (omega arith) (omega arith)
-
-no-entry : (l : List Entry) (n k : ℕ) → k ≤ n → drop n (take k l) ≡ []
-no-entry [] n k h = rw (take-nil k) (drop-nil n)
-no-entry (x ∷ l) n zero h = drop-nil n
-no-entry (x ∷ l) zero (suc k) h = absurd (omega arith)
-no-entry (x ∷ l) (suc n) (suc k) h = no-entry l n k (omega arith)
 
 -- ---- one entry more, after a part of a path
 

@@ -4,16 +4,17 @@ use mathlib.Core.Path.{_≡_, refl, sym, ap, ap₂, _∙_, subst}
 use mathlib.Core.Bool.{Bool, true, false, cond}
 use mathlib.Core.Logic.{_⊎_, inl, inr}
 use mathlib.Core.List.{List, [], _∷_, _++_}
-use Prim.Native.Nat.{ℕ, zero, suc, _+_, _≤_, _<_, max}
+use Prim.Native.Nat.{ℕ, _+_, _≤_, _<_, max}
 use native.Mathlib.Omega.{arith}
 use native.Mathlib.Decide.{ℕ-discrete}
-use lib.ListN.{length, set, length-set, replicate}
+use lib.ListN.{length, set, length-set}
 use lib.Seq.{getD-set-same, getD-set-other}
 use Rattle.basis.specs.Lists.{Among, Distinct}
 use Rattle.basis.specs.Parts.{part}
 use Rattle.basis.specs.Laws.Lists.{among-left, among-right, among-either, fewer, distinct-both, seam, cut, upto, among-upto, length-upto, cut-one}
 use Rattle.basis.specs.Laws.Parts.{part-snoc}
 use Rattle.basis.specs.Laws.Bools.{clash}
+use Rattle.basis.specs.Laws.Flags.{no-flag}
 use Rattle.basis.specs.Tests.{flag}
 use Rattle.basis.specs.Laws.PartsHold.{length-part}
 use Rattle.time.specs.declared.Specified.{Specified}
@@ -73,7 +74,7 @@ module _ (available latest : List Specified) (a : List Node) where
     ends = refl;
     dones = refl;
     orders = refl;
-    listed = λ n e. clash (sym e ∙ falses 64 n);
+    listed = λ n e. clash (sym e ∙ no-flag 64 n);
     done = λ n i. absurd i;
     within = λ n i. absurd i;
     distinct = tt;
@@ -82,11 +83,6 @@ module _ (available latest : List Specified) (a : List Node) where
     end = λ n i. absurd i;
   }
     where
-      falses : (k n : ℕ) → flag (replicate k false) n ≡ false
-      falses zero n = refl
-      falses (suc k) zero = refl
-      falses (suc k) (suc n) = falses k n
-
       empty : {A : Type 0} (ms : List ℕ) (n : ℕ) (os : List ℕ) → [] ≡ ms ++ (n ∷ os) → A
       empty [] n os e = absurd (let u = ap (length {A = ℕ}) e in omega arith)
       empty (m ∷ ms) n os e = absurd (let u = ap (length {A = ℕ}) e in omega arith)

@@ -20,13 +20,13 @@ use Rattle.times_combined.specs.Combined.{Ident, identity, combined}
 use Rattle.times_combined.specs.Times.{Timing}
 use Rattle.times_combined.specs.Laws.Engine.{Run, endAt}
 use Rattle.times_combined.specs.Paths.{wordOf, Follows, Lawful}
-use Rattle.times_combined.specs.Laws.Theorems.{one-solution}
+use Rattle.times_combined.specs.Laws.Theorems.{one-solution, plan-run-equal}
 use Rattle.times_combined.specs.Laws.TimesEqual.{Equal}
 use Rattle.times_combined.specs.Laws.Plans.{good-path, counted-path, node-is}
 use Rattle.times.specs.declared.Progress.{Progress}
 use Rattle.times.specs.Times.{at}
 use Rattle.times.specs.Engine.{takenBy}
-use Rattle.times_equal.specs.Laws.Words.{Engine, opened, advanced, Opening, Fitting, Few, traceBy, engine-run, engine-equal}
+use Rattle.times_equal.specs.Laws.Words.{Engine, opened, advanced, Opening, Fitting, Few, traceBy, engine-run}
 use Rattle.times_combined.specs.Combined as Combined
 use Rattle.times_equal.specs.Plans.{places, progressAfter, scheduleAt}
 
@@ -74,7 +74,6 @@ module _ (p : Plan) (g : Progress) where
 -- ---- what a plan's limits give
 
 module _ (p : Plan) (limits : InLimits p) where
-
   output-fits : (o : Output) → OutputNames p o → (length (emittedBy p o) ≤ 64) × ((n e : ℕ) → Is (emittedBy p o) n (Kind.Event e) → e < 16)
   output-fits Output.Empty h = (omega arith, λ n e i. absurd (let u = i .within in omega arith))
   output-fits (Output.Activity a) h = (
@@ -104,18 +103,7 @@ module _ (p : Plan) (lawful : Lawful p) (eight : AtMostEight p) (available : ℕ
   at-opening [] = refl
   at-opening (j ∷ js) = rw (ne-eqb 0 (suc (places p js)) (λ e. omega arith)) (at-opening js)
 
-  -- the engine's times satisfy Def. 11 on the combined activity of the whole word
-  pub plan-equal : Equal (p .resources) available (traceBy (progressAt p g is) (scheduleAt p g is) (wordOf p is)) (wordOf p is)
-  plan-equal =
-      engine-equal (p .resources) (resourceOf p) available (lawful .file .limits .resources) (progressAt p g is) (scheduleAt p g is) (wordOf p is)
-      (good-path p lawful (p .automaton .initial) is q path)
-      (counted-path p lawful is q path)
-      (fitting p (lawful .file .limits) (p .automaton .initial) is q path)
-      (few p eight is q path)
-      (subst (Opening available) (sym (at-opening is)) opening)
-      (engine p g is whole)
-
-  -- it goes the engine's way, step by step
+  -- what is stored goes the engine's way, step by step
   pub plan-run : Run (p .resources) available (traceBy (progressAt p g is) (scheduleAt p g is) (wordOf p is)) (wordOf p is)
   plan-run =
       engine-run (p .resources) (resourceOf p) available (lawful .file .limits .resources) (progressAt p g is) (scheduleAt p g is) (wordOf p is)
@@ -125,6 +113,10 @@ module _ (p : Plan) (lawful : Lawful p) (eight : AtMostEight p) (available : ℕ
       (few p eight is q path)
       (subst (Opening available) (sym (at-opening is)) opening)
       (engine p g is whole)
+
+  -- so its times satisfy Def. 11 on the combined activity of the whole word
+  pub plan-equal : Equal (p .resources) available (traceBy (progressAt p g is) (scheduleAt p g is) (wordOf p is)) (wordOf p is)
+  plan-equal = plan-run-equal p lawful available is q path (traceBy (progressAt p g is) (scheduleAt p g is) (wordOf p is)) plan-run
 
   module _ (S C : Ident → ℕ) (timing : Timing (combined (p .resources) (wordOf p is)) available S C) where
     -- whatever satisfies Def. 11 there gives each node the engine's start and completion

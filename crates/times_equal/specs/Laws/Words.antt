@@ -16,8 +16,6 @@ use Rattle.activity.specs.Rules.{Is}
 use Rattle.times_combined.specs.Word.{Step, Word, τ, _▷_, Begins, here, longer, size, once, times, emissions}
 use Rattle.times_combined.specs.Laws.Accepted.{GoodWord, Enough, Counted}
 use Rattle.times_combined.specs.Laws.Engine.{Trace, Steps, Run, opens, goes}
-use Rattle.times_combined.specs.Laws.Theorems.{run-equal}
-use Rattle.times_combined.specs.Laws.TimesEqual.{Equal}
 use Rattle.times.specs.declared.Progress.{Progress}
 use Rattle.times.specs.declared.Schedule.{Schedule}
 use Rattle.times.specs.Times.{at}
@@ -156,7 +154,3 @@ module _ (R : ℕ) (belongs available : ℕ → ℕ) (few-resources : R ≤ 16) 
     -- what is stored between transitions is what the combined activity asks for, step by step
     pub engine-run : Run R available (traceBy G T w) w
     engine-run = runs w w here good counted fitting few o run
-
-    -- the engine's times satisfy Def. 11 on the combined activity, and its availabilities are those of the releases
-    pub engine-equal : Equal R available (traceBy G T w) w
-    engine-equal = run-equal R belongs available (traceBy G T w) w good engine-run

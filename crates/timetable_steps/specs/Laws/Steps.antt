@@ -9,13 +9,13 @@ use borrow.Author.Tests.{ltb-true, ltb-false, lt-ltb, le-ltb}
 use lib.Dec.{ltb}
 use lib.ListN.{length, getD, set, length-set}
 use lib.Seq.{getD-set-same, getD-set-other}
-use Rattle.plan.specs.Limits.{InLimits, InputNames, OutputNames}
+use Rattle.plan.specs.Limits.{InLimits, OutputNames}
 use Rattle.plan.specs.declared.Output.{Output}
 use Rattle.plan.specs.declared.Activity.{Activity}
 use Rattle.plan.specs.declared.Automaton.{Automaton}
 use Rattle.plan.specs.declared.Plan.{Plan}
 use Rattle.automaton.specs.Next.{nextOf, chosenOf}
-use Rattle.automaton.specs.Laws.States.{NextIs, next-is, ChosenIs, chosen-is}
+use Rattle.automaton.specs.Laws.Following.{chosen-leaves, awaited-below}
 use Rattle.automaton.specs.declared.Next.{Next}
 use Rattle.automaton.specs.declared.Chosen.{Chosen}
 use Rattle.run_path.specs.Inner.Path.{emittedOf}
@@ -28,18 +28,9 @@ use Rattle.timetable_steps.specs.Inner.Steps.{Named, Below, chosenStep, 
 
 -- ---- what a state does next is within the plan's limits
 
-awaited : (p : Plan) → InLimits p → (s e : ℕ) → nextOf (p .automaton) s ≡ Next.Waits e → e < p .events
-awaited p limits s e q = go (subst (NextIs (p .automaton) s) q (next-is (p .automaton) s))
-  where
-    go : NextIs (p .automaton) s (Next.Waits e) → e < p .events
-    go (NextIs.waits o x) = subst (InputNames p) (x .input) (limits .moves (x .index) (x .leaves .low) .input) .0
-
 -- the transition of an outcome is one of the plan's
 pub chosen-below : (a : Automaton) (s e o t : ℕ) → chosenOf a s e o ≡ Chosen.Move t → t < a .count
-chosen-below a s e o t q = go (subst (ChosenIs a s e o) q (chosen-is a s e o))
-  where
-    go : ChosenIs a s e o (Chosen.Move t) → t < a .count
-    go (ChosenIs.moves l h) = l .low
+chosen-below a s e o t q = chosen-leaves a s e o t q .0 .low
 
 -- the transition that is taken without an event is one of the plan's
 pub goes-below : (a : Automaton) (s t : ℕ) → nextOf a s ≡ Next.Goes t → t < a .count
@@ -50,7 +41,7 @@ below a few s e o Chosen.Nothing q = tt
 below a few s e o (Chosen.Move t) q = let u = chosen-below a s e o t (sym q) in omega arith
 
 pub named : (p : Plan) → InLimits p → (s : ℕ) → Named (p .automaton) s
-named p limits s = record { few = limits .transitions; awaited = λ e q. let u = awaited p limits s e q in let v = limits .events in omega arith }
+named p limits s = record { few = limits .transitions; awaited = λ e q. let u = awaited-below p limits s e q in let v = limits .events in omega arith }
 
 -- the step, once it is known what the state does next
 pub step-as : (a : Automaton) (outcomes : List ℕ) (s : ℕ) (heard : Heard) (n m : Next) → n ≡ nextOf a s → n ≡ m → nextStep a outcomes s heard m ≡ stepOf a outcomes s heard
@@ -83,7 +74,7 @@ lacks-alike p limits s o h = go (nextOf (p .automaton) s) refl
     go Next.Ended q = refl
     go (Next.Goes t) q = refl
     go (Next.Waits e) q =
-        let u = limits .outcomes e (awaited p limits s e q) .1 in
+        let u = limits .outcomes e (awaited-below p limits s e q) .1 in
         rw (le-ltb 8 (getD (p .outcomes) e 0) (omega arith), le-ltb o (getD (p .outcomes) e 0) (omega arith))
 
 same-step : (p : Plan) → InLimits p → (s : ℕ) (h : Heard) → stepOf (p .automaton) (p .outcomes) s (heardAs (columnOf h)) ≡ stepOf (p .automaton) (p .outcomes) s h

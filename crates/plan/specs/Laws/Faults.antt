@@ -1,10 +1,10 @@
--- A fault of the plan's author is told by its number.
-use mathlib.Core.Path.{_≡_, refl, sym, _∙_}
+-- A fault of the plan's author is told by its number. Assumes nothing.
+use mathlib.Core.Path.{_≡_, refl, sym, ap, _∙_}
 use mathlib.Core.List.{[], _∷_}
 use Prim.Native.Nat.{ℕ}
 use lib.ListN.{getD}
 use Rattle.plan.specs.Fault.{numberOf}
 use Rattle.plan.specs.declared.Fault.{Fault}
 
 -- the plan's fault of a number, and any fault where it has none
 abbrev pub faultAt : ℕ → Fault
@@ -40,6 +40,10 @@ fault-at Fault.NoWayToFinal = refl
 fault-at Fault.Unbalanced = refl
 fault-at Fault.TooManyPending = refl
 
--- two faults with one number are the same
+-- two faults with one number are one
 pub same-fault : (f g : Fault) → numberOf f ≡ numberOf g → f ≡ g
 same-fault f g n = sym (fault-at f) ∙ rw n (fault-at g)
+
+-- a number that has none is no fault's
+pub no-fault : (f : Fault) (n : ℕ) → faultAt n ≡ Fault.Ends → (numberOf Fault.Ends ≡ n → ⊥) → numberOf f ≡ n → ⊥
+no-fault f n none other e = other (ap numberOf (sym none ∙ ap faultAt (sym e) ∙ fault-at f) ∙ e)
