@@ -2,6 +2,8 @@
 use activity::activity_of;
 use automaton::Next;
 use automaton::next_of;
+use basis::u16_to_usize;
+use basis::u8_to_usize;
 use plan::Activity;
 use plan::Kind;
 use plan::Node;
@@ -13,6 +15,7 @@ use times::Schedule;
 use times::engine::advance;
 use run_window::Entry;
 use run_window::Phase;
+use run_window::WINDOW;
 use run_window::vacant;
 ghost use mathlib.Core.Path.{_≡_};
 ghost use Prim.Native.Nat.{_≤_};
@@ -43,21 +46,9 @@ struct Brought {
 pub struct Pathed {
     // it passes a limit of time or position (number 44)
     pub beyond: bool,
-    pub entries: [Entry; 512],
+    pub entries: [Entry; WINDOW],
     pub count: usize,
     pub progress: Progress,
-}
-
-fn wide(x: u8) -> usize
-    ensures { λ r. ⌜ r ≡ x ⌝ }
-{
-    x as usize
-}
-
-fn long(x: u16) -> usize
-    ensures { λ r. ⌜ r ≡ x ⌝ }
-{
-    x as usize
 }
 
 // "action and event nodes"
@@ -130,7 +121,7 @@ fn bring(position: u32, number: u8, times: Schedule, activity: Activity) -> Brou
     ensures { λ r. ⌜ r ≡ broughtOf (entriesFrom position number times 0 (nodesOf activity)) ⌝ }
 {
     let free = vacant();
-    let size = wide(activity.count);
+    let size = u8_to_usize(activity.count);
     let mut entries = [free; 64];
     let mut count: usize = 0;
     let mut n: usize = 0;
@@ -191,7 +182,7 @@ pub fn path(plan: Plan, next: Next, progress: Progress) -> Pathed
     let automaton = plan.automaton;
     let mut found = Pathed {
         beyond: false,
-        entries: [free; 512],
+        entries: [free; WINDOW],
         count: 0,
         progress: progress,
     };
@@ -201,12 +192,12 @@ pub fn path(plan: Plan, next: Next, progress: Progress) -> Pathed
         let Next::Goes(t) = to else {
             return found;
         };
-        let m = automaton.moves[long(t)];
+        let m = automaton.moves[u16_to_usize(t)];
         let output = m.output;
         let number = activity_number(output);
-        let a = wide(number);
+        let a = u8_to_usize(number);
         let count = emitted_count(output, plan.sizes[a]);
-        let size = wide(count);
+        let size = u8_to_usize(count);
         let mut nodes = [empty; 64];
         let mut n: usize = 0;
         while n < size {
@@ -225,7 +216,7 @@ pub fn path(plan: Plan, next: Next, progress: Progress) -> Pathed
             let place = found.count;
             j += 1;
             found.count = place + 1;
-            if place < 512 {
+            if place < WINDOW {
                 found.entries[place] = e;
             }
         }

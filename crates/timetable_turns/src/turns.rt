@@ -2,6 +2,7 @@
 use crate::Drafted;
 use crate::Turned;
 use crate::lent::lend;
+use basis::u8_to_usize;
 use plan::Activity;
 use plan::Plan;
 use run_path::activity_number;
@@ -31,12 +32,6 @@ ghost use Rattle.timetable_turns.specs.Inner.Turn.{closes, turnOf, Open}
 ghost use Rattle.timetable_turns.specs.Inner.Answers.{Drafts, Turns, Turnable, Steppable};
 ghost use Rattle.timetable_turns.specs.Inner.Stepped.{closing, stepped, closedAt};
 
-fn wide(x: u8) -> usize
-    ensures { λ r. ⌜ r ≡ x ⌝ }
-{
-    x as usize
-}
-
 // The rows of one transition.
 fn put_rows(
     out: &mut [u8],
@@ -49,7 +44,7 @@ fn put_rows(
     requires { ⌜ (at ≤ 61_440) × (activity .count ≤ 64) ⌝ }
     ensures { λ r. ⌜ Puts (now (out .entry)) at (rows (entriesFrom position number times 0 (nodesOf activity))) (now (out .exit)) r ⌝ }
 {
-    let size = wide(activity.count);
+    let size = u8_to_usize(activity.count);
     let mut next = at;
     let mut n: usize = 0;
     while n < size {

@@ -7,6 +7,7 @@ use crate::lent::past;
 use crate::turns::counted;
 use crate::turns::left_after;
 use crate::turns::turn_by;
+use basis::u8_to_usize;
 use plan::Plan;
 use timetable_lines::put_refused;
 use timetable_steps::Heard;
@@ -99,19 +100,13 @@ fn put_table(out: &mut [u8], input: &[u8], n: usize) -> usize
     put_turns(out, input, end, plan, first)
 }
 
-fn wide(x: u8) -> usize
-    ensures { λ r. ⌜ (r ≡ x) × (r < 256) ⌝ }
-{
-    x as usize
-}
-
 // "the plan's length (two bytes)", the lowest byte first.
 fn plan_length(input: &[u8]) -> usize
     requires { ⌜ 2 ≤ length (now input) ⌝ }
     ensures { λ r. ⌜ (r ≡ getD (now (input .entry)) 0 0 + 256 * getD (now (input .entry)) 1 0) × (r ≤ 65_535) ⌝ }
 {
-    let low = wide(input[0]);
-    let high = wide(input[1]);
+    let low = u8_to_usize(input[0]);
+    let high = u8_to_usize(input[1]);
     low + 256 * high
 }
 

@@ -19,7 +19,7 @@ abbrev μ-loop : tie.MeasureT-loop
 μ-loop position number times activity size entries₀ count₀ n₀ entries count n = size - n
 
 loop-holds : tie.Need-loop-holds Inv-loop μ-loop
-loop-holds c = (omega arith, omega (arith, c .wide .ensures), omega arith, refl, refl)
+loop-holds c = (omega arith, omega (arith, c .u8-to-usize .ensures), omega arith, refl, refl)
 
 loop-again : tie.Need-loop-again Inv-loop μ-loop
 loop-again c =

@@ -53,13 +53,13 @@ rests p q left f (Next.Waits e) w k = walking-waits p q left f w refl
 rests p q left f (Next.Goes t) w k = absurd (⊎-elim (λ e. omega arith) (λ e. omega arith) k)
 
 -- the transition is one of the plan's, and so is its activity
-is-named : (c : tie.After-long Inv-loop2 μ-loop2 Inv-loop3 μ-loop3 Inv-loop μ-loop) → c .before .before .to .given .0 .0 < c .before .before .before .before .before .before .before .before .before .args .t1 .automaton .count
+is-named : (c : tie.After-u16-to-usize Inv-loop2 μ-loop2 Inv-loop3 μ-loop3 Inv-loop μ-loop) → c .before .before .to .given .0 .0 < c .before .before .before .before .before .before .before .before .before .args .t1 .automaton .count
 is-named c =
     let l = c .before .before .before .before .before .loop in
     named _ _ (l .left) (l .found) _ (l .inv .0) (c .before .before .to .given .1) (omega arith) (c .before .before .before .before .before .before .before .before .before .pre .0)
 
-names : (c : tie.After-long Inv-loop2 μ-loop2 Inv-loop3 μ-loop3 Inv-loop μ-loop) → OutputNames (c .before .before .before .before .before .before .before .before .before .args .t1) (move (c .before .before .before .before .before .before .before .before .before .args .t1 .automaton) (c .long .result) .output)
-names c = subst (λ (k : ℕ). OutputNames (c .before .before .before .before .before .before .before .before .before .args .t1) (move (c .before .before .before .before .before .before .before .before .before .args .t1 .automaton) k .output)) (sym (c .long .ensures)) (c .before .before .before .before .before .before .before .before .before .pre .0 .moves _ (is-named c) .output)
+names : (c : tie.After-u16-to-usize Inv-loop2 μ-loop2 Inv-loop3 μ-loop3 Inv-loop μ-loop) → OutputNames (c .before .before .before .before .before .before .before .before .before .args .t1) (move (c .before .before .before .before .before .before .before .before .before .args .t1 .automaton) (c .u16-to-usize .result) .output)
+names c = subst (λ (k : ℕ). OutputNames (c .before .before .before .before .before .before .before .before .before .args .t1) (move (c .before .before .before .before .before .before .before .before .before .args .t1 .automaton) k .output)) (sym (c .u16-to-usize .ensures)) (c .before .before .before .before .before .before .before .before .before .pre .0 .moves _ (is-named c) .output)
 
 loop-holds : tie.Need-loop-holds Inv-loop2 μ-loop2 Inv-loop3 μ-loop3 Inv-loop μ-loop
 loop-holds c =
@@ -70,21 +70,21 @@ returns : tie.Need-returns Inv-loop2 μ-loop2 Inv-loop3 μ-loop3 Inv-loop μ-loo
 returns c = let l = c .before .before .loop in rests _ _ (l .left) (l .found) (l .to) (l .inv .0) (c .match .keys2)
 
 element-copy-out-m : tie.Need-element-copy-out-m Inv-loop2 μ-loop2 Inv-loop3 μ-loop3 Inv-loop μ-loop
-element-copy-out-m c = omega (arith, c .long .ensures, is-named c, c .before .before .before .before .before .before .before .before .before .pre .0 .transitions)
+element-copy-out-m c = omega (arith, c .u16-to-usize .ensures, is-named c, c .before .before .before .before .before .before .before .before .before .pre .0 .transitions)
 
-below : (c : tie.After-wide Inv-loop2 μ-loop2 Inv-loop3 μ-loop3 Inv-loop μ-loop) → c .wide .result < 32
-below c = omega (arith, c .wide .ensures, c .before .activity-number .ensures, number-below (c .before .before .before .before .before .before .before .before .before .before .before .before .args .t1) (c .before .before .before .before .before .before .before .before .before .before .before .before .pre .0) (move (c .before .before .before .before .before .before .before .before .before .before .before .before .args .t1 .automaton) (c .before .before .before .long .result) .output) (names (c .before .before .before)))
+below : (c : tie.After-u8-to-usize Inv-loop2 μ-loop2 Inv-loop3 μ-loop3 Inv-loop μ-loop) → c .u8-to-usize .result < 32
+below c = omega (arith, c .u8-to-usize .ensures, c .before .activity-number .ensures, number-below (c .before .before .before .before .before .before .before .before .before .before .before .before .args .t1) (c .before .before .before .before .before .before .before .before .before .before .before .before .pre .0) (move (c .before .before .before .before .before .before .before .before .before .before .before .before .args .t1 .automaton) (c .before .before .before .u16-to-usize .result) .output) (names (c .before .before .before)))
 
 element-copy-out-emitted-count : tie.Need-element-copy-out-emitted-count Inv-loop2 μ-loop2 Inv-loop3 μ-loop3 Inv-loop μ-loop
 element-copy-out-emitted-count c = below c
 
 -- how many nodes it has
-few : (c : tie.After-wide2 Inv-loop2 μ-loop2 Inv-loop3 μ-loop3 Inv-loop μ-loop) → c .wide2 .result ≤ 64
+few : (c : tie.After-u8-to-usize2 Inv-loop2 μ-loop2 Inv-loop3 μ-loop3 Inv-loop μ-loop) → c .u8-to-usize2 .result ≤ 64
 few c =
     let n = c .before .before .before .before .activity-number in
     let s = c .before .before .before .before .before .before .before .before .before .before .before .before .before .before .before in
-    let z = c .before .before .before .wide .ensures ∙ n .ensures in
-    omega (arith, c .wide2 .ensures, c .before .emitted-count .ensures, ap (λ (k : ℕ). emittedCount (move (s .args .t1 .automaton) (c .before .before .before .before .before .before .long .result) .output) (sizeOf (s .args .t1) k)) z, size-below (s .args .t1) (s .pre .0) (move (s .args .t1 .automaton) (c .before .before .before .before .before .before .long .result) .output) (names (c .before .before .before .before .before .before)))
+    let z = c .before .before .before .u8-to-usize .ensures ∙ n .ensures in
+    omega (arith, c .u8-to-usize2 .ensures, c .before .emitted-count .ensures, ap (λ (k : ℕ). emittedCount (move (s .args .t1 .automaton) (c .before .before .before .before .before .before .u16-to-usize .result) .output) (sizeOf (s .args .t1) k)) z, size-below (s .args .t1) (s .pre .0) (move (s .args .t1 .automaton) (c .before .before .before .before .before .before .u16-to-usize .result) .output) (names (c .before .before .before .before .before .before)))
 
 loop2-holds : tie.Need-loop2-holds Inv-loop2 μ-loop2 Inv-loop3 μ-loop3 Inv-loop μ-loop
 loop2-holds c = (omega arith, ap (λ (x : Node). replicate 64 x) (c .before .before .before .before .before .before .before .before .before .before .before .before .before .empty-node .ensures))
@@ -111,26 +111,26 @@ loop2-again : tie.Need-loop2-again Inv-loop2 μ-loop2 Inv-loop3 μ-loop3 Inv-loo
 loop2-again c =
     let l = c .before .before .loop2 in
     let s = c .before .before .before .before .before .before .before .before .before .before .before .before .before .before .before .before .before .before .args in
-    let z = c .before .before .before .before .before .before .wide .ensures in
-    (omega arith, ap (λ (x : List Node). set x (l .n) (getD (s .t1 .nodes) (64 * c .before .before .before .before .before .before .wide .result + l .n) pastNode)) (l .inv .1) ∙ ap (λ (k : ℕ). set (filled (s .t1) (c .before .before .before .before .before .before .before .activity-number .result) (l .n)) (l .n) (getD (s .t1 .nodes) (64 * k + l .n) pastNode)) z ∙ filled-more (s .t1) (c .before .before .before .before .before .before .before .activity-number .result) (l .n) (omega (arith, few (c .before .before .before))))
+    let z = c .before .before .before .before .before .before .u8-to-usize .ensures in
+    (omega arith, ap (λ (x : List Node). set x (l .n) (getD (s .t1 .nodes) (64 * c .before .before .before .before .before .before .u8-to-usize .result + l .n) pastNode)) (l .inv .1) ∙ ap (λ (k : ℕ). set (filled (s .t1) (c .before .before .before .before .before .before .before .activity-number .result) (l .n)) (l .n) (getD (s .t1 .nodes) (64 * k + l .n) pastNode)) z ∙ filled-more (s .t1) (c .before .before .before .before .before .before .before .activity-number .result) (l .n) (omega (arith, few (c .before .before .before))))
 
 -- the activity is the one that it emits
-activity-is : (c : tie.After-before2 Inv-loop2 μ-loop2 Inv-loop3 μ-loop3 Inv-loop μ-loop) → _≡_ {A = Activity} (record { count = c .before .before .before .before .emitted-count .result; nodes = c .before .before .loop2 .nodes }) (emittedOf (c .before .before .before .before .before .before .before .before .before .before .before .before .before .before .before .before .before .before .args .t1) (move (c .before .before .before .before .before .before .before .before .before .before .before .before .before .before .before .before .before .before .args .t1 .automaton) (c .before .before .before .before .before .before .before .before .before .long .result) .output))
+activity-is : (c : tie.After-before2 Inv-loop2 μ-loop2 Inv-loop3 μ-loop3 Inv-loop μ-loop) → _≡_ {A = Activity} (record { count = c .before .before .before .before .emitted-count .result; nodes = c .before .before .loop2 .nodes }) (emittedOf (c .before .before .before .before .before .before .before .before .before .before .before .before .before .before .before .before .before .before .args .t1) (move (c .before .before .before .before .before .before .before .before .before .before .before .before .before .before .before .before .before .before .args .t1 .automaton) (c .before .before .before .before .before .before .before .before .before .u16-to-usize .result) .output))
 activity-is c =
     let p = c .before .before .before .before .before .before .before .before .before .before .before .before .before .before .before .before .before .before .args .t1 in
-    let o = move (p .automaton) (c .before .before .before .before .before .before .before .before .before .long .result) .output in
+    let o = move (p .automaton) (c .before .before .before .before .before .before .before .before .before .u16-to-usize .result) .output in
     let n = c .before .before .before .before .before .before .before .activity-number in
     let k = c .before .before .before .before .emitted-count in
     let l = c .before .before .loop2 in
-    let z : l .n ≡ k .result = omega (arith, c .before .before .before .wide2 .ensures, l .inv .0, c .before .loop2-test .left) in
-    emitted-as p o (n .result) (k .result) (l .nodes) (n .ensures) (k .ensures ∙ ap (λ (x : ℕ). emittedCount o (sizeOf p x)) (c .before .before .before .before .before .before .wide .ensures)) (l .inv .1 ∙ ap (filled p (n .result)) z)
+    let z : l .n ≡ k .result = omega (arith, c .before .before .before .u8-to-usize2 .ensures, l .inv .0, c .before .loop2-test .left) in
+    emitted-as p o (n .result) (k .result) (l .nodes) (n .ensures) (k .ensures ∙ ap (λ (x : ℕ). emittedCount o (sizeOf p x)) (c .before .before .before .before .before .before .u8-to-usize .ensures)) (l .inv .1 ∙ ap (filled p (n .result)) z)
 
 stepped-requires : tie.Need-stepped-requires Inv-loop2 μ-loop2 Inv-loop3 μ-loop3 Inv-loop μ-loop
-stepped-requires c κs = step-taken (c .before .before .before .before .before .before .before .before .before .before .before .before .before .before .before .before .before .before .args .t1) _ (c .before .before .before .before .before .before .before .before .before .before .before .before .before .before .loop .found .progress) (c .before .before .before .before .before .before .before .before .before .long .result) (c .before .before .before .before .before .before .before .before .before .long .ensures) (c .before .before .before .before .before .before .before .activity-number .result) (c .before .before .before .before .before .before .before .activity-number .ensures) _ (activity-is c) (c .before .before .before .before .before .before .before .before .before .before .before .before .before .before .before .before .before .before .pre .0) (is-named (c .before .before .before .before .before .before .before .before .before)) (c .before .before .before .before .before .before .before .before .before .before .before .before .before .before .loop .inv .0 .limits)
+stepped-requires c κs = step-taken (c .before .before .before .before .before .before .before .before .before .before .before .before .before .before .before .before .before .before .args .t1) _ (c .before .before .before .before .before .before .before .before .before .before .before .before .before .before .loop .found .progress) (c .before .before .before .before .before .before .before .before .before .u16-to-usize .result) (c .before .before .before .before .before .before .before .before .before .u16-to-usize .ensures) (c .before .before .before .before .before .before .before .activity-number .result) (c .before .before .before .before .before .before .before .activity-number .ensures) _ (activity-is c) (c .before .before .before .before .before .before .before .before .before .before .before .before .before .before .before .before .before .before .pre .0) (is-named (c .before .before .before .before .before .before .before .before .before)) (c .before .before .before .before .before .before .before .before .before .before .before .before .before .before .loop .inv .0 .limits)
 
 -- the step is the transition's
 step-of : (c : tie.After-stepped Inv-loop2 μ-loop2 Inv-loop3 μ-loop3 Inv-loop μ-loop) → c .stepped .result ≡ stepBy (c .before .before .before .before .before .before .before .before .before .before .before .before .before .before .before .before .before .before .before .args .t1) (c .before .before .before .before .before .before .before .before .before .before .before .before .to .given .0 .0) (c .before .before .before .before .before .before .before .before .before .before .before .before .before .before .before .loop .found .progress)
-step-of c = step-is (c .before .before .before .before .before .before .before .before .before .before .before .before .before .before .before .before .before .before .before .args .t1) _ (c .before .before .before .before .before .before .before .before .before .before .before .before .before .before .before .loop .found .progress) (c .before .before .before .before .before .before .before .before .before .before .long .result) (c .before .before .before .before .before .before .before .before .before .before .long .ensures) (c .before .before .before .before .before .before .before .before .activity-number .result) (c .before .before .before .before .before .before .before .before .activity-number .ensures) _ (activity-is (c .before)) (c .stepped .result) (c .stepped .ensures)
+step-of c = step-is (c .before .before .before .before .before .before .before .before .before .before .before .before .before .before .before .before .before .before .before .args .t1) _ (c .before .before .before .before .before .before .before .before .before .before .before .before .before .before .before .loop .found .progress) (c .before .before .before .before .before .before .before .before .before .before .u16-to-usize .result) (c .before .before .before .before .before .before .before .before .before .before .u16-to-usize .ensures) (c .before .before .before .before .before .before .before .before .activity-number .result) (c .before .before .before .before .before .before .before .before .activity-number .ensures) _ (activity-is (c .before)) (c .stepped .result) (c .stepped .ensures)
 
 few-entries : (c : tie.After-stepped Inv-loop2 μ-loop2 Inv-loop3 μ-loop3 Inv-loop μ-loop) → c .stepped .result .count ≤ 64
 few-entries c = step-few (c .before .before .before .before .before .before .before .before .before .before .before .before .before .before .before .before .before .before .before .args .t1) _ (c .before .before .before .before .before .before .before .before .before .before .before .before .before .before .before .loop .found .progress) (c .stepped .result) (step-of c) (c .before .before .before .before .before .before .before .before .before .before .before .before .before .before .before .before .before .before .before .pre .0) (is-named (c .before .before .before .before .before .before .before .before .before .before))
