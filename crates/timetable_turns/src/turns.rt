@@ -7,9 +7,8 @@ use plan::Activity;
 use plan::Plan;
 use run_path::activity_number;
 use run_path::emitted;
+use run_path::entry_of;
 use run_path::is_work;
-use run_window::Entry;
-use run_window::Phase;
 use times::Progress;
 use times::Schedule;
 use times::engine::advance;
@@ -55,14 +54,7 @@ fn put_rows(
         if is_work(kind) {
             let start = times.start[node];
             let end = times.end[node];
-            let entry = Entry {
-                phase: Phase::Loaded,
-                position: position,
-                activity: number,
-                node: node as u8,
-                start: start,
-                end: end,
-            };
+            let entry = entry_of(position, number, node as u8, start, end);
             next = put_row(out, next, entry);
         }
     }
