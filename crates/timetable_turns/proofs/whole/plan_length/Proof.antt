@@ -5,7 +5,7 @@ use Rattle.timetable_turns.proofs.whole.plan_length.Statement.{statemen
 use Rattle.timetable_turns.proofs.whole.plan_length.Tie as tie
 
 mul-result : tie.Need-mul-result
-mul-result c = omega (arith, c .before .shared-slice-known3 .given 1)
+mul-result c = omega (arith, c .before .shared-slice-known3 .given 1, c .before .before .before .shared-slice-known2 .given 0)
 
 add-result : tie.Need-add-result
 add-result c = omega (arith, c .before .shared-slice-known3 .given 1, c .before .before .before .shared-slice-known2 .given 0)
