@@ -2,62 +2,35 @@
 use activity::activity_of;
 use automaton::Next;
 use automaton::next_of;
+use basis::u8_to_usize;
+use basis::u16_to_usize;
 use plan::Activity;
 use plan::Kind;
 use plan::Node;
 use plan::Output;
 use plan::Plan;
-use plan::Transition;
-use times::Progress;
-use times::Schedule;
-use times::engine::advance;
 use run_window::Entry;
 use run_window::Phase;
+use run_window::WINDOW;
 use run_window::vacant;
+use time::Specified;
+use times::Progress;
+use times::engine::advance;
 ghost use mathlib.Core.Path.{_≡_};
 ghost use Prim.Native.Nat.{_≤_};
-ghost use Rattle.plan.specs.Plan.{nodesOf};
 ghost use Rattle.plan.specs.Limits.{InLimits, OutputNames};
-ghost use Rattle.run_path.specs.Path.{isWork, entriesFrom, activityNumber, pathFrom, longestPath};
+ghost use Rattle.run_path.specs.Path.{isWork, activityNumber, pathFrom, longestPath};
 ghost use Rattle.run_path.specs.Pathed.{ProgressIn, Leads, pathed};
 ghost use Rattle.activity.specs.Inner.Copied.{emptyNode};
-ghost use Rattle.times.specs.Limits.{StepFits};
-ghost use Rattle.run_path.specs.Inner.Path.{emittedOf, emittedCount, broughtOf, steppedOf};
-
-// One transition of a path: the entries that it brings, and where the behaviour stands after it.
-struct Step {
-    // it passes a limit of time or position (number 44)
-    beyond: bool,
-    entries: [Entry; 64],
-    count: usize,
-    progress: Progress,
-}
-
-// The entries of one transition.
-struct Brought {
-    entries: [Entry; 64],
-    count: usize,
-}
+ghost use Rattle.run_path.specs.Inner.Path.{emittedOf, emittedCount, entryOf, countedOf, isKept, nothingYet};
 
 // A path: its entries, all counted and the first 512 kept, and where it ends.
 pub struct Pathed {
     // it passes a limit of time or position (number 44)
     pub beyond: bool,
-    pub entries: [Entry; 512],
+    pub entries: [Entry; WINDOW],
     pub count: usize,
     pub progress: Progress,
-}
-
-fn wide(x: u8) -> usize
-    ensures { λ r. ⌜ r ≡ x ⌝ }
-{
-    x as usize
-}
-
-fn long(x: u16) -> usize
-    ensures { λ r. ⌜ r ≡ x ⌝ }
-{
-    x as usize
 }
 
 // "action and event nodes"
@@ -124,115 +97,101 @@ fn emitted_count(output: Output, size: u8) -> u8
     }
 }
 
-// The entries of one transition.
-fn bring(position: u32, number: u8, times: Schedule, activity: Activity) -> Brought
-    requires { ⌜ activity .count ≤ 64 ⌝ }
-    ensures { λ r. ⌜ r ≡ broughtOf (entriesFrom position number times 0 (nodesOf activity)) ⌝ }
+// The entry of a node, which is not started.
+pub fn entry_of(position: u32, number: u8, node: u8, start: Specified, end: Specified) -> Entry
+    ensures { λ r. ⌜ r ≡ entryOf position number node start end ⌝ }
+{
+    Entry {
+        phase: Phase::Loaded,
+        position: position,
+        activity: number,
+        node: node,
+        start: start,
+        end: end,
+    }
+}
+
+// How many entries a path has after a node.
+fn counted(count: usize, x: Node) -> usize
+    requires { ⌜ count ≤ 4_096 ⌝ }
+    ensures { λ r. ⌜ r ≡ countedOf count x ⌝ }
+{
+    let kind = x.kind;
+    if is_work(kind) {
+        return count + 1;
+    }
+    count
+}
+
+// "at most 512": whether a node has an entry, and that entry a place.
+fn is_kept(place: usize, x: Node) -> bool
+    ensures { λ r. ⌜ r ≡ isKept place x ⌝ }
+{
+    let kind = x.kind;
+    if is_work(kind) {
+        return place < WINDOW;
+    }
+    false
+}
+
+// A path of no transition.
+fn nothing_yet(progress: Progress) -> Pathed
+    ensures { λ r. ⌜ r ≡ nothingYet progress ⌝ }
 {
     let free = vacant();
-    let size = wide(activity.count);
-    let mut entries = [free; 64];
-    let mut count: usize = 0;
-    let mut n: usize = 0;
-    while n < size {
-        let node = n;
-        n += 1;
-        let x = activity.nodes[node];
-        let kind = x.kind;
-        if is_work(kind) {
-            let start = times.start[node];
-            let end = times.end[node];
-            entries[count] = Entry {
-                phase: Phase::Loaded,
-                position: position,
-                activity: number,
-                node: node as u8,
-                start: start,
-                end: end,
-            };
-            count += 1;
-        }
-    }
-    Brought {
-        entries: entries,
-        count: count,
+    Pathed {
+        beyond: false,
+        entries: [free; WINDOW],
+        count: 0,
+        progress: progress,
     }
 }
 
-// Transition m, which emits the activity of this number.
-fn stepped(resources: u8, number: u8, activity: Activity, m: Transition, before: Progress) -> Step
-    requires { ⌜ StepFits resources activity (m .input) before ⌝ }
-    ensures { λ r. ⌜ r ≡ steppedOf resources number activity m before ⌝ }
-{
-    let input = m.input;
-    let advanced = advance(resources, activity, input, m.to, before);
-    let times = advanced.schedule;
-    let found = bring(before.position, number, times, activity);
-    let entries = found.entries;
-    let progress = advanced.progress;
-    Step {
-        beyond: advanced.beyond,
-        entries,
-        count: found.count,
-        progress,
-    }
-}
-
-// The path from what a state does next, up to a waiting or final state. Its activities are copied out of the plan here: a
-// function that is handed a plan copies all of it.
-pub fn path(plan: Plan, next: Next, progress: Progress) -> Pathed
+// The path from what a state does next, up to a waiting or final state, which an accepted plan reaches within 64 transitions. Its
+// activities are copied out of the plan here, and its entries put where they stay: a function that is handed a plan or a path
+// copies all of it.
+pub fn path(plan: Plan, mut next: Next, progress: Progress) -> Pathed
     requires { ⌜ InLimits plan ⌝ }
     requires { ⌜ Leads (plan .automaton .count) next ⌝ }
     requires { ⌜ ProgressIn plan progress ⌝ }
     ensures { λ r. ⌜ r ≡ pathed (pathFrom plan longestPath next progress) ⌝ }
 {
-    let free = vacant();
-    let empty = empty_node();
     let automaton = plan.automaton;
-    let mut found = Pathed {
-        beyond: false,
-        entries: [free; 512],
-        count: 0,
-        progress: progress,
-    };
-    let mut to = next;
-    let mut left: usize = 64;
-    while 0 < left {
-        let Next::Goes(t) = to else {
+    let mut found = nothing_yet(progress);
+    for _ in 0..64usize {
+        let Next::Goes(t) = next else {
             return found;
         };
-        let m = automaton.moves[long(t)];
+        let m = automaton.moves[u16_to_usize(t)];
+        let input = m.input;
         let output = m.output;
         let number = activity_number(output);
-        let a = wide(number);
+        let a = u8_to_usize(number);
         let count = emitted_count(output, plan.sizes[a]);
-        let size = wide(count);
-        let mut nodes = [empty; 64];
-        let mut n: usize = 0;
-        while n < size {
+        let size = u8_to_usize(count);
+        let mut nodes = [empty_node(); 64];
+        for n in 0..size {
             nodes[n] = plan.nodes[64 * a + n];
-            n += 1;
         }
-        let before = found.progress;
-        let taken = stepped(plan.resources, number, Activity { count, nodes }, m, before);
-        if taken.beyond {
+        let from = found.progress;
+        let advanced = advance(plan.resources, Activity { count, nodes }, input, m.to, from);
+        if advanced.beyond {
             found.beyond = true;
             return found;
         }
-        let mut j: usize = 0;
-        while j < taken.count {
-            let e = taken.entries[j];
+        let times = advanced.schedule;
+        for n in 0..size {
+            let x = nodes[n];
             let place = found.count;
-            j += 1;
-            found.count = place + 1;
-            if place < 512 {
+            found.count = counted(place, x);
+            if is_kept(place, x) {
+                let e = entry_of(from.position, number, n as u8, times.start[n], times.end[n]);
                 found.entries[place] = e;
             }
         }
-        let after = taken.progress;
+        let after = advanced.progress;
         found.progress = after;
-        to = next_of(automaton, after.state);
-        left -= 1;
+        next = next_of(automaton, after.state);
     }
     found
 }

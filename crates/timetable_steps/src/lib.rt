@@ -3,6 +3,8 @@ use automaton::Chosen;
 use automaton::Next;
 use automaton::chosen_of;
 use automaton::next_of;
+use basis::u8_to_usize;
+use basis::u16_to_usize;
 use plan::Activity;
 use plan::Automaton;
 use plan::Output;
@@ -37,18 +39,6 @@ pub struct Way {
     pub step: Step,
 }
 
-fn wide(x: u8) -> usize
-    ensures { λ r. ⌜ r ≡ x ⌝ }
-{
-    x as usize
-}
-
-fn long(x: u16) -> usize
-    ensures { λ r. ⌜ r ≡ x ⌝ }
-{
-    x as usize
-}
-
 // The transition of an outcome of event e, if the state has one.
 fn chosen_step(a: Automaton, e: u8, chosen: Chosen) -> Step
     requires { ⌜ Below chosen ⌝ }
@@ -59,7 +49,7 @@ fn chosen_step(a: Automaton, e: u8, chosen: Chosen) -> Step
             return Step::Waits(e);
         }
         Chosen::Move(t) => {
-            let i = long(t);
+            let i = u16_to_usize(t);
             let m = a.moves[i];
             return Step::Takes(m, true);
         }
@@ -76,7 +66,7 @@ fn heard_step(a: Automaton, outcomes: [u8; 16], s: u8, e: u8, heard: Heard) -> S
             return Step::Waits(e);
         }
         Heard::Outcome(o) => {
-            let i = wide(e);
+            let i = u8_to_usize(e);
             if o < outcomes[i] {
                 let chosen = chosen_of(a, s, e, o);
                 return chosen_step(a, e, chosen);
@@ -97,7 +87,7 @@ pub fn step_of(a: Automaton, outcomes: [u8; 16], s: u8, heard: Heard) -> Step
             return Step::Ends;
         }
         Next::Goes(t) => {
-            let i = long(t);
+            let i = u16_to_usize(t);
             let m = a.moves[i];
             return Step::Takes(m, false);
         }
@@ -131,7 +121,7 @@ pub fn index_of(s: u8, heard: Heard) -> usize
     ensures { λ r. ⌜ r ≡ 10 * s + columnOf heard ⌝ }
     ensures { λ r. ⌜ r < 10 * s + 10 ⌝ }
 {
-    10 * wide(s) + column_of(heard)
+    10 * u8_to_usize(s) + column_of(heard)
 }
 
 fn heard_as(column: u8) -> Heard
@@ -152,7 +142,7 @@ pub fn steps_of(plan: Plan) -> [Way; 640]
     let outcomes = plan.outcomes;
     let end = Way { step: Step::Ends };
     let mut ways = [end; 640];
-    let most = 10 * wide(automaton.states);
+    let most = 10 * u8_to_usize(automaton.states);
     let mut k: usize = 0;
     while k < most {
         let heard = heard_as((k % 10) as u8);
@@ -214,7 +204,7 @@ pub fn activities_of(plan: Plan) -> [Activity; 33]
     let mut a: u8 = 0;
     while a < plan.activities {
         let activity = emitted(plan, Output::Activity(a));
-        all[wide(a)] = activity;
+        all[u8_to_usize(a)] = activity;
         a += 1;
     }
     all

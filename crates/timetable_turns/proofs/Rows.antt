@@ -1,12 +1,11 @@
 -- One turn of the loop over the nodes: the rows that are left are put after those that were put.
-use mathlib.Core.Path.{_≡_, sym, ap, _∙_, subst}
-use mathlib.Core.Bool.{Bool, true, false, cond}
-use mathlib.Core.List.{List, _∷_}
+use mathlib.Core.Path.{_≡_, sym, subst}
+use mathlib.Core.Bool.{true, false}
+use mathlib.Core.List.{List}
 use Prim.Native.Nat.{ℕ, _+_, _*_, _≤_, _<_}
 use native.Mathlib.Omega.{arith}
 use lib.ListN.{getD}
 use Rattle.basis.specs.Parts.{part}
-use Rattle.basis.specs.Laws.Parts.{part-step, part-end}
 use Rattle.wire.specs.Puts.{Puts}
 use Rattle.wire.specs.Laws.Puts.{puts-none, puts-join}
 use Rattle.plan.specs.Plan.{pastNode}
@@ -14,7 +13,7 @@ use Rattle.plan.specs.declared.Node.{Node}
 use Rattle.times.specs.declared.Schedule.{Schedule}
 use Rattle.run_window.specs.declared.Entry.{Entry}
 use Rattle.run_path.specs.Path.{isWork, loaded, entriesFrom}
-use Rattle.run_path.specs.Laws.Collecting.{rest, rest-all}
+use Rattle.run_path.specs.Laws.Collecting.{rest, rest-all, rest-by, rest-none}
 use Rattle.timetable_lines.specs.Lines.{row, rows}
 use Rattle.timetable_lines.specs.Laws.Lines.{row-within}
 
@@ -32,29 +31,24 @@ module _ (position a : ℕ) (s : Schedule) (l : List Node) (size : ℕ) where
   putting-starts out at = record { room = omega arith; whole = λ m k p. p }
 
   module _ (before : List ℕ) (at : ℕ) (out : List ℕ) (next n : ℕ) (h : n < size) (w : Putting before at out next n) where
-    rest-on : rest position a s l size n ≡ cond (isWork (getD l n pastNode .kind)) (loaded position a s n ∷ rest position a s l size (n + 1)) (rest position a s l size (n + 1))
-    unfolding entriesFrom
-    rest-on = ap (entriesFrom position a s n) (part-step pastNode l n size h)
-
-    rest-by : (b : Bool) → isWork (getD l n pastNode .kind) ≡ b → rest position a s l size n ≡ cond b (loaded position a s n ∷ rest position a s l size (n + 1)) (rest position a s l size (n + 1))
-    rest-by b e = rest-on ∙ ap (λ (x : Bool). cond x (loaded position a s n ∷ rest position a s l size (n + 1)) (rest position a s l size (n + 1))) e
-
-    pub putting-row : (out′ : List ℕ) (next′ : ℕ) → position < 4294967296 → a < 256 → n < 256 → isWork (getD l n pastNode .kind) ≡ true → Puts out next (row (loaded position a s n)) out′ next′ → Putting before at out′ next′ (n + 1)
+    pub putting-row : (out′ : List ℕ) (next′ : ℕ) → position < 4294967296 → a < 256 → n < 256 → isWork (getD l n pastNode .kind) ≡ true → (x : Entry) → x ≡ loaded position a s n → Puts out next (row x) out′ next′ → Putting before at out′ next′ (n + 1)
     unfolding rows
-    putting-row out′ next′ b d f e p = record {
-      room = let u = row-within (loaded position a s n) b d f in let v = p .past in let x = w .room in omega arith;
-      whole = λ m k q. w .whole m k (subst (λ (es : List Entry). Puts out next (rows es) m k) (sym (rest-by true e)) (puts-join p q));
-    }
+    putting-row out′ next′ b d f e x ex px =
+        let p = subst (λ (y : Entry). Puts out next (row y) out′ next′) ex px in
+        record {
+          room = let u = row-within (loaded position a s n) b d f in let v = p .past in let r = w .room in omega arith;
+          whole = λ m k q. w .whole m k (subst (λ (es : List Entry). Puts out next (rows es) m k) (sym (rest-by position a s l size n h true e)) (puts-join p q));
+        }
 
     pub putting-none : isWork (getD l n pastNode .kind) ≡ false → Putting before at out next (n + 1)
     putting-none e = record {
       room = let x = w .room in omega arith;
-      whole = λ m k q. w .whole m k (subst (λ (es : List Entry). Puts out next (rows es) m k) (sym (rest-by false e)) q);
+      whole = λ m k q. w .whole m k (subst (λ (es : List Entry). Puts out next (rows es) m k) (sym (rest-by position a s l size n h false e)) q);
     }
 
   pub putting-ends : (before : List ℕ) (at : ℕ) (out : List ℕ) (next n : ℕ) → size ≤ n → Putting before at out next n → Puts before at (rows (entriesFrom position a s 0 (part pastNode l 0 size))) out next
-  unfolding rows entriesFrom
+  unfolding rows
   putting-ends before at out next n h w =
       subst (λ (es : List Entry). Puts before at (rows es) out next) (sym (rest-all position a s l size))
       (w .whole out next
-      (subst (λ (ns : List Node). Puts out next (rows (entriesFrom position a s n ns)) out next) (sym (part-end pastNode l n size h)) (puts-none out next)))
+      (subst (λ (es : List Entry). Puts out next (rows es) out next) (sym (rest-none position a s l size n h)) (puts-none out next)))

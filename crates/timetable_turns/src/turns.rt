@@ -1,13 +1,13 @@
 // One turn of the table: the rows of one position, or the text that closes it.
 use crate::Drafted;
 use crate::Turned;
+use basis::u8_to_usize;
 use plan::Activity;
 use plan::Plan;
 use run_path::activity_number;
 use run_path::emitted;
+use run_path::entry_of;
 use run_path::is_work;
-use run_window::Entry;
-use run_window::Phase;
 use times::Progress;
 use times::Schedule;
 use times::engine::advance;
@@ -31,12 +31,6 @@ ghost use Rattle.timetable_turns.specs.Inner.Turn.{closes, turnOf, Open}
 ghost use Rattle.timetable_turns.specs.Inner.Answers.{Drafts, Turns, Turnable, Steppable};
 ghost use Rattle.timetable_turns.specs.Inner.Stepped.{closing, stepped, closedAt};
 
-fn wide(x: u8) -> usize
-    ensures { λ r. ⌜ r ≡ x ⌝ }
-{
-    x as usize
-}
-
 // The rows of one transition.
 fn put_rows(
     out: &mut [u8],
@@ -49,7 +43,7 @@ fn put_rows(
     requires { ⌜ (at ≤ 61_440) × (activity .count ≤ 64) ⌝ }
     ensures { λ r. ⌜ Puts (now (out .entry)) at (rows (entriesFrom position number times 0 (nodesOf activity))) (now (out .exit)) r ⌝ }
 {
-    let size = wide(activity.count);
+    let size = u8_to_usize(activity.count);
     let mut next = at;
     let mut n: usize = 0;
     while n < size {
@@ -60,14 +54,7 @@ fn put_rows(
         if is_work(kind) {
             let start = times.start[node];
             let end = times.end[node];
-            let entry = Entry {
-                phase: Phase::Loaded,
-                position: position,
-                activity: number,
-                node: node as u8,
-                start: start,
-                end: end,
-            };
+            let entry = entry_of(position, number, node as u8, start, end);
             next = put_row(out, next, entry);
         }
     }

@@ -1,22 +1,21 @@
 -- What the inner functions answer: the activity of a transition as an array, and a path's entries put one after the other.
-use mathlib.Core.Bool.{true, false, cond}
+use mathlib.Core.Bool.{Bool, true, false, cond}
 use mathlib.Core.List.{List, [], _∷_}
 use Prim.Native.Nat.{ℕ, _+_}
+use lib.Dec.{ltb}
 use lib.ListN.{length, set, replicate}
-use Rattle.plan.specs.Plan.{nodesOf}
-use Rattle.plan.specs.declared.Transition.{Transition}
-use Rattle.times.specs.Engine.{advanceOf}
-use Rattle.times.specs.declared.Progress.{Progress}
+use Rattle.time.specs.declared.Specified.{Specified}
+use Rattle.plan.specs.declared.Node.{Node}
 use Rattle.plan.specs.declared.Output.{Output}
 use Rattle.plan.specs.declared.Activity.{Activity}
 use Rattle.plan.specs.declared.Plan.{Plan}
 use Rattle.activity.specs.Inner.Copied.{emptyNode, copied}
+use Rattle.times.specs.declared.Progress.{Progress}
+use Rattle.run_window.specs.Window.{vacant}
+use Rattle.run_window.specs.declared.Phase.{Phase}
 use Rattle.run_window.specs.declared.Entry.{Entry}
-use Rattle.run_path.specs.declared.Brought.{Brought}
-use Rattle.run_path.specs.declared.Step.{Step}
 use Rattle.run_path.specs.declared.Pathed.{Pathed}
-use Rattle.run_path.specs.Path.{Path, entriesFrom, takenBy, entriesBy}
-use Rattle.run_path.specs.Pathed.{firsts}
+use Rattle.run_path.specs.Path.{Path, isWork, takenBy, entriesBy}
 
 -- the activity that a transition emits, copied out of the plan
 unfoldable pub emittedOf : Plan → Output → Activity
@@ -28,38 +27,26 @@ abbrev pub emittedCount : Output → ℕ → ℕ
 emittedCount Output.Empty size = 0
 emittedCount (Output.Activity a) size = size
 
--- the entries of one transition: at most 64
-unfoldable pub broughtOf : List Entry → Brought
-broughtOf es = record { entries = firsts 64 es; count = length es }
+-- the entry of a node, which is not started
+abbrev pub entryOf : ℕ → ℕ → ℕ → Specified → Specified → Entry
+entryOf position a n start end = record { phase = Phase.Loaded; position = position; activity = a; node = n; start = start; end = end }
 
--- one transition, which emits an activity of this number
-unfoldable pub steppedOf : ℕ → ℕ → Activity → Transition → Progress → Step
-steppedOf resources number a m g =
-    let v = advanceOf resources (nodesOf a) (m .input) (m .to) g in
-    let es = entriesFrom (g .position) number (v .schedule) 0 (nodesOf a) in
-    record { beyond = v .beyond; entries = firsts 64 es; count = length es; progress = v .progress }
+-- how many entries a path has after a node
+abbrev pub countedOf : ℕ → Node → ℕ
+countedOf count x = cond (isWork (x .kind)) (count + 1) count
 
--- transition t of the plan
-unfoldable pub stepBy : Plan → ℕ → Progress → Step
-stepBy p t g = record {
-  beyond = takenBy p t g .beyond;
-  entries = firsts 64 (entriesBy p t g);
-  count = length (entriesBy p t g);
-  progress = takenBy p t g .progress;
-}
+-- whether a node has an entry, and that entry a place
+abbrev pub isKept : ℕ → Node → Bool
+isKept place x = cond (isWork (x .kind)) (ltb place 512) false
+
+-- a path of no transition
+abbrev pub nothingYet : Progress → Pathed
+nothingYet g = record { beyond = false; entries = replicate 512 vacant; count = 0; progress = g }
 
 -- entries put from place i on; those past the last place are dropped
 unfoldable pub put : List Entry → ℕ → List Entry → List Entry
 put l i [] = l
 put l i (e ∷ es) = put (set l i e) (i + 1) es
-
--- entries after those that are there, the first `count` of the places
-pub record Collected : Type 0 where
-  pub entries : List Entry
-  pub count : ℕ
-
-unfoldable pub collectedOf : Collected → List Entry → Collected
-collectedOf c es = record { entries = put (c .entries) (c .count) es; count = c .count + length es }
 
 -- entries after a part of a path
 unfoldable pub stored : Pathed → List Entry → Pathed

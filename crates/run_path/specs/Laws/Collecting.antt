@@ -12,11 +12,9 @@ use Rattle.plan.specs.declared.Node.{Node}
 use Rattle.times.specs.declared.Schedule.{Schedule}
 use Rattle.run_window.specs.Window.{vacant}
 use Rattle.run_window.specs.declared.Entry.{Entry}
-
-use Rattle.run_path.specs.declared.Brought.{Brought}
 use Rattle.run_path.specs.Path.{isWork, loaded, entriesFrom}
 use Rattle.run_path.specs.Pathed.{firsts}
-use Rattle.run_path.specs.Inner.Path.{put, Collected, collectedOf, broughtOf}
+use Rattle.run_path.specs.Inner.Path.{put}
 
 pub set-outside : {A : Type 0} (l : List A) (i : ℕ) (x : A) → length l ≤ i → set l i x ≡ l
 set-outside [] i x h = refl
@@ -25,41 +23,23 @@ set-outside (y ∷ l) (suc i) x h = ap (λ (m : List _). y ∷ m) (set-outside l
 
 -- ---- one node's turn
 
-abbrev pub collection : List Entry → ℕ → Collected
-collection l i = record { entries = l; count = i }
-
 abbrev pub rest : ℕ → ℕ → Schedule → List Node → ℕ → ℕ → List Entry
 rest position a s l size n = entriesFrom position a s n (part pastNode l n (size - n))
 
-pub rest-all : (position a : ℕ) (s : Schedule) (l : List Node) (size : ℕ) → entriesFrom position a s 0 (part pastNode l 0 size) ≡ rest position a s l size 0
-rest-all position a s l size = let z : size ≡ size - 0 = omega arith in ap (λ (k : ℕ). entriesFrom position a s 0 (part pastNode l 0 k)) z
+module _ (position a : ℕ) (s : Schedule) (l : List Node) (size : ℕ) where
+  pub rest-all : entriesFrom position a s 0 (part pastNode l 0 size) ≡ rest position a s l size 0
+  rest-all = let z : size ≡ size - 0 = omega arith in ap (λ (k : ℕ). entriesFrom position a s 0 (part pastNode l 0 k)) z
 
-one-more : (l : List Entry) (i : ℕ) (e : Entry) (es : List Entry) → collectedOf (collection l i) (e ∷ es) ≡ collectedOf (collection (set l i e) (i + 1)) es
-unfolding collectedOf put
-one-more l i e es =
-    let z : i + suc (length es) ≡ i + 1 + length es = omega arith in
-    ap (λ (k : ℕ). collection (put (set l i e) (i + 1) es) k) z
-
-module _ (position a : ℕ) (s : Schedule) (l : List Node) (size n : ℕ) (es : List Entry) (i : ℕ) (w : Collected) (h : n < size) (e : w ≡ collectedOf (collection es i) (rest position a s l size n)) where
-  rest-on : rest position a s l size n ≡ cond (isWork (getD l n pastNode .kind)) (loaded position a s n ∷ rest position a s l size (n + 1)) (rest position a s l size (n + 1))
+  -- the node has an entry, or has none
+  pub rest-by : (n : ℕ) → n < size → (b : Bool) → isWork (getD l n pastNode .kind) ≡ b → rest position a s l size n ≡ cond b (loaded position a s n ∷ rest position a s l size (n + 1)) (rest position a s l size (n + 1))
   unfolding entriesFrom
-  rest-on = ap (entriesFrom position a s n) (part-step pastNode l n size h)
+  rest-by n h b e =
+      ap (entriesFrom position a s n) (part-step pastNode l n size h)
+      ∙ ap (λ (x : Bool). cond x (loaded position a s n ∷ rest position a s l size (n + 1)) (rest position a s l size (n + 1))) e
 
-  pub turn-work : isWork (getD l n pastNode .kind) ≡ true → w ≡ collectedOf (collection (set es i (loaded position a s n)) (i + 1)) (rest position a s l size (n + 1))
-  turn-work b =
-      e
-      ∙ ap (collectedOf (collection es i)) (rest-on ∙ ap (λ (x : Bool). cond x (loaded position a s n ∷ rest position a s l size (n + 1)) (rest position a s l size (n + 1))) b)
-      ∙ one-more es i (loaded position a s n) (rest position a s l size (n + 1))
-
-  pub turn-none : isWork (getD l n pastNode .kind) ≡ false → w ≡ collectedOf (collection es i) (rest position a s l size (n + 1))
-  turn-none b = e ∙ ap (collectedOf (collection es i)) (rest-on ∙ ap (λ (x : Bool). cond x (loaded position a s n ∷ rest position a s l size (n + 1)) (rest position a s l size (n + 1))) b)
-
-pub turn-end : (position a : ℕ) (s : Schedule) (l : List Node) (size n : ℕ) (es : List Entry) (i : ℕ) → size ≤ n → collectedOf (collection es i) (rest position a s l size n) ≡ collection es i
-unfolding collectedOf put entriesFrom
-turn-end position a s l size n es i h =
-    let z : i + 0 ≡ i = omega arith in
-    ap (λ (xs : List Node). collectedOf (collection es i) (entriesFrom position a s n xs)) (part-end pastNode l n size h)
-    ∙ ap (collection es) z
+  pub rest-none : (n : ℕ) → size ≤ n → rest position a s l size n ≡ []
+  unfolding entriesFrom
+  rest-none n h = ap (entriesFrom position a s n) (part-end pastNode l n size h)
 
 -- ---- all of them
 
@@ -105,16 +85,6 @@ firsts-none (suc n) = ap (λ (m : List Entry). vacant ∷ m) (firsts-none n)
 -- put into vacant places, they are the first ones
 pub put-vacant : (n : ℕ) (es : List Entry) → put (replicate n vacant) 0 es ≡ firsts n es
 put-vacant n es = ap (λ (l : List Entry). put l 0 es) (firsts-none n) ∙ put-firsts n [] es
-
--- what `bring` hands over
-pub brought-all : (e : Entry) → e ≡ vacant → (es l : List Entry) (i : ℕ) → collectedOf (collection (replicate 64 e) 0) es ≡ collection l i → _≡_ {A = Brought} (record { entries = l; count = i }) (broughtOf es)
-unfolding collectedOf broughtOf
-brought-all e v es l i q =
-    let z : 0 + length es ≡ length es = omega arith in
-    ap (λ (c : Collected). record { entries = c .entries; count = c .count }) (sym q)
-    ∙ ap (λ (x : Entry). record { entries = put (replicate 64 x) 0 es; count = 0 + length es }) v
-    ∙ ap (λ (k : ℕ). record { entries = put (replicate 64 vacant) 0 es; count = k }) z
-    ∙ ap (λ (m : List Entry). record { entries = m; count = length es }) (put-vacant 64 es)
 
 -- as many of the first n as there are, are all of them
 pub take-firsts : (n : ℕ) (es : List Entry) → length es ≤ n → take (length es) (firsts n es) ≡ es

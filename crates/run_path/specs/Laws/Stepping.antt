@@ -26,7 +26,7 @@ use Rattle.run_window.specs.declared.Entry.{Entry}
 use Rattle.run_path.specs.declared.Pathed.{Pathed}
 use Rattle.run_path.specs.Path.{Path, activityNumber, takenBy, entriesBy, ends, after, pathFrom}
 use Rattle.run_path.specs.Pathed.{ProgressIn, Leads, pathed}
-use Rattle.run_path.specs.Inner.Path.{emittedOf, put, onto, stopped, step, takenOf}
+use Rattle.run_path.specs.Inner.Path.{emittedOf, nothingYet, put, onto, stopped, step, takenOf}
 use Rattle.run_path.specs.Laws.Collecting.{put-append, put-vacant, entries-few}
 use Rattle.run_path.specs.Laws.Emitting.{emitted-nodes, emitted-fits, step-fits}
 
@@ -133,14 +133,15 @@ pub record Walking (p : Plan) (q : Path) (left : ℕ) (next : Next) (f : Pathed)
   pub limits : ProgressIn p (f .progress)
   pub leads : Leads (p .automaton .count) next
 
-pub walking-starts : (p : Plan) (next : Next) (g : Progress) (e : Entry) → e ≡ vacant → Leads (p .automaton .count) next → ProgressIn p g → Walking p (pathFrom p 64 next g) 64 next (record { beyond = false; entries = replicate 512 e; count = 0; progress = g })
+pub walking-starts : (p : Plan) (next : Next) (g : Progress) → Leads (p .automaton .count) next → ProgressIn p g → Walking p (pathFrom p 64 next g) 64 next (nothingYet g)
 unfolding pathed onto
-walking-starts p next g e v l h = record {
+walking-starts p next g l h = record {
   few = omega arith;
   whole =
       let q = pathFrom p 64 next g in
-      ap (λ (es : List Entry). record { beyond = q .beyond; entries = es; count = length (q .entries); progress = q .progress }) (sym (ap (λ (x : Entry). put (replicate 512 x) 0 (q .entries)) v ∙ put-vacant 512 (q .entries)))
-      ∙ let z : length (q .entries) ≡ 0 + length (q .entries) = omega arith in ap (λ (k : ℕ). record { beyond = q .beyond; entries = put (replicate 512 e) 0 (q .entries); count = k; progress = q .progress }) z;
+      let z : length (q .entries) ≡ 0 + length (q .entries) = omega arith in
+      ap (λ (es : List Entry). record { beyond = q .beyond; entries = es; count = length (q .entries); progress = q .progress }) (sym (put-vacant 512 (q .entries)))
+      ∙ ap (λ (k : ℕ). record { beyond = q .beyond; entries = put (replicate 512 vacant) 0 (q .entries); count = k; progress = q .progress }) z;
   going = refl;
   count = omega arith;
   limits = h;

@@ -23,13 +23,13 @@ emitted-requires-2 : tie.Need-emitted-requires-2 Inv-loop μ-loop
 emitted-requires-2 c κs = (c .before .before .before .before .pre, c .if1 .taken)
 
 array-set-from-all : tie.Need-array-set-from-all Inv-loop μ-loop
-array-set-from-all c = let u = c .before .before .before .before .before .before .pre .activities in let l = c .before .before .before .before .loop in omega (arith, c .wide .ensures, c .before .before .if1 .taken)
+array-set-from-all c = let u = c .before .before .before .before .before .before .pre .activities in let l = c .before .before .before .before .loop in omega (arith, c .u8-to-usize .ensures, c .before .before .if1 .taken)
 
 loop-again : tie.Need-loop-again Inv-loop μ-loop
 loop-again c =
     let u = c .before .before .before .before .before .before .pre .activities in
     let l = c .before .before .before .before .loop in
-    (omega (arith, c .before .before .if1 .taken), copies-more _ _ (l .a) _ _ (omega (arith, c .before .before .if1 .taken)) (c .wide .ensures) (c .before .emitted2 .ensures) (l .inv .1))
+    (omega (arith, c .before .before .if1 .taken), copies-more _ _ (l .a) _ _ (omega (arith, c .before .before .if1 .taken)) (c .u8-to-usize .ensures) (c .before .emitted2 .ensures) (l .inv .1))
 
 returns : tie.Need-returns Inv-loop μ-loop
 returns c = let s = c .before .before .before .before in let l = c .before .before .loop in emits (s .args .plan) (s .pre) _ (l .a) (omega (arith, c .if1 .left)) (l .inv .1)

@@ -14,12 +14,12 @@ returns : tie.Need-returns
 returns c = simp (c .enum-told .given .1)
 
 element-copy-out-m : tie.Need-element-copy-out-m
-element-copy-out-m c = let u = subst Below (c .before .before .chosen .given .1) (c .before .before .before .before .pre) in omega (arith, c .long .ensures)
+element-copy-out-m c = let u = subst Below (c .before .before .chosen .given .1) (c .before .before .before .before .pre) in omega (arith, c .u16-to-usize .ensures)
 
 returns-2 : tie.Need-returns-2
 returns-2 c =
     let s = c .before .before .before .before .before .args in
-    ap (λ (i : ℕ). Step.Takes (move (s .t1) i) true) (c .before .long .ensures) ∙ ap (chosenStep (s .t1) (s .e)) (sym (c .before .before .before .chosen .given .1))
+    ap (λ (i : ℕ). Step.Takes (move (s .t1) i) true) (c .before .u16-to-usize .ensures) ∙ ap (chosenStep (s .t1) (s .e)) (sym (c .before .before .before .chosen .given .1))
 
 pub chosen-step-spec : {M : Type 1} → statement M
 chosen-step-spec =

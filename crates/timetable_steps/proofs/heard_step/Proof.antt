@@ -19,13 +19,13 @@ returns-2 c =
     let s = c .before .before .before .before .before .before .before .args in
     let h = c .before .before .before .before .before .heard .given in
     c .chosen-step .ensures ∙ ap (chosenStep (s .a) (s .e)) (c .before .chosen-of .ensures)
-    ∙ heard-had (s .a) (s .t2) (s .s) (s .e) (h .0 .0) (s .heard) (h .1) (subst (λ (k : ℕ). h .0 .0 < getD (s .t2) k 0) (c .before .before .before .wide .ensures) (c .before .before .if1 .taken))
+    ∙ heard-had (s .a) (s .t2) (s .s) (s .e) (h .0 .0) (s .heard) (h .1) (subst (λ (k : ℕ). h .0 .0 < getD (s .t2) k 0) (c .before .before .before .u8-to-usize .ensures) (c .before .before .if1 .taken))
 
 returns-3 : tie.Need-returns-3
 returns-3 c =
     let s = c .before .before .before .before .before .args in
     let h = c .before .before .before .heard .given in
-    heard-lacked (s .a) (s .t2) (s .s) (s .e) (h .0 .0) (s .heard) (h .1) (subst (λ (k : ℕ). getD (s .t2) k 0 ≤ h .0 .0) (c .before .wide .ensures) (c .if1 .left))
+    heard-lacked (s .a) (s .t2) (s .s) (s .e) (h .0 .0) (s .heard) (h .1) (subst (λ (k : ℕ). getD (s .t2) k 0 ≤ h .0 .0) (c .before .u8-to-usize .ensures) (c .if1 .left))
 
 pub heard-step-spec : {M : Type 1} → statement M
 heard-step-spec =

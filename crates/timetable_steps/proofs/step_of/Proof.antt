@@ -21,12 +21,12 @@ element-copy-out-m c =
     let s = c .before .before .before .before .before in
     let n = c .before .before .before .before .next-of in
     let u = goes-below (s .args .t1) (s .args .s) _ (sym (n .ensures) ∙ c .before .before .next .given .1) in
-    omega (arith, c .long .ensures, s .pre .few)
+    omega (arith, c .u16-to-usize .ensures, s .pre .few)
 
 returns-2 : tie.Need-returns-2
 returns-2 c =
     let s = c .before .before .before .before .before .before .args in
-    ap (λ (i : ℕ). Step.Takes (move (s .t1) i) false) (c .before .long .ensures) ∙ step-as (s .t1) (s .outcomes) (s .s) (s .heard) _ _ (c .before .before .before .before .before .next-of .ensures) (c .before .before .before .next .given .1)
+    ap (λ (i : ℕ). Step.Takes (move (s .t1) i) false) (c .before .u16-to-usize .ensures) ∙ step-as (s .t1) (s .outcomes) (s .s) (s .heard) _ _ (c .before .before .before .before .before .next-of .ensures) (c .before .before .before .next .given .1)
 
 heard-step-requires : tie.Need-heard-step-requires
 heard-step-requires c κs = let s = c .before .before .before .before in (s .pre .few, s .pre .awaited _ (sym (c .before .before .before .next-of .ensures) ∙ c .before .next2 .given .1))

@@ -15,7 +15,7 @@ abbrev μ-loop : tie.MeasureT-loop
 μ-loop automaton outcomes ways₀ most k₀ ways k = most - k
 
 loop-holds : tie.Need-loop-holds Inv-loop μ-loop
-loop-holds c = (omega arith, omega (arith, c .wide .ensures), record { long = refl; filled = λ j h. absurd (omega arith) })
+loop-holds c = (omega arith, omega (arith, c .u8-to-usize .ensures), record { long = refl; filled = λ j h. absurd (omega arith) })
 
 cast-step-of : tie.Need-cast-step-of Inv-loop μ-loop
 cast-step-of c = let u = c .before .before .before .before .before .before .pre .states .1 in let l = c .before .before .loop in omega arith

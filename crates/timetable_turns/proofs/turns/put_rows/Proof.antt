@@ -1,6 +1,6 @@
 -- `put_rows` meets its contract. The loop's invariant: what puts the rows that are left, puts all of them. Assumes nothing.
 use mathlib.Core.Path.{_≡_, sym, _∙_}
-use Prim.Native.Nat.{_-_, _≤_}
+use Prim.Native.Nat.{_-_, _≤_, _<_}
 use native.Mathlib.Omega.{arith}
 use borrow.Author.Needs.{needs}
 use lib.ListN.{length}
@@ -14,17 +14,23 @@ Inv-loop out₀ at position number times activity size next₀ n₀ out next n =
 abbrev μ-loop : tie.MeasureT-loop
 μ-loop out₀ at position number times activity size next₀ n₀ out next n = size - n
 
+-- the position and the number fit their types
+fit : (c : tie.Start Inv-loop μ-loop) → (c .args .position < 4294967296) × (c .args .number < 256)
+fit c = (omega arith, omega arith)
+
 loop-again : tie.Need-loop-again Inv-loop μ-loop
 loop-again c =
-    let a = c .before .before .before .before .before .before .before .before .before .before .before .before .before .args in
-    let l = c .before .before .before .before .before .before .before .before .before .before .loop in (
+    let a = c .before .before .before .before .before .before .before .before .before .before .before .before .before .before .args in
+    let f = fit (c .before .before .before .before .before .before .before .before .before .before .before .before .before .before) in
+    let l = c .before .before .before .before .before .before .before .before .before .before .before .loop in
+    let e = c .before .before .before .before .entry-of in (
       omega arith,
       l .inv .1,
       l .inv .2,
       l .inv .3,
       c .before .before .put-row .kept .0 ∙ l .inv .4,
-      putting-row (a .position) (a .number) (a .t5) (a .t6 .nodes) (a .t6 .count) _ (a .at) (l .out) (l .next) (l .n) (omega arith) (l .inv .5) _ _ (omega arith) (omega arith) (omega arith)
-          (sym (c .before .before .before .before .before .before .before .is-work .ensures) ∙ c .before .before .before .before .before .before .if1 .taken) (c .before .before .put-row .ensures),
+      putting-row (a .position) (a .number) (a .t5) (a .t6 .nodes) (a .t6 .count) _ (a .at) (l .out) (l .next) (l .n) (omega arith) (l .inv .5) _ _ (f .0) (f .1) (omega arith)
+          (sym (c .before .before .before .before .before .before .before .before .is-work .ensures) ∙ c .before .before .before .before .before .before .before .if1 .taken) (e .result) (e .ensures) (c .before .before .put-row .ensures),
     )
 
 loop-again-2 : tie.Need-loop-again-2 Inv-loop μ-loop
@@ -63,6 +69,7 @@ put-rows-spec =
     (λ c. search needs)
     (λ c. search needs)
     (λ c. search needs)
+    (λ c κs. search needs)
     (λ c κs. search needs)
     (λ c. search needs)
     loop-again
