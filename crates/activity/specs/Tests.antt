@@ -1,10 +1,11 @@
 -- Tests over numbers and over the kinds of nodes, and the word of the nodes before a node: the parts of `faultOf`.
 use mathlib.Core.List.{List, [], _∷_, map}
 use mathlib.Core.Bool.{Bool, true, false, cond}
-use Prim.Native.Nat.{ℕ, zero, suc, _+_, _/_, _%_, _^_}
+use Prim.Native.Nat.{ℕ, zero, suc, _+_, _^_}
 use lib.ListN.{length, getD}
 use lib.Dec.{eqb}
 use lib.Bits.{bitOr}
+use Rattle.wire.specs.Map as Map
 use Rattle.plan.specs.Plan.{predecessors}
 pub use Rattle.plan.specs.Plan.{isEvent}
 use Rattle.plan.specs.declared.Kind.{Kind}
@@ -71,7 +72,7 @@ ofEvent (Kind.Event e) f = f e
 
 -- bit m of a word
 abbrev pub bit : ℕ → ℕ → Bool
-bit w m = eqb (w / 2 ^ m % 2) 1
+bit w m = Map.bit m w
 
 -- the word that has the bits of these numbers
 unfoldable pub wordOf : List ℕ → ℕ

@@ -2,14 +2,13 @@
 use mathlib.Core.Path.{_≡_}
 use mathlib.Core.Bool.{Bool, true, cond}
 use Prim.Native.Nat.{ℕ, _+_, _-_, _≤_, _<_}
-use lib.Dec.{eqb}
 use Rattle.plan.specs.declared.Input.{Input}
 use Rattle.plan.specs.declared.Output.{Output}
 use Rattle.plan.specs.declared.Automaton.{Automaton}
 use Rattle.plan.specs.declared.Plan.{Plan}
 use Rattle.plan.specs.declared.Fault.{Fault}
 use Rattle.plan.specs.declared.Verdict.{Verdict}
-use Rattle.plan.specs.Plan.{move, isFinal, outcomesOf, emittedBy, eventsIn}
+use Rattle.plan.specs.Plan.{move, isFinal, outcomesOf, emittedBy, eventsIn, once}
 
 -- ---- states and transitions
 
@@ -67,8 +66,7 @@ one b = cond b 1 0
 
 -- how many of event e an input processes
 abbrev pub takes : Input → ℕ → ℕ
-takes Input.Nothing e = 0
-takes (Input.Outcome f o) e = one (eqb f e)
+takes x e = once e x
 
 -- how many of event e an output emits: the nodes of e in its activity
 abbrev pub emits : Plan → Output → ℕ → ℕ

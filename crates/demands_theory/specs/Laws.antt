@@ -6,7 +6,7 @@ pub mod Clock
 pub mod Invariant
 pub mod Keeping
 pub mod Growth
-pub mod Next
+pub mod Along
 pub mod World
 pub mod TheWord
 pub mod Longest

@@ -54,6 +54,11 @@ abbrev pub eventsIn : ℕ → List Node → ℕ
 eventsIn e [] = 0
 eventsIn e (n ∷ ns) = cond (isEvent e (n .kind)) 1 0 + eventsIn e ns
 
+-- how many instances of event e an input processes
+abbrev pub once : ℕ → Input → ℕ
+once e Input.Nothing = 0
+once e (Input.Outcome f o) = cond (eqb f e) 1 0
+
 -- the resource of a peripheral
 abbrev pub resourceOf : Plan → ℕ → ℕ
 resourceOf p x = getD (p .belongs) x 0

@@ -1,11 +1,10 @@
 -- Words of an automaton (Def. 6): the transitions taken, what they process and what they emit.
-use mathlib.Core.Bool.{cond}
 use mathlib.Core.List.{List}
 use Prim.Native.Nat.{ℕ, suc, _+_}
-use lib.Dec.{eqb}
 use Rattle.plan.specs.declared.Node.{Node}
 use Rattle.plan.specs.declared.Input.{Input}
 use Rattle.plan.specs.Plan.{eventsIn}
+pub use Rattle.plan.specs.Plan.{once}
 
 -- Def. 6, a pair (i, o): what a transition processes, with its outcome, and the nodes of the activity that it emits.
 -- "Without bit 0 nothing is processed; without bit 1 the activity is the empty one", which has no nodes.
@@ -30,10 +29,6 @@ size τ = 0
 size (w ▷ x) = suc (size w)
 
 -- Def. 8, |w|^e: "the number of times e is processed in w"
-abbrev pub once : ℕ → Input → ℕ
-once e Input.Nothing = 0
-once e (Input.Outcome f u) = cond (eqb f e) 1 0
-
 abbrev pub times : ℕ → Word → ℕ
 times e τ = 0
 times e (w ▷ x) = times e w + once e (x .input)

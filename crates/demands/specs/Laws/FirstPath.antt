@@ -21,7 +21,7 @@ use Rattle.run_path.specs.Path.{Path, pathFrom, longestPath}
 use Rattle.run_opening.specs.Given.{atFirst, availabilities}
 use Rattle.judge.specs.Judge.{judgeOf}
 use Rattle.demands_theory.specs.Loading.{FirstBeyond, FirstMany}
-use Rattle.demands_theory.specs.Laws.Next.{lawful}
+use Rattle.demands_theory.specs.Laws.Along.{lawful}
 use Rattle.demands_run.specs.Laws.Stands.{Accepted}
 use Rattle.demands_run.specs.Laws.Opening.{Judged, tells-first, tells-many}
 use Rattle.demands_run.specs.Laws.EngineHolds.{engine-laws}

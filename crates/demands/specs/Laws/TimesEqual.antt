@@ -16,7 +16,7 @@ use Rattle.times_equal.specs.Laws.Words.{Opening, traceBy}
 use Rattle.times_equal.specs.Plans.{scheduleAt}
 use Rattle.times_equal.specs.Laws.Plans.{AtMostEight, progressAt, plan-equal, plan-times, plan-free}
 use Rattle.demands_theory.specs.TheWord.{stateAfter}
-use Rattle.demands_theory.specs.Laws.Next.{lawful, few-pending}
+use Rattle.demands_theory.specs.Laws.Along.{lawful, few-pending}
 use Rattle.plan_file.specs.Laws.HoldsPlan.{plan-iff}
 use Rattle.demands.specs.Laws.AcceptedIff.{accepted-iff}
 use Rattle.demands.specs.Times.{opened, TimesEqual, StatementTimesEqual}

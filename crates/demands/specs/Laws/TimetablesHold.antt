@@ -20,7 +20,7 @@ use Rattle.judge.specs.Judge.{judgeOf}
 use Rattle.times_combined.specs.Word.{size}
 use Rattle.times_combined.specs.Paths.{wordOf, Lawful}
 use Rattle.times_equal.specs.Laws.Plans.{AtMostEight}
-use Rattle.demands_theory.specs.Laws.Next.{lawful, few-pending}
+use Rattle.demands_theory.specs.Laws.Along.{lawful, few-pending}
 use Rattle.timetable_lines.specs.Lines.{header, refused}
 use Rattle.timetable_turns.specs.Timetable.{positions, tableOf, judgedText, textOfPlan, timetableOf}
 use Rattle.demands_theory.specs.Laws.Longest.{within-none}

@@ -26,7 +26,7 @@ use Rattle.times_equal.specs.Laws.Seen.{Pending}
 use Rattle.demands_log.specs.Log.{Log}
 use Rattle.demands_theory.specs.TheWord.{stateAfter, wholeOf, Takes}
 use Rattle.demands_theory.specs.Laws.TheWord.{takes-follows}
-use Rattle.demands_theory.specs.Laws.Next.{few-pending}
+use Rattle.demands_theory.specs.Laws.Along.{few-pending}
 use Rattle.demands_run.specs.Laws.Engine.{rest, remaining, Possible}
 use Rattle.demands_run.specs.Laws.Stands.{identOf, Stands}
 

@@ -58,7 +58,7 @@ use Rattle.demands_log.specs.Log.{Id}
 use Rattle.demands_theory.specs.Laws.Works.{Opened}
 use Rattle.demands_theory.specs.Laws.OfPlan.{worldOf}
 use Rattle.demands_theory.specs.TheWord.{none, wholeOf}
-use Rattle.demands_theory.specs.Laws.Next.{lawful}
+use Rattle.demands_theory.specs.Laws.Along.{lawful}
 use Rattle.demands_theory.specs.Laws.Growth.{here, extends-self}
 use Rattle.demands_theory.specs.Laws.Longest.{silent-before, within-none}
 use Rattle.demands_theory.specs.Laws.Replies.{not-going}

@@ -1,23 +1,18 @@
 -- Along a path of the automaton an event is processed as often, and emitted as often, as in the word of the path.
-use mathlib.Core.Path.{_≡_, refl, ap, ap₂, subst}
+use mathlib.Core.Path.{_≡_, refl, ap, subst}
 use mathlib.Core.List.{List, [], _∷_}
 use Prim.Native.Nat.{ℕ, _+_, _≤_, _<_}
 use native.Mathlib.Omega.{arith}
 use Rattle.plan.specs.Plan.{move, activityOf, resourceOf}
 use Rattle.plan.specs.Limits.{FileRules}
-use Rattle.plan.specs.declared.Input.{Input}
 use Rattle.plan.specs.declared.Plan.{Plan}
 use Rattle.activity.specs.Rules.{Meets}
 use Rattle.automaton.specs.Rules.{Path, none, more, takes, emits, processed, emitted, EmittedFirst}
 use Rattle.automaton.specs.Rules as Rules
-use Rattle.times_combined.specs.Word.{once, times, emissions}
+use Rattle.times_combined.specs.Word.{times, emissions}
 use Rattle.times_combined.specs.Paths.{wordOf, Follows, OnlyEmitted, Lawful}
 
 -- ---- counting along a path
-
-takes-once : (x : Input) (e : ℕ) → takes x e ≡ once e x
-takes-once Input.Nothing e = refl
-takes-once (Input.Outcome f o) e = refl
 
 -- a path with what it processes and emits of e
 record Along (p : Plan) (s e : ℕ) (is : List ℕ) (q : ℕ) : Type 0 where
@@ -31,7 +26,7 @@ along p s e (i ∷ is) q h =
     let w = along p s e is (move (p .automaton) i .from) (h .0) in
     record {
       path = more (w .path) i (record { low = h .1 .0; from = refl }) (h .1 .1);
-      takes-same = ap₂ _+_ (w .takes-same) (takes-once (move (p .automaton) i .input) e);
+      takes-same = ap (λ (n : ℕ). n + takes (move (p .automaton) i .input) e) (w .takes-same);
       emits-same = ap (λ (n : ℕ). n + emits p (move (p .automaton) i .output) e) (w .emits-same);
     }
 
