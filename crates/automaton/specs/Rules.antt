@@ -1,6 +1,6 @@
 -- "What the automaton must satisfy", in the words and the order of document 01, and what each of the numbers 21 to 26 means.
 use mathlib.Core.Path.{_≡_}
-use mathlib.Core.Bool.{Bool, true, cond}
+use mathlib.Core.Bool.{true}
 use Prim.Native.Nat.{ℕ, _+_, _-_, _≤_, _<_}
 use Rattle.plan.specs.declared.Input.{Input}
 use Rattle.plan.specs.declared.Output.{Output}
@@ -60,9 +60,6 @@ abbrev pub EveryState : Automaton → (ℕ → Type 0) → Type 0
 EveryState a P = (s : ℕ) → s < a .states → P s
 
 -- ---- events along a path
-
-abbrev pub one : Bool → ℕ
-one b = cond b 1 0
 
 -- how many of event e an input processes
 abbrev pub takes : Input → ℕ → ℕ

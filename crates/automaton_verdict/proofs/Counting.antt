@@ -15,7 +15,7 @@ use Rattle.plan.specs.declared.Plan.{Plan}
 use Rattle.plan.specs.Plan.{pastNode, sizeOf, isEvent, eventsIn}
 use Rattle.plan.specs.Limits.{InLimits}
 use Rattle.automaton.specs.Tests.{at}
-use Rattle.automaton.specs.Rules.{one}
+use Rattle.automaton.specs.Inner.Counts.{one}
 use Rattle.automaton.specs.Laws.Bounds.{events-le}
 use Rattle.automaton_verdict.specs.Inner.Table.{eventNumber, Table}
 

@@ -1,6 +1,6 @@
 -- What the contracts behind `Laws/Counts` cite.
 use mathlib.Core.Path.{_≡_}
-use mathlib.Core.Bool.{Bool, true}
+use mathlib.Core.Bool.{Bool, true, cond}
 use mathlib.Core.List.{List}
 use Prim.Native.Nat.{ℕ, _+_, _*_, _≤_, _<_}
 use Rattle.basis.specs.Tests.{flag}
@@ -11,6 +11,9 @@ use Rattle.plan.specs.declared.Automaton.{Automaton}
 use Rattle.plan.specs.Plan.{move, isFinal}
 use Rattle.automaton.specs.Tests.{at}
 use Rattle.automaton.specs.Rules.{Path, takes, processed, emitted}
+
+abbrev pub one : Bool → ℕ
+one b = cond b 1 0
 
 -- ---- what the limits of a plan say of its automaton
 

@@ -1,6 +1,5 @@
 -- What the limits of a plan say of its automaton and of what its activities emit.
 use mathlib.Core.Path.{_≡_, refl, ap, subst}
-use mathlib.Core.Bool.{Bool, true, false}
 use mathlib.Core.List.{List}
 use Prim.Native.Nat.{ℕ, zero, suc, _+_, _*_, _≤_, _<_}
 use native.Mathlib.Omega.{arith}
@@ -14,9 +13,10 @@ use Rattle.plan.specs.declared.Output.{Output}
 use Rattle.plan.specs.declared.Plan.{Plan}
 use Rattle.plan.specs.Plan.{pastNode, sizeOf, isEvent, eventsIn, move}
 use Rattle.plan.specs.Limits.{KindNames, InputNames, OutputNames, InLimits, nodeAt}
-use Rattle.automaton.specs.Rules.{one, emits}
+use Rattle.automaton.specs.Rules.{emits}
+use Rattle.automaton.specs.Laws.Counts.{one-le}
 use Rattle.automaton.specs.Laws.Works.{Small}
-use Rattle.automaton.specs.Inner.Counts.{InputOk, OutputOk, InRange}
+use Rattle.automaton.specs.Inner.Counts.{one, InputOk, OutputOk, InRange}
 use Rattle.automaton.specs.Laws.Counts.{Bounded}
 
 input-ok : (p : Plan) → p .events ≤ 16 → (n : Input) → InputNames p n → InputOk n
@@ -36,10 +36,6 @@ in-range p h = record {
       let m = h .moves i l in
       record { from = m .from; to = m .to; input = input-ok p (h .events) (move (p .automaton) i .input) (m .input); output = output-ok p (h .activities) (move (p .automaton) i .output) (m .output) };
 }
-
-one-le : (b : Bool) → one b ≤ 1
-one-le true = omega arith
-one-le false = omega arith
 
 pub events-le : (e : ℕ) (d : Node) (l : List Node) (i k : ℕ) → eventsIn e (part d l i k) ≤ k
 events-le e d l i zero = omega arith

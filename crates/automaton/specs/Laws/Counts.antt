@@ -15,8 +15,8 @@ use Rattle.plan.specs.declared.Transition.{Transition}
 use Rattle.plan.specs.declared.Automaton.{Automaton}
 use Rattle.plan.specs.Plan.{move, isFinal}
 use Rattle.automaton.specs.Tests.{at}
-use Rattle.automaton.specs.Rules.{Leaves, Path, none, more, ToFinal, EveryState, one, takes, processed, emitted, Breaks25, unemitted, leftover, Breaks26}
-use Rattle.automaton.specs.Inner.Counts.{Ready, InputOk, InRange, Known, Keeps, Left, Crowd, Clash, Witness}
+use Rattle.automaton.specs.Rules.{Leaves, Path, none, more, ToFinal, EveryState, takes, processed, emitted, Breaks25, unemitted, leftover, Breaks26}
+use Rattle.automaton.specs.Inner.Counts.{one, Ready, InputOk, InRange, Known, Keeps, Left, Crowd, Clash, Witness}
 
 -- only the events 0 to 15 are emitted
 abbrev pub Bounded : Automaton → (Output → ℕ → ℕ) → Type 0
@@ -24,13 +24,13 @@ Bounded a gives = (i e : ℕ) → i < a .count → 16 ≤ e → gives (move a i 
 
 -- ---- what an input processes
 
+pub one-le : (b : Bool) → one b ≤ 1
+one-le true = omega arith
+one-le false = omega arith
+
 takes-le : (n : Input) (e : ℕ) → takes n e ≤ 1
 takes-le Input.Nothing e = omega arith
-takes-le (Input.Outcome f o) e = go (eqb f e)
-  where
-    go : (b : Bool) → one b ≤ 1
-    go true = omega arith
-    go false = omega arith
+takes-le (Input.Outcome f o) e = one-le (eqb f e)
 
 takes-event : (n : Input) (e : ℕ) → 0 < takes n e → (o : ℕ) × (n ≡ Input.Outcome e o)
 takes-event Input.Nothing e h = absurd (omega arith)

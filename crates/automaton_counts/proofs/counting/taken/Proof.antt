@@ -1,5 +1,6 @@
 -- `taken` answers by the case of the input.
-use Rattle.automaton.specs.Rules.{takes, one}
+use Rattle.automaton.specs.Rules.{takes}
+use Rattle.automaton.specs.Inner.Counts.{one}
 use Rattle.plan.specs.declared.Input.{Input}
 use borrow.Author.Tests.{eq-eqb, ne-eqb}
 use mathlib.Core.Path.{sym, ap, _∙_}
