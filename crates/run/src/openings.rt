@@ -24,7 +24,13 @@ ghost use Rattle.run.specs.Inner.Calls.{firstPath};
 // ---- the run at its opening
 
 // "0 at opening" is the last reading.
-fn uncalled(plan: Plan, psi: Clock, slack: u64, progress: Progress, window: [Entry; Run::WINDOW]) -> Run
+fn uncalled(
+    plan: Plan,
+    psi: Clock,
+    slack: u64,
+    progress: Progress,
+    window: [Entry; Run::WINDOW],
+) -> Run
     ensures { λ r. ⌜ r ≡ uncalled plan psi slack progress window ⌝ }
 {
     Run {
