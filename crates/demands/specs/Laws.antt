@@ -20,6 +20,9 @@ pub mod LoadingFails
 pub mod AfterCalls
 pub mod ByLogPlaces
 pub mod ByLogConditions
+-- Two runs of one plan
+pub mod NeverStopped
+pub mod SameWord
 pub mod AuthorNumbers
 pub mod DriveRecords
 pub mod NumbersHold
@@ -34,6 +37,7 @@ pub mod InLimitsKept
 pub mod OpeningsHold
 pub mod Repeated
 pub mod RowsHold
+pub mod StitchingHolds
 pub mod TimesEqual
 pub mod TimetablesHold
 pub mod Unchanged

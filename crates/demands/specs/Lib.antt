@@ -7,6 +7,8 @@ pub mod Alike
 pub mod Times
 -- Demand 3
 pub mod Demand3
+-- Request (i): two runs of one plan
+pub mod Stitching
 -- Demand 1, and the strength of the contracts
 pub mod Demand1
 -- Each answer of an opening, in its condition and in no other

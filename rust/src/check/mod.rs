@@ -6,4 +6,5 @@ pub mod demand_3;
 pub mod expected;
 pub mod host;
 pub mod log;
+pub mod stitching;
 pub mod told;

@@ -2,6 +2,9 @@
 //! matter; what it sends is then replayed on both builds.
 
 mod paced;
+mod settled;
+
+pub use settled::{settled_calls, Settled, SETTLED_HOSTS};
 
 use super::Random;
 use crate::plan_file::Kind;
@@ -26,6 +29,8 @@ pub enum Host {
     Backwards,
     /// Anything.
     Random,
+    /// Asks at the very start of each node and reports it at once. Not one of HOSTS.
+    Hasty,
 }
 
 pub const HOSTS: [Host; 8] = [
@@ -50,9 +55,15 @@ struct Driver<'a> {
     reply: Reply,
     /// Identity and outcome of the last accepted report.
     reported: Option<Request>,
+    /// The outcomes to report, where they are settled.
+    settled: Option<Settled>,
 }
 
-impl Driver<'_> {
+impl<'a> Driver<'a> {
+    fn of(random: &'a mut Random, opening: &'a Opening, run: Run) -> Driver<'a> {
+        Driver { random, run, opening, calls: vec![], reply: Reply::Wait, reported: None, settled: None }
+    }
+
     fn send(&mut self, reading: u64, request: Request) {
         let call = Call { reading, request };
         self.calls.push(call);
@@ -76,7 +87,11 @@ impl Driver<'_> {
         match plan.activities[time.activity as usize][node as usize].kind {
             Kind::Event(event) => {
                 let outcomes = plan.events[event as usize] as usize;
-                Request::Outcome { position, node, outcome: self.random.below(outcomes) as u8 }
+                let outcome = match self.settled {
+                    Some(settled) => settled.outcome(position, node, outcomes),
+                    None => self.random.below(outcomes) as u8,
+                };
+                Request::Outcome { position, node, outcome }
             }
             _ => Request::Completion { position, node },
         }
@@ -197,10 +212,28 @@ impl Driver<'_> {
         self.run.has_stopped() || self.reply == Reply::Done || self.reply == Reply::Refused(50)
     }
 
+    /// To the end, or until enough calls are sent. What comes after the end, or after a stop, is answered
+    /// too.
+    fn go(&mut self, host: Host, most: usize) {
+        if self.is_paced(host) {
+            self.walk(host, most);
+        }
+        while !self.is_over() && self.calls.len() < most {
+            self.step(host);
+        }
+        for _ in 0..self.random.below(4) {
+            let back = self.random.one_in(3) as u64;
+            let reading = self.run.last_reading().saturating_sub(back);
+            let request = if self.random.one_in(2) { Request::Ask } else { self.nonsense() };
+            self.send(reading, request);
+        }
+    }
+
     fn step(&mut self, host: Host) {
         match host {
             Host::Random => self.random_step(),
             Host::Exact => self.exact_step(),
+            Host::Hasty => self.hasty_step(),
             _ if self.random.one_in(8) => self.misbehave(host),
             _ => self.exact_step(),
         }
@@ -213,24 +246,13 @@ impl Driver<'_> {
 /// The calls of a host, about as many as asked for.
 pub fn calls(random: &mut Random, opening: &Opening, host: Host, most: usize) -> Vec<Call> {
     let (answer, run) = Run::open(opening);
-    let mut driver = Driver { random, run, opening, calls: vec![], reply: Reply::Wait, reported: None };
-    if answer.is_err() {
-        (0..2).for_each(|n| driver.send(n * 7, Request::Ask));
-        driver.send(9, Request::Completion { position: 0, node: 0 });
-        return driver.calls;
-    }
-    if driver.is_paced(host) {
-        driver.walk(host, most);
-    }
-    while !driver.is_over() && driver.calls.len() < most {
-        driver.step(host);
-    }
-    // What comes after the end, or after a stop, is answered too.
-    for _ in 0..driver.random.below(4) {
-        let back = driver.random.one_in(3) as u64;
-        let reading = driver.run.last_reading().saturating_sub(back);
-        let request = if driver.random.one_in(2) { Request::Ask } else { driver.nonsense() };
-        driver.send(reading, request);
+    let mut driver = Driver::of(random, opening, run);
+    match answer {
+        Ok(()) => driver.go(host, most),
+        Err(_) => {
+            (0..2).for_each(|n| driver.send(n * 7, Request::Ask));
+            driver.send(9, Request::Completion { position: 0, node: 0 });
+        }
     }
     driver.calls
 }

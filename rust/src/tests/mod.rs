@@ -10,6 +10,7 @@ mod host_side;
 mod made_up;
 mod mutations;
 mod runs;
+mod stitching;
 mod times;
 
 use crate::compare::hits::Hits;
@@ -37,6 +38,7 @@ pub const CHECKS: &[(&str, Check)] = &[
     ("times", times::times_agree),
     ("timetables", times::timetables_agree),
     ("call lists", runs::call_lists),
+    ("pairs of runs", stitching::pairs_of_runs),
 ];
 
 /// Judges the table of hits, unless the cases were chosen by hand.

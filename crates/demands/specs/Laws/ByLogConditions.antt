@@ -49,7 +49,7 @@ stopped-in (y ∷ log) s (inr q) = inr (stopped-in log s q)
 activity-same : {a b : ℕ} → Output.Activity a ≡ Output.Activity b → a ≡ b
 activity-same e = cc
 
-one-activity : (p : Plan) (is : List ℕ) (q a b : ℕ) → EmitsAt p is q a → EmitsAt p is q b → a ≡ b
+pub one-activity : (p : Plan) (is : List ℕ) (q a b : ℕ) → EmitsAt p is q a → EmitsAt p is q b → a ≡ b
 one-activity p (i ∷ is) q a b (here e o) (here f n) = activity-same (sym o ∙ n)
 one-activity p (i ∷ is) q a b (here e o) (earlier h) = absurd (let u = emits-below p is q b h in omega arith)
 one-activity p (i ∷ is) q a b (earlier g) (here f n) = absurd (let u = emits-below p is q a g in omega arith)

@@ -26,7 +26,7 @@ use Rattle.demands.specs.Laws.InLimitsKept.{limits-kept}
 called-out : (run : Run) (t : Clock) (go : Answer) → runInLimits run ≡ false → called run t go ≡ refuse run Refusal.OutOfLimits
 called-out run t go l = rw l
 
-out : (run : Run) (c : Call) → runInLimits run ≡ false → callOf run c ≡ refuse run Refusal.OutOfLimits
+pub out : (run : Run) (c : Call) → runInLimits run ≡ false → callOf run c ≡ refuse run Refusal.OutOfLimits
 unfolding callOf askOf completionOf outcomeOf
 out run (Call.Ask t) l = called-out run t _ l
 out run (Call.Completion t p n) l = called-out run t _ l

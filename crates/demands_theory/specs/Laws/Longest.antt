@@ -20,7 +20,7 @@ use Rattle.demands_theory.specs.Laws.Growth.{Tail, tail-next}
 use Rattle.demands_theory.specs.Laws.TheWord.{last, silent, step-same, tail-takes, tail-extends}
 
 -- of two beginnings of a word one goes on from the other
-tails : (us vs is : List ℕ) → Tail us is → Tail vs is → Tail us vs ⊎ ((t : ℕ) × Tail (t ∷ vs) us)
+pub tails : (us vs is : List ℕ) → Tail us is → Tail vs is → Tail us vs ⊎ ((t : ℕ) × Tail (t ∷ vs) us)
 tails us vs is Tail.here b = go (tail-next vs us b)
   where
     go : (vs ≡ us) ⊎ ((t : ℕ) × Tail (t ∷ vs) us) → Tail us vs ⊎ ((t : ℕ) × Tail (t ∷ vs) us)

@@ -20,7 +20,7 @@ impl Driver<'_> {
         let far = !availabilities.is_empty() && availabilities.iter().all(|&a| a > 1_000_000);
         !far && match host {
             Host::Careful => true,
-            Host::Exact => false,
+            Host::Exact | Host::Hasty => false,
             _ => self.random.one_in(2),
         }
     }
