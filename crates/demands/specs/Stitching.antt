@@ -100,5 +100,5 @@ StatementProcessed =
     → (os : List ℕ) × Processed (judgeOf bytes .plan) (logAfter bytes psi slack ts cs) os × ((us : List ℕ) → Processed (judgeOf bytes .plan) (logAfter bytes psi slack ts cs) us → us ≡ os)
 
 -- a started node has a start reading
-abbrev pub StatementStartedAt : Type 0
-StatementStartedAt = (log : Log) (x : Id) → Started log x ↔ ((t : ℕ) × StartedAt log x t)
+abbrev pub StatementStartReading : Type 0
+StatementStartReading = (log : Log) (x : Id) → Started log x ↔ ((t : ℕ) × StartedAt log x t)

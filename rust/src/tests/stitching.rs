@@ -173,7 +173,7 @@ const DAMAGES: &[(&str, fn(&mut Log, usize))] = &[
 #[test]
 fn a_damaged_pair_is_refused_for_what_is_not_the_same() {
     let mut refused = 0;
-    let cases = run_cases(settings::seed(), settings::cases(2_000), |random| {
+    let cases = run_cases(settings::seed(), settings::cases(1_000), |random| {
         let Some(read) = pair(random).map(|pair| read(&pair)).transpose()?.flatten() else { return Ok(()) };
         for (what, damage) in DAMAGES {
             let Some(log) = damaged(random, &read, *damage) else { continue };
@@ -186,5 +186,5 @@ fn a_damaged_pair_is_refused_for_what_is_not_the_same() {
     });
     cases.unwrap_or_else(|what| panic!("{what}"));
     println!("{refused} damaged pairs refused");
-    assert!(settings::is_by_hand() || cfg!(debug_assertions) || refused >= 1_000);
+    assert!(settings::is_by_hand() || cfg!(debug_assertions) || refused >= 500);
 }

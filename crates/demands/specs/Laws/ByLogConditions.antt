@@ -8,8 +8,6 @@ use native.Mathlib.Omega.{arith}
 use Rattle.time.specs.declared.Clock.{Clock}
 use Rattle.plan.specs.Plan.{isFinal}
 use Rattle.plan.specs.declared.Kind.{Kind}
-use Rattle.plan.specs.declared.Output.{Output}
-use Rattle.plan.specs.declared.Plan.{Plan}
 use Rattle.times_combined.specs.Combined.{Ident, Is}
 use Rattle.times_combined.specs.Paths.{Follows, Lawful}
 use Rattle.run_window.specs.Window.{isHeld, isFree, startsBefore}
@@ -24,10 +22,10 @@ use Rattle.run_checks.specs.declared.Refusal.{Refusal}
 use Rattle.run_loading.specs.declared.Failure.{Failure}
 use Rattle.run.specs.Calls.{readingOf, kindOf}
 use Rattle.demands_log.specs.Log.{Id, id, Log, reading, Stops, StoppedIn, StoppedBy, Started, FailedIn}
-use Rattle.demands_theory.specs.Nodes.{whose, EmitsAt, here, earlier}
+use Rattle.demands_theory.specs.Nodes.{whose, EmitsAt}
 use Rattle.demands_theory.specs.TheWord.{stateAfter, wholeOf}
 use Rattle.demands_theory.specs.Demand.{Demand3}
-use Rattle.demands_theory.specs.Laws.Nodes.{emits-below}
+use Rattle.demands_theory.specs.Laws.Nodes.{one-activity}
 use Rattle.demands.specs.Laws.AfterCalls.{going-stopped, reading-is}
 use Rattle.demands.specs.InLimits.{RunInLimits}
 use Rattle.demands.specs.Conditions.{entryAt, DueAt, FirstOf, IsReport, IsAction, RightKind, Condition, NamedAt, loadingAfter}
@@ -45,15 +43,6 @@ stopped-by (y ∷ log) (inr q) = let r = stopped-by log q in (r .0, inr (r .1))
 pub stopped-in : (log : Log) (s : Stop) → StoppedBy log s → StoppedIn log
 stopped-in (y ∷ log) s (inl q) = inl (subst Stops (sym q) tt)
 stopped-in (y ∷ log) s (inr q) = inr (stopped-in log s q)
-
-activity-same : {a b : ℕ} → Output.Activity a ≡ Output.Activity b → a ≡ b
-activity-same e = cc
-
-pub one-activity : (p : Plan) (is : List ℕ) (q a b : ℕ) → EmitsAt p is q a → EmitsAt p is q b → a ≡ b
-one-activity p (i ∷ is) q a b (here e o) (here f n) = activity-same (sym o ∙ n)
-one-activity p (i ∷ is) q a b (here e o) (earlier h) = absurd (let u = emits-below p is q b h in omega arith)
-one-activity p (i ∷ is) q a b (earlier g) (here f n) = absurd (let u = emits-below p is q a g in omega arith)
-one-activity p (i ∷ is) q a b (earlier g) (earlier h) = one-activity p is q a b g h
 
 free-phase : (s : Phase) → isFree s ≡ true → s ≡ Phase.Free
 free-phase Phase.Free e = refl

@@ -16,7 +16,7 @@ use Rattle.demands_log.specs.Log.{Log, Stops, StoppedIn, FailedIn}
 use Rattle.demands_log.specs.Drive.{Driven, drive}
 use Rattle.demands_theory.specs.Laws.Replies.{failed-by}
 use Rattle.demands.specs.Laws.Unchanged.{stop-kept, stops-stay}
-use Rattle.demands.specs.Laws.Repeated.{out}
+use Rattle.demands.specs.Laws.Repeated.{out-gets-50}
 use Rattle.demands.specs.Laws.ByLogConditions.{stopped-in}
 
 abbrev pub GoesOn : Reply → Type 0
@@ -43,7 +43,7 @@ stays run s c h = go (runInLimits run) refl
   where
     go : (b : Bool) → runInLimits run ≡ b → Stays run (callOf run c)
     go true l = subst (Stays run) (sym (stop-kept run s c l h)) (record { same = refl; ended = λ q. q })
-    go false l = subst (Stays run) (sym (out run c l)) (record { same = refl; ended = λ q. q })
+    go false l = subst (Stays run) (sym (out-gets-50 run c l)) (record { same = refl; ended = λ q. q })
 
 halts : (run : Run) (c : Call) (r : Reply) → callOf run c .reply ≡ r → Stops r → (s : Stop) × (callOf run c .run .halt ≡ Halt.Stopped s)
 halts run c (Reply.Stopped s) e q = (s, stops-stay run s c e)
@@ -53,11 +53,11 @@ stops-ended (Reply.Stopped s) q g = g
 
 -- ---- a list
 
-record Lasting (d : Driven) : Type 0 where
+record StopLasts (d : Driven) : Type 0 where
   halted : StoppedIn (d .log) → (s : Stop) × (d .run .halt ≡ Halt.Stopped s)
   ended : EndsGoing (d .log) → StoppedIn (d .log) → ⊥
 
-lasting : (cs : List Call) (log : Log) (run : Run) → Lasting (record { log = log; run = run }) → Lasting (drive log run cs)
+lasting : (cs : List Call) (log : Log) (run : Run) → StopLasts (record { log = log; run = run }) → StopLasts (drive log run cs)
 lasting [] log run h = h
 lasting (c ∷ cs) log run h = lasting cs _ _ (record {
   halted = ⊎-elim (λ q. halts run c (callOf run c .reply) refl q) (λ q. let s = h .halted q in (s .0, ap (λ (r : Run). r .halt) (stays run (s .0) c (s .1) .same) ∙ s .1));

@@ -26,18 +26,18 @@ use Rattle.demands.specs.Laws.InLimitsKept.{limits-kept}
 called-out : (run : Run) (t : Clock) (go : Answer) → runInLimits run ≡ false → called run t go ≡ refuse run Refusal.OutOfLimits
 called-out run t go l = rw l
 
-pub out : (run : Run) (c : Call) → runInLimits run ≡ false → callOf run c ≡ refuse run Refusal.OutOfLimits
+pub out-gets-50 : (run : Run) (c : Call) → runInLimits run ≡ false → callOf run c ≡ refuse run Refusal.OutOfLimits
 unfolding callOf askOf completionOf outcomeOf
-out run (Call.Ask t) l = called-out run t _ l
-out run (Call.Completion t p n) l = called-out run t _ l
-out run (Call.Outcome t p n o) l = called-out run t _ l
+out-gets-50 run (Call.Ask t) l = called-out run t _ l
+out-gets-50 run (Call.Completion t p n) l = called-out run t _ l
+out-gets-50 run (Call.Outcome t p n o) l = called-out run t _ l
 
 refused-stopped : {A : Type 0} {f : Refusal} {s : Stop} → Reply.Refused f ≡ Reply.Stopped s → A
 refused-stopped e = absurd (let z : _≡_ {A = ℕ} 0 1 = cc in omega arith)
 
 stopped-in : (run : Run) (c : Call) (s : Stop) → callOf run c .reply ≡ Reply.Stopped s → (b : Bool) → runInLimits run ≡ b → runInLimits run ≡ true
 stopped-in run c s e true q = q
-stopped-in run c s e false q = refused-stopped (sym (ap (λ (a : Answer). a .reply) (out run c q)) ∙ e)
+stopped-in run c s e false q = refused-stopped (sym (ap (λ (a : Answer). a .reply) (out-gets-50 run c q)) ∙ e)
 
 -- a run that answers every call alike, and stays
 steady : (run : Run) (r : Reply) → ((c : Call) → callOf run c ≡ answer r run) → (log : Log) (cs : List Call) → drive log run cs ≡ record { log = answered r cs log; run = run }

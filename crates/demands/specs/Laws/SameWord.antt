@@ -5,7 +5,6 @@ use mathlib.Core.Bool.{true}
 use mathlib.Core.List.{List, [], _∷_}
 use mathlib.Core.Logic.{_⊎_, inl, inr}
 use Prim.Native.Nat.{ℕ}
-use native.Mathlib.Omega.{arith}
 use native.Mathlib.Decide.{ℕ-discrete}
 use Rattle.plan.specs.Plan.{move, isFinal}
 use Rattle.plan.specs.Limits.{InLimits}
@@ -13,26 +12,8 @@ use Rattle.plan.specs.declared.Input.{Input}
 use Rattle.plan.specs.declared.Plan.{Plan}
 use Rattle.automaton.specs.Rules.{Leaves, MeetsAutomaton}
 use Rattle.times_combined.specs.Paths.{Follows}
-use Rattle.demands_theory.specs.Nodes.{lengthOf}
-use Rattle.demands_theory.specs.Laws.Growth.{Tail, here, later, tail-empty, tail-next}
-use Rattle.demands_theory.specs.Laws.Longest.{tails}
-use Rattle.demands_run.specs.Laws.Loaded.{tail-length}
-use Rattle.demands_run.specs.Laws.Paths.{tail-on}
+use Rattle.demands_theory.specs.Laws.Growth.{Tail, here, later, tail-empty, tail-next, tail-on, one-next}
 use Rattle.demands.specs.Stitching.{processedBy, processedIn}
-
--- ---- beginnings of one list
-
-same-head : (x y : ℕ) (xs ys : List ℕ) → lengthOf xs ≡ lengthOf ys → Tail (x ∷ xs) (y ∷ ys) → x ≡ y
-same-head x y xs ys l here = refl
-same-head x y xs ys l (later b) = absurd (let u = tail-length (x ∷ xs) ys b in omega arith)
-
--- what follows a beginning is one
-one-next : (x y : ℕ) (xs zs : List ℕ) → Tail (x ∷ xs) zs → Tail (y ∷ xs) zs → x ≡ y
-one-next x y xs zs a b = go (tails (x ∷ xs) (y ∷ xs) zs a b)
-  where
-    go : Tail (x ∷ xs) (y ∷ xs) ⊎ ((t : ℕ) × Tail (t ∷ y ∷ xs) (x ∷ xs)) → x ≡ y
-    go (inl h) = same-head x y xs xs refl h
-    go (inr (t, h)) = absurd (let u = tail-length (t ∷ y ∷ xs) (x ∷ xs) h in omega arith)
 
 -- ---- what one transition processes
 
@@ -76,9 +57,9 @@ module _ (p : Plan) (limits : InLimits p) (m : MeetsAutomaton p) where
           let two : Tail (c .other ∷ os) (processedIn p us) = subst (λ (i : Input). Tail (processedBy i os) (processedIn p us)) (c .second) k in
           c .differ (one-next (c .one) (c .other) os (processedIn p us) one two)
 
-  -- a word that goes on by t is not at its end: final states have no way out
-  goes-on : (is : List ℕ) (q r t : ℕ) → From is r → From (t ∷ is) q → isFinal (p .automaton) r ≡ true → ⊥
-  goes-on is q r t g f final = m .ends r (limits .finals r final) final t (record { low = f .1 .0; from = one-end is (move (p .automaton) t .from) r (f .0) g })
+  -- a word that ends in a final state does not go on: it has no way out
+  no-way-on : (is : List ℕ) (q r t : ℕ) → From is r → From (t ∷ is) q → isFinal (p .automaton) r ≡ true → ⊥
+  no-way-on is q r t g f final = m .ends r (limits .finals r final) final t (record { low = f .1 .0; from = one-end is (move (p .automaton) t .from) r (f .0) g })
 
   -- ---- beginnings of a word
 
@@ -97,7 +78,7 @@ module _ (p : Plan) (limits : InLimits p) (m : MeetsAutomaton p) where
       go (tail-next is us (beginning is us (move (p .automaton) t .from) r (f .0) g final (processed-drop (move (p .automaton) t .input) (processedIn p is) (processedIn p us) h)))
     where
       go : (is ≡ us) ⊎ ((u : ℕ) × Tail (u ∷ is) us) → Tail (t ∷ is) us
-      go (inl e) = absurd (goes-on is q r t (subst (λ (l : List ℕ). From l r) (sym e) g) f final)
+      go (inl e) = absurd (no-way-on is q r t (subst (λ (l : List ℕ). From l r) (sym e) g) f final)
       go (inr (u, b)) =
           let w = tail-follows (u ∷ is) us r b g in
           let same : t ≡ u = one-way is us q (w .0) t u f (w .1) h (processed-tail (u ∷ is) us b) in
@@ -108,4 +89,4 @@ module _ (p : Plan) (limits : InLimits p) (m : MeetsAutomaton p) where
     where
       go : (is ≡ us) ⊎ ((u : ℕ) × Tail (u ∷ is) us) → is ≡ us
       go (inl z) = z
-      go (inr (u, b)) = let w = tail-follows (u ∷ is) us r b g in absurd (goes-on is (w .0) q u f (w .1) final)
+      go (inr (u, b)) = let w = tail-follows (u ∷ is) us r b g in absurd (no-way-on is (w .0) q u f (w .1) final)

@@ -28,16 +28,16 @@ use Rattle.demands_log.specs.Drive.{Driven}
 use Rattle.demands_theory.specs.Nodes.{whose, Work, EmitsAt}
 use Rattle.demands_theory.specs.TheWord.{stateAfter, wholeOf, TheWord}
 use Rattle.demands_theory.specs.Demand.{Ends}
+use Rattle.demands_theory.specs.Laws.Nodes.{one-activity}
 use Rattle.demands_theory.specs.Laws.TheWord.{takes-follows}
 use Rattle.demands.specs.Accepted.{Bytes}
 use Rattle.demands.specs.Verdicts.{Judged}
 use Rattle.demands.specs.Openings.{OpensBy}
 use Rattle.demands.specs.Demand3.{Demand3, drivenBy}
-use Rattle.demands.specs.Stitching.{processedIn, EndsInDone, StartedAt, NamedWith, SameStitching, logAfter, StatementSame, StatementSameOutcomes, StatementProcessed, StatementStartedAt}
+use Rattle.demands.specs.Stitching.{processedIn, EndsInDone, StartedAt, NamedWith, SameStitching, logAfter, StatementSame, StatementSameOutcomes, StatementProcessed, StatementStartReading}
 use Rattle.demands.specs.Laws.VerdictsHold.{verdict, handed-on}
 use Rattle.demands.specs.Laws.OpeningsHold.{opening-by}
 use Rattle.demands.specs.Laws.Demand3Holds.{demand-3}
-use Rattle.demands.specs.Laws.ByLogConditions.{one-activity}
 use Rattle.demands.specs.Laws.NeverStopped.{GoesOn, EndsGoing, unfailed}
 use Rattle.demands.specs.Laws.SameWord.{same-word}
 
@@ -55,8 +55,8 @@ at-started : (P : Id → ℕ → Type 0) (log : Log) → Always (λ y older. (x 
 at-started P (y ∷ log) h x t (inl q) = subst (P x) (q .1) (h .0 x (q .0))
 at-started P (y ∷ log) h x t (inr q) = at-started P log (h .1) x t q
 
-pub started-at : StatementStartedAt
-started-at log x = (there log, λ q. back log (q .0) (q .1))
+pub start-reading : StatementStartReading
+start-reading log x = (there log, λ q. back log (q .0) (q .1))
   where
     there : (l : Log) → Started l x → (t : ℕ) × StartedAt l x t
     there (y ∷ l) (inl q) = (reading (y .call), inl (q, refl))
@@ -85,8 +85,8 @@ at-end p is (y ∷ older) f e = e .final f
 all-started : (p : Plan) (is : List ℕ) (log : Log) → EndsInDone log → Ends p is log → Always (λ y older. (x : Id) → Reports (y .call) (y .reply) older x → Started older x) log → (x : Id) → Work (wholeOf p is) x → Started log x
 all-started p is (y ∷ older) f e h x n = inr (reported-started older (h .1) x (e .all f x n))
 
-goes-on : (log : Log) → EndsInDone log → EndsGoing log
-goes-on (y ∷ older) f = go (y .reply) f
+done-goes-on : (log : Log) → EndsInDone log → EndsGoing log
+done-goes-on (y ∷ older) f = go (y .reply) f
   where
     go : (r : Reply) → Finishes r → GoesOn r
     go Reply.Done f = tt
@@ -103,7 +103,7 @@ module _ (bytes : List ℕ) (are : Bytes bytes) (psi : Clock) (slack : ℕ) (ts 
     claim = demand-3 bytes are psi slack ts opened cs .claim is w S C times
 
     ends : Ends plan is (driven .log)
-    ends = claim .done (unfailed (openOf bytes psi slack ts .run) cs (goes-on (driven .log) f))
+    ends = claim .done (unfailed (openOf bytes psi slack ts .run) cs (done-goes-on (driven .log) f))
 
     whole : Whole plan (psi .0) slack is S (driven .log)
     whole = record {
@@ -150,9 +150,11 @@ pub same-stitching : StatementSame
 same-stitching bytes are psi chi slack ts cs ds opened begun f g is us w v e =
     let p = judgeOf bytes .plan in
     let r = rules bytes are psi slack ts opened in
-    let same : is ≡ us =
-    same-word p (r .0) (r .1) is us (stateAfter p is) (stateAfter p us) (path bytes are psi slack ts opened cs f is w) (path bytes are chi slack ts begun ds g us v)
-    (final bytes are psi slack ts opened cs f is w) (final bytes are chi slack ts begun ds g us v) e in
+    let one = path bytes are psi slack ts opened cs f is w in
+    let other = path bytes are chi slack ts begun ds g us v in
+    let ended = final bytes are psi slack ts opened cs f is w in
+    let ends = final bytes are chi slack ts begun ds g us v in
+    let same : is ≡ us = same-word p (r .0) (r .1) is us (stateAfter p is) (stateAfter p us) one other ended ends e in
     let T = demand-3 bytes are psi slack ts opened cs .times is w in
     both p (psi .0) (chi .0) slack is (T .0) (logAfter bytes psi slack ts cs) (logAfter bytes chi slack ts ds)
     (whole bytes are psi slack ts opened cs f is w (T .0) (T .1) (T .2))

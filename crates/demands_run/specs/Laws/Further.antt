@@ -39,12 +39,12 @@ use Rattle.demands_theory.specs.Laws.Machine.{Held}
 use Rattle.demands_theory.specs.Nodes.{Work, lengthOf, idOf}
 use Rattle.demands_theory.specs.TheWord.{wholeOf}
 use Rattle.demands_theory.specs.Loading.{NextPath, PathBeyond, Unreported, EndsAt, whole, beyond, full, Loads, ends}
-use Rattle.demands_theory.specs.Laws.Growth.{Tail}
+use Rattle.demands_theory.specs.Laws.Growth.{Tail, tail-on, tail-length}
 use Rattle.demands_run.specs.Laws.Engine.{rest, remaining, Settles, EngineLaws}
 use Rattle.demands_run.specs.Laws.Stands.{Stands}
 use Rattle.demands_run.specs.Laws.Silent.{one-rest}
-use Rattle.demands_run.specs.Laws.Loaded.{Loaded, tail-length}
-use Rattle.demands_run.specs.Laws.Paths.{tolds, Rests, tail-on, Arrives, first-of, path-on}
+use Rattle.demands_run.specs.Laws.Loaded.{Loaded}
+use Rattle.demands_run.specs.Laws.Paths.{tolds, Rests, Arrives, first-of, path-on}
 use Rattle.demands_run.specs.Laws.PathLimits.{tells-path}
 use Rattle.demands_run.specs.Laws.PathLimits as PathLimits
 use Rattle.demands_run.specs.Laws.PathNodes.{low, Passes, passes}

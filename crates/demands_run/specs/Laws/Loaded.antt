@@ -48,7 +48,7 @@ use Rattle.demands_theory.specs.Laws.OfPlan.{worldOf}
 use Rattle.demands_theory.specs.Laws.Nodes.{not-claim}
 use Rattle.demands_theory.specs.Laws.TheWord.{takes-follows}
 use Rattle.demands_theory.specs.Laws.World.{extends, old-position}
-use Rattle.demands_theory.specs.Laws.Growth.{Tail, later, extends-on}
+use Rattle.demands_theory.specs.Laws.Growth.{Tail, later, tail-length, extends-on}
 use Rattle.demands_run.specs.Laws.Engine.{Advances, Possible, EngineLaws}
 use Rattle.demands_run.specs.Laws.Stands.{Stands}
 use Rattle.demands_run.specs.Laws.Bounds.{EntryWithin, entry-passes}
@@ -81,10 +81,6 @@ unfolding timedOf emitsOf closedOf heldOf
 not-beyond p t g b =
     let u = beyond-parts _ _ _ _ b in
     (subst (λ (n : ℕ). n ≤ lastPosition) (left-position _ _ _ _ ∙ processed-position (move (p .automaton) t .input) g) (u .0), u .1)
-
-pub tail-length : (is us : List ℕ) → Tail is us → lengthOf is ≤ lengthOf us
-tail-length is us Tail.here = omega arith
-tail-length is us (later {us = vs} b) = let u = tail-length is vs b in omega arith
 
 agrees-later : (W : World) (v u : W .Word) (e : Entry) → Extends W v u → Agrees W v e → Agrees W u e
 agrees-later W v u e x a = record {

@@ -29,7 +29,7 @@ use Rattle.demands_theory.specs.TheWord.{nextAfter, Takes, goes}
 use Rattle.demands_theory.specs.Loading.{Silently, stays}
 use Rattle.demands_run.specs.Laws.Silent.{silent-first}
 pub use Rattle.demands_theory.specs.TheWord.{Rests}
-use Rattle.demands_theory.specs.Laws.Growth.{Tail, here, later}
+use Rattle.demands_theory.specs.Laws.Growth.{Tail, here, later, tail-on}
 use Rattle.demands_run.specs.Laws.Engine.{remaining, Settles, EngineLaws}
 use Rattle.demands_run.specs.Laws.Stands.{next-after}
 use Rattle.demands_run.specs.Laws.Counts.{possible}
@@ -53,10 +53,6 @@ tolds-append (x ∷ q) r = let u = tolds-append q r in omega arith
 pub tolds-new : (position : ℕ) (C : ℕ → ℕ) (ns : List ℕ) → tolds (map (λ n. emission position n (C n)) ns) ≡ 0
 tolds-new position C [] = refl
 tolds-new position C (n ∷ ns) = let u = tolds-new position C ns in omega arith
-
-pub tail-on : (is us vs : List ℕ) → Tail is us → Tail us vs → Tail is vs
-tail-on is us vs a here = a
-tail-on is us vs a (later b) = later (tail-on is us _ a b)
 
 module _ (p : Plan) (lawful : Lawful p) (automaton : MeetsAutomaton p) (available : ℕ → ℕ) (log : Log) (base : List ℕ) (v : List Entry) (laws : EngineLaws) where
   abbrev In : List ℕ → Progress → List Entry → Type 0

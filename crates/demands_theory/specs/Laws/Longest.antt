@@ -16,18 +16,8 @@ use Rattle.demands_log.specs.Log.{Id, Log, said, Told, FailedIn, StoppedBy}
 use Rattle.demands_theory.specs.TheWord.{nextAfter, Rests, Takes, Stuck}
 use Rattle.demands_theory.specs.Loading.{Exceeds, Beyond, Within, Silently, stays, goes-on, Onward, NextPath, PathBeyond, PathFull, EndsAt, whole, beyond, full, Loads, ends, later, Fits}
 use Rattle.demands_theory.specs.Laws.Replies.{not-going, failed-by}
-use Rattle.demands_theory.specs.Laws.Growth.{Tail, tail-next}
+use Rattle.demands_theory.specs.Laws.Growth.{Tail, tail-next, tails}
 use Rattle.demands_theory.specs.Laws.TheWord.{last, silent, step-same, tail-takes, tail-extends}
-
--- of two beginnings of a word one goes on from the other
-pub tails : (us vs is : List ℕ) → Tail us is → Tail vs is → Tail us vs ⊎ ((t : ℕ) × Tail (t ∷ vs) us)
-tails us vs is Tail.here b = go (tail-next vs us b)
-  where
-    go : (vs ≡ us) ⊎ ((t : ℕ) × Tail (t ∷ vs) us) → Tail us vs ⊎ ((t : ℕ) × Tail (t ∷ vs) us)
-    go (inl e) = inl (subst (Tail us) (sym e) Tail.here)
-    go (inr n) = inr n
-tails us vs is (Tail.later a) Tail.here = inl (Tail.later a)
-tails us vs is (Tail.later {us = ws} a) (Tail.later b) = tails us vs ws a b
 
 -- ---- no longer beginning fits
 
