@@ -2,13 +2,31 @@
 //! builds of the run are driven.
 //!
 //! Input: plan length (2 bytes), plan, Ψ (8), slack (8), availability count (1), availabilities
-//! (8 each), then calls: kind (1), reading (8), for reports position (4) and node (1), for an
-//! outcome the outcome (1). Output: 16 bytes for the opening and for each call.
+//! (8 each), then parts, each with its kind (1) first. Kinds 0 to 2 are calls: reading (8), for
+//! reports position (4) and node (1), for an outcome the outcome (1). Kind 3 asks where a node
+//! stands: position (4) and node (1), no reading; it changes nothing. Output: 16 bytes for the
+//! opening and for each part.
 
 use crate::run::{Call, Opening, Reply, Request, Run};
 use crate::Fault;
 
 pub const RECORD: usize = 16;
+
+/// What follows the opening: a call, or the question for a node's place in the window.
+#[derive(Clone, Copy, Debug, PartialEq, Eq)]
+pub enum Part {
+    Call(Call),
+    Place { position: u32, node: u8 },
+}
+
+/// The calls among parts, in order.
+pub fn calls_among(parts: &[Part]) -> Vec<Call> {
+    let call = |part: &Part| match *part {
+        Part::Call(call) => Some(call),
+        Part::Place { .. } => None,
+    };
+    parts.iter().filter_map(call).collect()
+}
 
 struct Input<'a> {
     bytes: &'a [u8],
@@ -36,9 +54,12 @@ impl<'a> Input<'a> {
         Some(Opening { plan, psi, slack, availabilities })
     }
 
-    /// A kind above 2 is no call; the list ends there.
-    fn call(&mut self) -> Option<Call> {
+    /// A kind above 3 is no part; the list ends there.
+    fn part(&mut self) -> Option<Part> {
         let kind = self.number(1)?;
+        if kind == 3 {
+            return Some(Part::Place { position: self.number(4)? as u32, node: self.number(1)? as u8 });
+        }
         let reading = self.number(8)?;
         let request = match kind {
             0 => Request::Ask,
@@ -50,27 +71,41 @@ impl<'a> Input<'a> {
             },
             _ => return None,
         };
-        Some(Call { reading, request })
+        Some(Part::Call(Call { reading, request }))
     }
 }
 
-/// The opening and the calls that an input holds.
-pub fn decode(input: &[u8]) -> Option<(Opening, Vec<Call>)> {
+/// The opening and the parts that an input holds.
+pub fn decode(input: &[u8]) -> Option<(Opening, Vec<Part>)> {
     let mut input = Input { bytes: input };
     let opening = input.opening()?;
-    let calls = std::iter::from_fn(|| input.call()).collect();
-    Some((opening, calls))
+    let parts = std::iter::from_fn(|| input.part()).collect();
+    Some((opening, parts))
 }
 
-pub fn encode(opening: &Opening, calls: &[Call]) -> Vec<u8> {
+pub fn encode(opening: &Opening, parts: &[Part]) -> Vec<u8> {
     let mut out = (opening.plan.len() as u16).to_le_bytes().to_vec();
     out.extend(&opening.plan);
     out.extend(opening.psi.to_le_bytes());
     out.extend(opening.slack.to_le_bytes());
     out.push(opening.availabilities.len() as u8);
     opening.availabilities.iter().for_each(|a| out.extend(a.to_le_bytes()));
-    calls.iter().for_each(|call| encode_call(call, &mut out));
+    for part in parts {
+        match part {
+            Part::Call(call) => encode_call(call, &mut out),
+            Part::Place { position, node } => {
+                out.push(3);
+                out.extend(position.to_le_bytes());
+                out.push(*node);
+            }
+        }
+    }
     out
+}
+
+/// An opening and calls alone.
+pub fn encode_calls(opening: &Opening, calls: &[Call]) -> Vec<u8> {
+    encode(opening, &calls.iter().map(|&call| Part::Call(call)).collect::<Vec<_>>())
 }
 
 fn encode_call(call: &Call, out: &mut Vec<u8>) {
@@ -116,22 +151,32 @@ pub fn reply_record(reply: Reply) -> [u8; RECORD] {
     }
 }
 
+/// The place of a node, or 512 where the window holds no such node.
+pub fn place_record(place: usize) -> [u8; RECORD] {
+    record(7, 0, 0, 0, place as u64)
+}
+
 /// What a short buffer gets: number 36, place 0.
 pub const TOO_SHORT: usize = 36 << 32;
 
-/// Runs an input and writes its records, one for the opening and one for each call up to where
+/// Runs an input and writes its records, one for the opening and one for each part up to where
 /// the input ends or ends inside a part: how many bytes it wrote. A buffer that does not hold all
 /// of them stays as it was.
 pub fn drive(input: &[u8], out: &mut [u8]) -> usize {
-    let Some((opening, calls)) = decode(input) else { return 0 };
-    let size = (calls.len() + 1) * RECORD;
+    let Some((opening, parts)) = decode(input) else { return 0 };
+    let size = (parts.len() + 1) * RECORD;
     let Some(room) = out.get_mut(..size) else { return TOO_SHORT };
     let (answer, mut run) = Run::open(&opening);
     let mut records = vec![opening_record(answer)];
-    for call in calls {
-        let (reply, next) = run.call(call);
-        run = next;
-        records.push(reply_record(reply));
+    for part in parts {
+        records.push(match part {
+            Part::Call(call) => {
+                let (reply, next) = run.call(call);
+                run = next;
+                reply_record(reply)
+            }
+            Part::Place { position, node } => place_record(run.place_of(position, node)),
+        });
     }
     room.copy_from_slice(records.as_flattened());
     size

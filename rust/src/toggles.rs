@@ -54,6 +54,8 @@ toggles! {
     FailingPathCounts: "a failing path moves the state",
     FailedReportForgotten: "a report whose loading fails does not count",
     KindBeforeStarted: "54 is looked for before 53",
+    HighestPlaces: "the nodes of a path take the highest free places",
+    WindowClosesUp: "nodes move up when one before them is reported",
     BareEntryIs50: "a made-up entry that names a claim or a release gives 50",
     EndlessOneLonger: "a made-up path that never waits is ended one transition later",
     NinthKept: "a made-up plan's ninth pending instance is kept",

@@ -18,7 +18,7 @@ fn buffer(length: usize) -> Vec<u8> {
 
 /// The bytes of the records that answer an input.
 fn length_of(input: &[u8]) -> usize {
-    decode(input).map_or(0, |(_, calls)| (calls.len() + 1) * RECORD)
+    decode(input).map_or(0, |(_, parts)| (parts.len() + 1) * RECORD)
 }
 
 /// What the Rattle side writes into a buffer so long, or where the two builds differ.

@@ -8,7 +8,7 @@ use jidlekuvo_reference::check::stitching::{difference, ends_in_done};
 use jidlekuvo_reference::compare::hits::Hits;
 use jidlekuvo_reference::compare::threads::in_threads;
 use jidlekuvo_reference::compare::{rattle, settings, Failure};
-use jidlekuvo_reference::drive::{encode, RECORD};
+use jidlekuvo_reference::drive::{encode_calls, RECORD};
 use jidlekuvo_reference::generate::pairs::{pair, Played};
 use jidlekuvo_reference::generate::Random;
 
@@ -16,7 +16,7 @@ const ALIKE: &str = "pairs that both end in done";
 
 /// The log that the Rattle side's records tell.
 fn driven(one: &Played) -> Option<Log> {
-    let input = encode(&one.opening, &one.calls);
+    let input = encode_calls(&one.opening, &one.calls);
     let mut records = vec![0; (one.calls.len() + 1) * RECORD];
     let written = rattle::drive(&input, &mut records);
     from_records(&input, &records[..written.min(records.len())])

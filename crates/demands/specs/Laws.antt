@@ -23,6 +23,10 @@ pub mod ByLogConditions
 -- Two runs of one plan
 pub mod NeverStopped
 pub mod SameWord
+-- Places of the window
+pub mod PathOrder
+pub mod LikeRuns
+pub mod LowestPlaces
 pub mod AuthorNumbers
 pub mod DriveRecords
 pub mod NumbersHold
@@ -35,7 +39,9 @@ pub mod FirstFaultsHold
 pub mod InLimitsIff
 pub mod InLimitsKept
 pub mod OpeningsHold
+pub mod PlacesHold
 pub mod Repeated
+pub mod RepliesByContentHold
 pub mod RowsHold
 pub mod StitchingHolds
 pub mod TimesEqual

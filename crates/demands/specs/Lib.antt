@@ -9,6 +9,9 @@ pub mod Times
 pub mod Demand3
 -- Request (i): two runs of one plan
 pub mod Stitching
+-- Request (h): places of the window
+pub mod Places
+pub mod RepliesByContent
 -- Demand 1, and the strength of the contracts
 pub mod Demand1
 -- Each answer of an opening, in its condition and in no other

@@ -14,12 +14,13 @@ use Rattle.drive_input.specs.declared.HeadRead.{HeadRead}
 use Rattle.drive_records.specs.declared.Record.{Record}
 use Rattle.drive.specs.declared.NotRecorded.{NotRecorded}
 use Rattle.drive.specs.declared.Recorded.{Recorded}
-use Rattle.drive_input.specs.Input.{callsAt, head, headOf}
+use Rattle.drive_input.specs.Input.{partsAt, head, headOf}
 use Rattle.drive.specs.Drive.{openedBy}
 use Rattle.drive_records.specs.Records.{openingRecord}
-use Rattle.drive.specs.Drive.{callsFrom, callsOf, recordsFrom, recordsOf, joined, textOf, recordedOf, bufferOf}
+use Rattle.drive.specs.Drive.{partsFrom, partsOf, recordsFrom, recordsOf, joined, textOf, recordedOf, bufferOf}
 use Rattle.drive_records.specs.Laws.Records.{record-length}
-use Rattle.drive.proofs.Turns.{text-whole, calls-same, records-length}
+use Rattle.drive.proofs.Turns.{text-whole, parts-same}
+use Rattle.drive.specs.Laws.Records.{records-length}
 
 joined-length : (rs : List Record) → length (joined rs) ≡ 16 * length rs
 joined-length [] = refl
@@ -32,36 +33,36 @@ module _ (b out : List ℕ) where
   pub no-opening : headOf b ≡ HeadRead.Ends → Left b out (Recorded.Bytes 0) out
   unfolding headOf recordsOf recordedOf bufferOf
   no-opening e =
-      elim (decLe (callsAt b) (length b)) [
+      elim (decLe (partsAt b) (length b)) [
         | yes f ↦
-            let w : HeadRead.Whole (head b) ≡ HeadRead.Ends = rw (le-leb (callsAt b) (length b) f) at e in
+            let w : HeadRead.Whole (head b) ≡ HeadRead.Ends = rw (le-leb (partsAt b) (length b) f) at e in
             let z : _≡_ {A = ℕ} 0 1 = cc in
             absurd (omega arith)
         | no f ↦
-            let none : textOf b ≡ [] = rw (lt-leb (callsAt b) (length b) (omega arith)) in
+            let none : textOf b ≡ [] = rw (lt-leb (partsAt b) (length b) (omega arith)) in
             let z = le-leb 0 (length out) (omega arith) in (rw (none, z), rw (none, z))
       ]
 
-  module _ (h : Head) (e : headOf b ≡ HeadRead.Whole h) (calls : ℕ) (all : calls ≡ length (callsFrom (length b) b (h .calls))) where
-    pub all-calls : calls ≡ length (callsOf b)
-    all-calls = all ∙ ap length (calls-same b h e)
+  module _ (h : Head) (e : headOf b ≡ HeadRead.Whole h) (parts : ℕ) (all : parts ≡ length (partsFrom (length b) b (h .parts))) where
+    pub all-parts : parts ≡ length (partsOf b)
+    all-parts = all ∙ ap length (parts-same b h e)
 
-    text-length : length (textOf b) ≡ 16 + 16 * calls
+    text-length : length (textOf b) ≡ 16 + 16 * parts
     text-length =
         rw (text-whole b h e, length-append)
         (omega (
           arith,
           record-length (openingRecord (openedBy b h .opening)),
-          joined-length (recordsFrom (openedBy b h .run) (callsOf b)),
-          records-length (openedBy b h .run) (callsOf b),
-          all-calls,
+          joined-length (recordsFrom (openedBy b h .run) (partsOf b)),
+          records-length (openedBy b h .run) (partsOf b),
+          all-parts,
         ))
 
-    pub too-short : length out / 16 ≤ calls → Left b out (Recorded.Refused NotRecorded.TooShort) out
+    pub too-short : length out / 16 ≤ parts → Left b out (Recorded.Refused NotRecorded.TooShort) out
     unfolding recordedOf bufferOf
     too-short s = let l = lt-leb (length (textOf b)) (length out) (omega (arith, text-length)) in (rw l, rw l)
 
-    pub all-written : calls < length out / 16 → (after : List ℕ) (end : ℕ) → Puts out 0 (textOf b) after end
+    pub all-written : parts < length out / 16 → (after : List ℕ) (end : ℕ) → Puts out 0 (textOf b) after end
         → Left b out (Recorded.Bytes end) after
     unfolding recordedOf bufferOf
     all-written room after end p =

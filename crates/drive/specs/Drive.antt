@@ -1,5 +1,5 @@
--- A list of calls driven through a run: the records that answer the opening and each call, up to where the input ends or
--- ends inside a part, and what is left in a lent buffer.
+-- A list of calls and questions driven through a run: the records that answer the opening and each part, up to where the
+-- input ends or ends inside a part, and what is left in a lent buffer.
 use mathlib.Core.Bool.{cond}
 use mathlib.Core.List.{List, [], _∷_, _++_}
 use Prim.Native.Nat.{ℕ, zero, suc, _+_}
@@ -9,15 +9,16 @@ use Rattle.run.specs.declared.Run.{Run}
 use Rattle.run.specs.declared.Call.{Call}
 use Rattle.run.specs.declared.Opened.{Opened}
 use Rattle.run.specs.Opening.{openOf}
-use Rattle.demands_log.specs.Log.{Log}
-use Rattle.demands_log.specs.Drive.{drive}
-use Rattle.drive_input.specs.declared.CallRead.{CallRead}
+use Rattle.run.specs.Calls.{callOf}
+use Rattle.run_window.specs.Where.{placeOf as placeInWindow}
+use Rattle.drive_input.specs.declared.Part.{Part}
+use Rattle.drive_input.specs.declared.PartRead.{PartRead}
 use Rattle.drive_records.specs.declared.Record.{Record}
 use Rattle.drive.specs.declared.NotRecorded.{NotRecorded}
 use Rattle.drive.specs.declared.Recorded.{Recorded}
 use Rattle.drive_input.specs.declared.Head.{Head}
-use Rattle.drive_input.specs.Input.{planOf, availabilitiesFrom, head, isWhole, callsAt, callAt}
-use Rattle.drive_records.specs.Records.{recordBytes, openingRecord, replyRecord}
+use Rattle.drive_input.specs.Input.{planOf, availabilitiesFrom, head, isWhole, partsAt, partAt}
+use Rattle.drive_records.specs.Records.{recordBytes, openingRecord, replyRecord, placeRecord}
 
 -- the answer to the opening that has these numbers
 abbrev pub openedBy : List ℕ → Head → Opened
@@ -26,32 +27,44 @@ openedBy b h = openOf (planOf b (h .length)) (h .psi) (h .slack) (availabilities
 abbrev pub opened : List ℕ → Opened
 opened b = openedBy b (head b)
 
-abbrev pub onCall : {A : Type 0} → CallRead → (Call → ℕ → A) → A → A
-onCall CallRead.None f z = z
-onCall (CallRead.Some call next) f z = f call next
+abbrev pub onPart : {A : Type 0} → PartRead → (Part → ℕ → A) → A → A
+onPart PartRead.None f z = z
+onPart (PartRead.Some part next) f z = f part next
 
--- the calls from `at` on, at most `left` of them, up to where the input ends or the next part is no call
-unfoldable pub callsFrom : ℕ → List ℕ → ℕ → List Call
-callsFrom zero b at = []
-callsFrom (suc left) b at = onCall (callAt b at) (λ call next. call ∷ callsFrom left b next) []
+-- the parts from `at` on, at most `left` of them, up to where the input ends or what is next is no part
+unfoldable pub partsFrom : ℕ → List ℕ → ℕ → List Part
+partsFrom zero b at = []
+partsFrom (suc left) b at = onPart (partAt b at) (λ part next. part ∷ partsFrom left b next) []
 
--- all calls of the input: it holds fewer calls than bytes
-abbrev pub callsOf : List ℕ → List Call
-callsOf b = callsFrom (length b) b (callsAt b)
+-- all parts after the opening: the input holds fewer of them than bytes
+abbrev pub partsOf : List ℕ → List Part
+partsOf b = partsFrom (length b) b (partsAt b)
 
--- the records of the answers of a log, the oldest first, before others
-abbrev pub answersOf : Log → List Record → List Record
-answersOf [] later = later
-answersOf (y ∷ log) later = answersOf log (replyRecord (y .reply) ∷ later)
+-- the calls among them, in order
+abbrev pub callsAmong : List Part → List Call
+callsAmong [] = []
+callsAmong (Part.Call call ∷ parts) = call ∷ callsAmong parts
+callsAmong (Part.Place position node ∷ parts) = callsAmong parts
 
--- the records of a list of calls: those of the log that they leave
-abbrev pub recordsFrom : Run → List Call → List Record
-recordsFrom run calls = answersOf (drive [] run calls .log) []
+-- a call is answered by its reply, a question by the node's place in the window
+abbrev pub partRecord : Run → Part → Record
+partRecord run (Part.Call call) = replyRecord (callOf run call .reply)
+partRecord run (Part.Place position node) = placeRecord (placeInWindow position node (run .window))
+
+-- a question leaves the run as it is
+abbrev pub runAfter : Run → Part → Run
+runAfter run (Part.Call call) = callOf run call .run
+runAfter run (Part.Place position node) = run
+
+-- the records of a list of parts, each given the run that the part before it left
+abbrev pub recordsFrom : Run → List Part → List Record
+recordsFrom run [] = []
+recordsFrom run (part ∷ parts) = partRecord run part ∷ recordsFrom (runAfter run part) parts
 
 -- the records of the whole input; after a refused opening the run of zeros is driven on, and an input that ends inside the
 -- opening has none
 unfoldable pub recordsOf : List ℕ → List Record
-recordsOf b = cond (isWhole b) (openingRecord (opened b .opening) ∷ recordsFrom (opened b .run) (callsOf b)) []
+recordsOf b = cond (isWhole b) (openingRecord (opened b .opening) ∷ recordsFrom (opened b .run) (partsOf b)) []
 
 abbrev pub joined : List Record → List ℕ
 joined [] = []

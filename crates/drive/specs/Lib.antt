@@ -1,2 +1,3 @@
--- A list of calls as bytes, and the records that answer it.
+-- A list of calls and questions as bytes, and the records that answer it.
 pub mod Drive
+pub mod Laws

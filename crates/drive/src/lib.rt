@@ -1,16 +1,17 @@
-// A whole list of calls, as bytes, driven through a run: for tests from another language. The form of the input is in
-// drive_input, that of the records in drive_records.
+// A whole list of calls, and of questions for a node's place, as bytes, driven through a run: for tests from another
+// language. The form of the input is in drive_input, that of the records in drive_records.
 ghost use mathlib.Core.Path.{_≡_};
 ghost use Prim.Native.Nat.{_+_, _*_, _≤_, _<_};
 ghost use lib.ListN.{length};
 ghost use Rattle.wire.specs.Puts.{Puts};
 ghost use Rattle.drive_input.specs.Input.{headOf};
 ghost use Rattle.drive_input.specs.declared.HeadRead.{HeadRead};
-ghost use Rattle.drive.specs.Drive.{openedBy, callsFrom, callsOf, recordsFrom, textOf, joined, recordedOf, bufferOf};
+ghost use Rattle.drive.specs.Drive.{openedBy, partsFrom, partsOf, recordsFrom, textOf, joined, recordedOf, bufferOf};
 use basis::u8_to_usize;
-use drive_input::CallRead;
 use drive_input::Head;
 use drive_input::HeadRead;
+use drive_input::Part;
+use drive_input::PartRead;
 use run::Opened;
 use run::Run;
 
@@ -37,21 +38,21 @@ fn open(input: &[u8], head: Head) -> Opened
     Run::open(&input[2..end], psi, head.slack, &times[..n])
 }
 
-// How many calls there are from `from` on; the input holds fewer than it has bytes.
+// How many parts there are from `from` on; the input holds fewer than it has bytes.
 fn count_from(input: &[u8], from: usize) -> usize
     requires { ⌜ from ≤ length (now input) ⌝ }
-    ensures { λ r. ⌜ r ≡ length (callsFrom (length (now (input .entry))) (now (input .entry)) from) ⌝ }
+    ensures { λ r. ⌜ r ≡ length (partsFrom (length (now (input .entry))) (now (input .entry)) from) ⌝ }
 {
     let mut at = from;
     let mut count = 0;
     let mut left = input.len();
     while 0 < left {
-        let read = drive_input::call_at(input, at);
+        let read = drive_input::part_at(input, at);
         match read {
-            CallRead::None => {
+            PartRead::None => {
                 return count;
             }
-            CallRead::Some(call, next) => {
+            PartRead::Some(part, next) => {
                 at = next;
                 count += 1;
                 left -= 1;
@@ -61,34 +62,40 @@ fn count_from(input: &[u8], from: usize) -> usize
     count
 }
 
-// So many calls from `from` on, their records at `written`: the offset past the last record.
-fn calls_from(
+// So many parts from `from` on, their records at `written`: the offset past the last record.
+fn parts_from(
     input: &[u8],
     from: usize,
     first: Run,
     out: &mut [u8],
     written: usize,
-    calls: usize,
+    parts: usize,
 ) -> usize
-    requires { ⌜ (from ≤ length (now input)) × (written + 16 * calls ≤ length (now out)) ⌝ }
-    ensures { λ r. ⌜ Puts (now (out .entry)) written (joined (recordsFrom first (callsFrom calls (now (input .entry)) from))) (now (out .exit)) r ⌝ }
+    requires { ⌜ (from ≤ length (now input)) × (written + 16 * parts ≤ length (now out)) ⌝ }
+    ensures { λ r. ⌜ Puts (now (out .entry)) written (joined (recordsFrom first (partsFrom parts (now (input .entry)) from))) (now (out .exit)) r ⌝ }
 {
     let mut run = first;
     let mut at = from;
     let mut end = written;
-    let mut left = calls;
+    let mut left = parts;
     while 0 < left {
-        let read = drive_input::call_at(input, at);
-        match read {
-            CallRead::None => {
-                return end;
-            }
-            CallRead::Some(call, next) => {
+        let read = drive_input::part_at(input, at);
+        let PartRead::Some(part, next) = read else {
+            return end;
+        };
+        match part {
+            Part::Call(call) => {
                 let answer = run.call(call);
                 let reply = answer.reply;
-                let record = drive_records::reply_record(reply);
-                end = drive_records::put_at(out, end, record);
+                end = drive_records::put_at(out, end, drive_records::reply_record(reply));
                 run = answer.run;
+                at = next;
+                left -= 1;
+            }
+            Part::Place(position, node) => {
+                let window = run.window;
+                let place = run_window::place_of(window, position, node);
+                end = drive_records::put_at(out, end, drive_records::place_record(place));
                 at = next;
                 left -= 1;
             }
@@ -97,9 +104,9 @@ fn calls_from(
     end
 }
 
-// An opening that is there whole, and all calls after it, in a buffer that holds their records.
-fn opened_and_called(input: &[u8], head: Head, out: &mut [u8], calls: usize) -> usize
-    requires { ⌜ (headOf (now input) ≡ HeadRead.Whole head) × (calls ≡ length (callsOf (now input))) × (16 + 16 * calls ≤ length (now out)) ⌝ }
+// An opening that is there whole, and all parts after it, in a buffer that holds their records.
+fn opened_and_called(input: &[u8], head: Head, out: &mut [u8], parts: usize) -> usize
+    requires { ⌜ (headOf (now input) ≡ HeadRead.Whole head) × (parts ≡ length (partsOf (now input))) × (16 + 16 * parts ≤ length (now out)) ⌝ }
     ensures { λ r. ⌜ Puts (now (out .entry)) 0 (textOf (now (input .entry))) (now (out .exit)) r ⌝ }
 {
     let opened = open(input, head);
@@ -107,7 +114,7 @@ fn opened_and_called(input: &[u8], head: Head, out: &mut [u8], calls: usize) -> 
     let record = drive_records::opening_record(opening);
     let end = drive_records::put_at(out, 0, record);
     let run = opened.run;
-    calls_from(input, head.calls, run, out, end, calls)
+    parts_from(input, head.parts, run, out, end, parts)
 }
 
 // The records of an opening that is there whole, if all of them fit.
@@ -115,11 +122,11 @@ fn if_they_fit(input: &[u8], head: Head, out: &mut [u8]) -> Recorded
     requires { ⌜ headOf (now input) ≡ HeadRead.Whole head ⌝ }
     ensures { λ r. ⌜ (r ≡ recordedOf (now (input .entry)) (now (out .entry))) × (now (out .exit) ≡ bufferOf (now (input .entry)) (now (out .entry))) ⌝ }
 {
-    let calls = count_from(input, head.calls);
-    if out.len() / 16 <= calls {
+    let parts = count_from(input, head.parts);
+    if out.len() / 16 <= parts {
         return Recorded::Refused(NotRecorded::TooShort);
     }
-    let end = opened_and_called(input, head, out, calls);
+    let end = opened_and_called(input, head, out, parts);
     Recorded::Bytes(end)
 }
 

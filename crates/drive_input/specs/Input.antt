@@ -1,4 +1,4 @@
--- The parts of the input: an opening, then calls. A number has its lowest byte first; offsets count from the first byte.
+-- The parts of the input: an opening, then calls and questions for a node's place. A number has its lowest byte first; offsets count from the first byte.
 use mathlib.Core.Bool.{Bool, cond}
 use mathlib.Core.List.{List, [], _∷_}
 use Prim.Native.Nat.{ℕ, zero, suc, _+_, _*_}
@@ -9,7 +9,8 @@ use Rattle.time.specs.declared.Clock.{Clock}
 use Rattle.run.specs.declared.Call.{Call}
 use Rattle.drive_input.specs.declared.Head.{Head}
 use Rattle.drive_input.specs.declared.HeadRead.{HeadRead}
-use Rattle.drive_input.specs.declared.CallRead.{CallRead}
+use Rattle.drive_input.specs.declared.Part.{Part}
+use Rattle.drive_input.specs.declared.PartRead.{PartRead}
 
 abbrev pub byteAt : List ℕ → ℕ → ℕ
 byteAt b at = getD b at 0
@@ -36,12 +37,12 @@ unfoldable pub availabilitiesFrom : List ℕ → ℕ → ℕ → List ℕ
 availabilitiesFrom b at zero = []
 availabilitiesFrom b at (suc k) = little 8 b at ∷ availabilitiesFrom b (at + 8) k
 
--- where the calls begin, and whether the input holds all that stands before them
-abbrev pub callsAt : List ℕ → ℕ
-callsAt b = planLength b + 19 + 8 * countOf b
+-- where the parts after the opening begin, and whether the input holds all that stands before them
+abbrev pub partsAt : List ℕ → ℕ
+partsAt b = planLength b + 19 + 8 * countOf b
 
 abbrev pub isWhole : List ℕ → Bool
-isWhole b = leb (callsAt b) (length b)
+isWhole b = leb (partsAt b) (length b)
 
 -- the numbers of the opening
 abbrev pub head : List ℕ → Head
@@ -50,36 +51,45 @@ head b = record {
   psi = clockAt b (planLength b + 2);
   slack = little 8 b (planLength b + 10);
   count = countOf b;
-  calls = callsAt b;
+  parts = partsAt b;
 }
 
 unfoldable pub headOf : List ℕ → HeadRead
 headOf b = cond (isWhole b) (HeadRead.Whole (head b)) HeadRead.Ends
 
--- ---- a call
+-- ---- a part
 
--- a call that ends before `next`, unless the input ends inside it
-abbrev pub callUpTo : List ℕ → ℕ → Call → CallRead
-callUpTo b next call = cond (leb next (length b)) (CallRead.Some call next) CallRead.None
+-- a part that ends before `next`, unless the input ends inside it
+abbrev pub partUpTo : List ℕ → ℕ → Part → PartRead
+partUpTo b next part = cond (leb next (length b)) (PartRead.Some part next) PartRead.None
+
+-- likewise a call
+abbrev pub callUpTo : List ℕ → ℕ → Call → PartRead
+callUpTo b next call = partUpTo b next (Part.Call call)
 
 -- kind 0, ask: reading (8)
-unfoldable pub askAt : List ℕ → ℕ → CallRead
+unfoldable pub askAt : List ℕ → ℕ → PartRead
 askAt b at = callUpTo b (at + 9) (Call.Ask (clockAt b (at + 1)))
 
 -- kind 1, completion: reading (8), position (4), node (1)
-unfoldable pub completionAt : List ℕ → ℕ → CallRead
+unfoldable pub completionAt : List ℕ → ℕ → PartRead
 completionAt b at = callUpTo b (at + 14) (Call.Completion (clockAt b (at + 1)) (little 4 b (at + 9)) (byteAt b (at + 13)))
 
 -- kind 2, outcome: reading (8), position (4), node (1), outcome (1)
-unfoldable pub outcomeAt : List ℕ → ℕ → CallRead
+unfoldable pub outcomeAt : List ℕ → ℕ → PartRead
 outcomeAt b at =
     callUpTo b (at + 15) (Call.Outcome (clockAt b (at + 1)) (little 4 b (at + 9)) (byteAt b (at + 13)) (byteAt b (at + 14)))
 
--- "kind (1: 0 ask, 1 completion, 2 outcome)"; any other kind ends the list
-abbrev pub callOfKind : ℕ → List ℕ → ℕ → CallRead
-callOfKind kind b at =
-    cond (eqb kind 0) (askAt b at) (cond (eqb kind 1) (completionAt b at) (cond (eqb kind 2) (outcomeAt b at) CallRead.None))
+-- kind 3, where a node stands: position (4), node (1); no call, so no reading
+unfoldable pub placeAt : List ℕ → ℕ → PartRead
+placeAt b at = partUpTo b (at + 6) (Part.Place (little 4 b (at + 1)) (byteAt b (at + 5)))
 
--- the call at `at`, if there is one, and the offset past it
-unfoldable pub callAt : List ℕ → ℕ → CallRead
-callAt b at = cond (leb (at + 1) (length b)) (callOfKind (byteAt b at) b at) CallRead.None
+-- "kind (1: 0 ask, 1 completion, 2 outcome)", and 3 for a node's place; any other kind ends the list
+abbrev pub partOfKind : ℕ → List ℕ → ℕ → PartRead
+partOfKind kind b at =
+    cond (eqb kind 0) (askAt b at)
+    (cond (eqb kind 1) (completionAt b at) (cond (eqb kind 2) (outcomeAt b at) (cond (eqb kind 3) (placeAt b at) PartRead.None)))
+
+-- the part at `at`, if there is one, and the offset past it
+unfoldable pub partAt : List ℕ → ℕ → PartRead
+partAt b at = cond (leb (at + 1) (length b)) (partOfKind (byteAt b at) b at) PartRead.None

@@ -1,2 +1,2 @@
--- The form of a list of calls as bytes.
+-- The form of a list of calls and questions as bytes.
 pub mod Input

@@ -1,4 +1,4 @@
-// The parts of an input: an opening, then calls. Their form is in specs/Input.antt.
+// The parts of an input: an opening, then calls and questions for a node's place. Their form is in specs/Input.antt.
 use basis::u8_to_usize;
 use run::Call;
 use time::Clock;
@@ -9,15 +9,15 @@ ghost use mathlib.Core.Path.{_≡_};
 ghost use Prim.Native.Nat.{_+_, _*_, _≤_, _<_};
 ghost use lib.ListN.{length, take};
 ghost use Rattle.wire.specs.Number.{little};
-ghost use Rattle.drive_input.specs.Input.{availabilitiesFrom, headOf, askAt, completionAt, outcomeAt, callAt};
+ghost use Rattle.drive_input.specs.Input.{availabilitiesFrom, headOf, askAt, completionAt, outcomeAt, placeAt, partAt};
 
-// The numbers of an opening: the plan's length, Ψ, slack, availability count, and where the calls begin.
+// The numbers of an opening: the plan's length, Ψ, slack, availability count, and where the parts after it begin.
 pub struct Head {
     pub length: usize,
     pub psi: Clock,
     pub slack: u64,
     pub count: u8,
-    pub calls: usize,
+    pub parts: usize,
 }
 
 // The input holds the opening whole, or ends inside it.
@@ -26,9 +26,15 @@ pub enum HeadRead {
     Ends,
 }
 
-// A call, and the offset past it.
-pub enum CallRead {
-    Some(Call, usize),
+// What stands after the opening: a call, or a question: where does the node with this position and number stand?
+pub enum Part {
+    Call(Call),
+    Place(u32, u8),
+}
+
+// A part, and the offset past it.
+pub enum PartRead {
+    Some(Part, usize),
     None,
 }
 
@@ -83,8 +89,8 @@ pub fn head_of(input: &[u8]) -> HeadRead
     }
     let place = n + 18;
     let count = input[place];
-    let calls = n + 19 + 8 * u8_to_usize(count);
-    if size < calls {
+    let parts = n + 19 + 8 * u8_to_usize(count);
+    if size < parts {
         return HeadRead::Ends;
     }
     HeadRead::Whole(Head {
@@ -92,7 +98,7 @@ pub fn head_of(input: &[u8]) -> HeadRead
         psi: Clock(eight(input, n + 2)),
         slack: eight(input, n + 10),
         count,
-        calls,
+        parts,
     })
 }
 
@@ -113,42 +119,42 @@ pub fn availabilities(input: &[u8], at: usize, count: u8) -> [u64; 255]
     times
 }
 
-// ---- a call
+// ---- a part
 
 // Kind 0: an ask.
-fn ask_at(input: &[u8], at: usize) -> CallRead
+fn ask_at(input: &[u8], at: usize) -> PartRead
     requires { ⌜ at ≤ length (now input) ⌝ }
     ensures { λ r. ⌜ r ≡ askAt (now (input .entry)) at ⌝ }
 {
     if input.len() - at < 9 {
-        return CallRead::None;
+        return PartRead::None;
     }
     let t = Clock(eight(input, at + 1));
-    CallRead::Some(Call::Ask(t), at + 9)
+    PartRead::Some(Part::Call(Call::Ask(t)), at + 9)
 }
 
 // Kind 1: the completion of an action.
-fn completion_at(input: &[u8], at: usize) -> CallRead
+fn completion_at(input: &[u8], at: usize) -> PartRead
     requires { ⌜ at ≤ length (now input) ⌝ }
     ensures { λ r. ⌜ r ≡ completionAt (now (input .entry)) at ⌝ }
 {
     if input.len() - at < 14 {
-        return CallRead::None;
+        return PartRead::None;
     }
     let t = Clock(eight(input, at + 1));
     let position = four(input, at + 9);
     let place = at + 13;
     let node = input[place];
-    CallRead::Some(Call::Completion(t, position, node), at + 14)
+    PartRead::Some(Part::Call(Call::Completion(t, position, node)), at + 14)
 }
 
 // Kind 2: the outcome of an event.
-fn outcome_at(input: &[u8], at: usize) -> CallRead
+fn outcome_at(input: &[u8], at: usize) -> PartRead
     requires { ⌜ at ≤ length (now input) ⌝ }
     ensures { λ r. ⌜ r ≡ outcomeAt (now (input .entry)) at ⌝ }
 {
     if input.len() - at < 15 {
-        return CallRead::None;
+        return PartRead::None;
     }
     let t = Clock(eight(input, at + 1));
     let position = four(input, at + 9);
@@ -156,16 +162,33 @@ fn outcome_at(input: &[u8], at: usize) -> CallRead
     let next = at + 14;
     let node = input[place];
     let outcome = input[next];
-    CallRead::Some(Call::Outcome(t, position, node, outcome), at + 15)
+    PartRead::Some(
+        Part::Call(Call::Outcome(t, position, node, outcome)),
+        at + 15,
+    )
 }
 
-// The call at `at`, if there is one: any other kind ends the list.
-pub fn call_at(input: &[u8], at: usize) -> CallRead
+// Kind 3: the question where a node stands. It has no reading.
+fn place_at(input: &[u8], at: usize) -> PartRead
     requires { ⌜ at ≤ length (now input) ⌝ }
-    ensures { λ r. ⌜ r ≡ callAt (now (input .entry)) at ⌝ }
+    ensures { λ r. ⌜ r ≡ placeAt (now (input .entry)) at ⌝ }
+{
+    if input.len() - at < 6 {
+        return PartRead::None;
+    }
+    let position = four(input, at + 1);
+    let last = at + 5;
+    let node = input[last];
+    PartRead::Some(Part::Place(position, node), at + 6)
+}
+
+// The part at `at`, if there is one: any other kind ends the list.
+pub fn part_at(input: &[u8], at: usize) -> PartRead
+    requires { ⌜ at ≤ length (now input) ⌝ }
+    ensures { λ r. ⌜ r ≡ partAt (now (input .entry)) at ⌝ }
 {
     if at == input.len() {
-        return CallRead::None;
+        return PartRead::None;
     }
     let kind = input[at];
     if kind == 0 {
@@ -177,5 +200,8 @@ pub fn call_at(input: &[u8], at: usize) -> CallRead
     if kind == 2 {
         return outcome_at(input, at);
     }
-    CallRead::None
+    if kind == 3 {
+        return place_at(input, at);
+    }
+    PartRead::None
 }

@@ -1,4 +1,4 @@
--- A record of 16 bytes for the opening and for each call.
+-- A record of 16 bytes for the opening, for each call and for each node's place.
 use mathlib.Core.List.{List, _∷_, _++_}
 use Prim.Native.Nat.{ℕ}
 use Rattle.wire.specs.Number.{bytesOf}
@@ -46,3 +46,7 @@ replyRecord Reply.Done = bare 3 0 0
 replyRecord Reply.Taken = bare 4 0 0
 replyRecord (Reply.Refused f) = bare 5 (refusalNumber f) 0
 replyRecord (Reply.Stopped s) = stopRecord s
+
+-- 7 a node's place in the window, or the number of places where none holds it
+unfoldable pub placeRecord : ℕ → Record
+placeRecord place = bare 7 0 place

@@ -1,4 +1,4 @@
-// A record of 16 bytes for the opening and for each call. Its form is in specs/Records.antt.
+// A record of 16 bytes for the opening, for each call and for each node's place. Its form is in specs/Records.antt.
 use run::Opening;
 use run::Refusal;
 use run::Reply;
@@ -9,7 +9,7 @@ ghost use Prim.Native.Nat.{_+_, _≤_};
 ghost use lib.ListN.{length};
 ghost use Rattle.run.specs.Numbers.{refusalNumber, openNumber, openPlace};
 ghost use Rattle.wire.specs.Puts.{Puts};
-ghost use Rattle.drive_records.specs.Records.{bare, stopRecord, openingRecord, replyRecord, recordBytes};
+ghost use Rattle.drive_records.specs.Records.{bare, stopRecord, openingRecord, replyRecord, placeRecord, recordBytes};
 
 // An answer: what was answered, the number or the activity, the node, the position, the place.
 pub struct Record {
@@ -113,6 +113,14 @@ pub fn reply_record(reply: Reply) -> Record
         Reply::Refused(f) => bare(5, refusal_number(f), 0),
         Reply::Stopped(s) => stop_record(s),
     }
+}
+
+// ---- a node's place
+
+pub fn place_record(place: usize) -> Record
+    ensures { λ r. ⌜ r ≡ placeRecord place ⌝ }
+{
+    bare(7, 0, place as u64)
 }
 
 // ---- into a buffer

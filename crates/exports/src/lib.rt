@@ -128,8 +128,8 @@ fn recorded_code(r: Recorded) -> usize
     }
 }
 
-// Drives a list of calls through a run, and writes a record for the opening and for each call: how many bytes it wrote, or
-// 36 * 2^32 for a buffer that is too short, which stays as it was.
+// Drives a list of calls, and of questions where a node stands, through a run, and writes a record for the opening and for
+// each of them: how many bytes it wrote, or 36 * 2^32 for a buffer that is too short, which stays as it was.
 #[no_mangle]
 pub extern "C" fn jidlekuvo_drive(input: &[u8], out: &mut [u8]) -> usize
     ensures { λ r. ⌜ (r ≡ recordedCode (recordedOf (now (input .entry)) (now (out .entry)))) × (now (out .exit) ≡ bufferOf (now (input .entry)) (now (out .entry))) ⌝ }

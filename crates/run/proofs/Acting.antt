@@ -34,7 +34,6 @@ use Rattle.run.specs.declared.Run.{Run}
 use Rattle.run.specs.declared.Reply.{Reply}
 use Rattle.run.specs.declared.Answer.{Answer}
 use Rattle.run.specs.declared.Call.{Call}
-use Rattle.run.specs.declared.Checked.{Checked}
 use Rattle.run.specs.declared.Effect.{Effect}
 use Rattle.run.specs.Limits.{runInLimits}
 use Rattle.run.specs.Calls.{answer, refuse, heard, objected, isDone, asked, kindOf, completedBy, completed, learnsBy, learns, called, askOf, completionOf, outcomeOf, callOf, readingOf}
@@ -198,9 +197,9 @@ sought-timely run (Call.Ask t) g = timed run g t .0
 sought-timely run (Call.Completion t p n) g = tt
 sought-timely run (Call.Outcome t p n o) g = tt
 
-module _ (run : Run) (c : Call) (t : Clock) (sought : Sought) (checked : Checked) (effect : Effect) (q : t ≡ readingOf c) (s : sought ≡ soughtBy (run .psi) c) (k : checked ≡ checkedOf run t sought) (e : effect ≡ effectOf c checked) where
+module _ (run : Run) (c : Call) (t : Clock) (effect : Effect) (q : t ≡ readingOf c) (e : effect ≡ effectOf c (checkedOf run t (soughtBy (run .psi) c))) where
   worked-out : effect ≡ effectOf c (checkedOf run (readingOf c) (soughtBy (run .psi) c))
-  worked-out = e ∙ ap (effectOf c) (k ∙ (ap (λ (x : Clock). checkedOf run x sought) q ∙ ap (checkedOf run (readingOf c)) s))
+  worked-out = e ∙ ap (λ (x : Clock). effectOf c (checkedOf run x (soughtBy (run .psi) c))) q
 
   pub call-acted : (x : Effect) → effect ≡ x → acted run t x ≡ callOf run c
   call-acted x r = ap (λ (y : Clock). acted run y x) q ∙ (ap (acted run (readingOf c)) (sym r ∙ worked-out) ∙ acted-check run c _ refl)

@@ -16,9 +16,11 @@ use Rattle.run_loading.specs.declared.Loading as declared
 use Rattle.run_loading.specs.declared.Failure.{Failure}
 use Rattle.run.specs.declared.Run.{Run}
 use Rattle.run.specs.declared.Answer.{Answer}
-use Rattle.run.specs.Calls.{heard, cleared, afterLoading, learnt}
+use Rattle.run.specs.declared.Reply.{Reply}
+use Rattle.run_checks.specs.declared.Halt.{Halt}
+use Rattle.run.specs.Calls.{answer, heard, stops, cleared, afterLoading, learnt}
 use Rattle.run.specs.Loading.{Loading, loading, loadPath, load, onWay, onLoading, further, mostPending}
-use Rattle.run.specs.Inner.Calls.{replyAfter, haltAfter}
+use Rattle.run.specs.Inner.Calls.{haltAfter}
 
 -- the run with what loading made of its progress and its window
 abbrev pub within : Run → declared.Loading → Loading
@@ -53,17 +55,24 @@ further-parts (suc k) run = by-way (further-parts k) (wayOn (run .plan .automato
 
 -- ---- the answer to an outcome
 
-module _ (run : Run) (t : Clock) (i : ℕ) (g : Progress) where
-  abbrev pub answered : declared.Loading → Answer
-  answered l = record { reply = replyAfter (l .failure); run = heard run t (haltAfter (l .failure)) (l .progress) (l .window) }
+-- it is taken, or the run keeps a stop
+abbrev pub answerBy : Clock → Halt → Run → Answer
+answerBy t Halt.Going next = answer Reply.Taken next
+answerBy t (Halt.Stopped s) next = stops next t s
 
-  by-failure : (l : declared.Loading) (f : Failure) → l .failure ≡ f → answered l ≡ afterLoading (l .failure) (heard run t (cleared run t i g .halt) (l .progress) (l .window))
-  by-failure l Failure.None e = rw e
-  by-failure l Failure.Full e = rw e
-  by-failure l Failure.Beyond e = rw e
+-- the run with what was loaded
+abbrev pub storing : Run → Clock → declared.Loading → Run
+storing run t l = heard run t (run .halt) (l .progress) (l .window)
 
-  pub learnt-parts : (l : declared.Loading) → l ≡ parts.further (run .plan) mostPending g (cleared run t i g .window) → answered l ≡ learnt (cleared run t i g)
-  learnt-parts l e =
-      by-failure l (l .failure) refl
-      ∙ ap (λ (x : declared.Loading). afterLoading (x .failure) (heard run t (cleared run t i g .halt) (x .progress) (x .window))) e
-      ∙ sym (ap (λ (x : Loading). afterLoading (x .failure) (x .run)) (further-parts mostPending (cleared run t i g)))
+module _ (run : Run) (going : run .halt ≡ Halt.Going) (t : Clock) (i : ℕ) (g : Progress) where
+  by-failure : (l : declared.Loading) (f : Failure) → answerBy t (haltAfter f) (storing run t l) ≡ afterLoading f (heard run t (cleared run t i g .halt) (l .progress) (l .window))
+  by-failure l Failure.None = rw going
+  by-failure l Failure.Full = refl
+  by-failure l Failure.Beyond = refl
+
+  pub learnt-parts : (l : declared.Loading) → l ≡ parts.further (run .plan) mostPending g (cleared run t i g .window) → (x : Halt) → x ≡ haltAfter (l .failure) → answerBy t x (storing run t l) ≡ learnt (cleared run t i g)
+  learnt-parts l e x q =
+      ap (λ (y : Halt). answerBy t y (storing run t l)) q
+      ∙ by-failure l (l .failure)
+      ∙ ap (λ (y : declared.Loading). afterLoading (y .failure) (heard run t (cleared run t i g .halt) (y .progress) (y .window))) e
+      ∙ sym (ap (λ (y : Loading). afterLoading (y .failure) (y .run)) (further-parts mostPending (cleared run t i g)))

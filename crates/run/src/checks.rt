@@ -1,5 +1,7 @@
 // "Order at a call: 50, kept stop, 51, 42, 41, 52 to 55.": the parts of a run that the checks need.
+use crate::Call;
 use crate::Checked;
+use crate::Effect;
 use crate::Run;
 use crate::bounds;
 use crate::effects;
@@ -10,10 +12,10 @@ ghost use mathlib.Core.Bool.{true};
 ghost use mathlib.Core.Path.{_≡_};
 ghost use Rattle.run_window.specs.Inner.Search.{SoughtInTime};
 ghost use Rattle.run.specs.Limits.{runInLimits};
-ghost use Rattle.run.specs.Inner.Effects.{checkedOf};
+ghost use Rattle.run.specs.Inner.Effects.{soughtBy, checkedOf, effectOf};
 
 // The plan is copied out of the run once, for its limits and for the node that was found.
-pub fn check_call(run: Run, t: Clock, sought: Sought) -> Checked
+fn check_call(run: Run, t: Clock, sought: Sought) -> Checked
     requires { ⌜ (runInLimits run ≡ true → SoughtInTime sought) ⌝ }
     ensures { λ r. ⌜ r ≡ checkedOf run t sought ⌝ }
 {
@@ -37,4 +39,13 @@ pub fn check_call(run: Run, t: Clock, sought: Sought) -> Checked
     let outcomes = plan.outcomes;
     let most = effects::outcomes_for(kind, outcomes);
     Checked { check, kind, most }
+}
+
+// What a call with the reading t does to a run.
+pub fn effect_at(run: Run, t: Clock, c: Call) -> Effect
+    ensures { λ r. ⌜ r ≡ effectOf c (checkedOf run t (soughtBy (run .psi) c)) ⌝ }
+{
+    let psi = run.psi;
+    let checked = check_call(run, t, effects::sought_by(psi, c));
+    effects::effect_of(c, checked)
 }

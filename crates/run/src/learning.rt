@@ -1,30 +1,22 @@
 // The outcome of an event: "An accepted report is taken; if loading after it fails the answer is stopped".
-use crate::Answer;
 use crate::Halt;
-use crate::Reply;
 use crate::Run;
 use crate::Stop;
 use run_loading::Failure;
+use run_loading::Loading;
 use run_window::Entry;
-use time::Clock;
 ghost use mathlib.Core.Path.{_≡_};
 ghost use Prim.Native.Nat.{_<_};
+ghost use lib.ListN.{set};
 ghost use Rattle.plan.specs.Plan.{outcomesOf};
-ghost use Rattle.run.specs.Calls.{learnt};
+ghost use Rattle.run_window.specs.Window.{vacant};
+ghost use Rattle.run_outcomes.specs.Told.{toldOf};
+ghost use Rattle.run_loading.specs.Loading.{further, mostPending};
 ghost use Rattle.run.specs.Inner.Loads.{Loads};
-ghost use Rattle.run.specs.Inner.Calls.{toldRun, replyAfter, haltAfter};
+ghost use Rattle.run.specs.Inner.Calls.{haltAfter};
 
-fn reply_after(failure: Failure) -> Reply
-    ensures { λ r. ⌜ r ≡ replyAfter failure ⌝ }
-{
-    match failure {
-        Failure::None => Reply::Taken,
-        Failure::Full => Reply::Stopped(Stop::Full),
-        Failure::Beyond => Reply::Stopped(Stop::Beyond),
-    }
-}
-
-fn halt_after(failure: Failure) -> Halt
+// Whether the run keeps a stop after loading.
+pub fn halt_after(failure: Failure) -> Halt
     ensures { λ r. ⌜ r ≡ haltAfter failure ⌝ }
 {
     match failure {
@@ -36,9 +28,9 @@ fn halt_after(failure: Failure) -> Halt
 
 // The outcome o of event e is known, the reported node leaves the window, and the next paths are loaded: "the report and any path
 // loaded before still count".
-pub fn learnt(run: Run, t: Clock, i: usize, x: Entry, e: u8, o: u8) -> Answer
+pub fn load_after(run: Run, i: usize, x: Entry, e: u8, o: u8) -> Loading
     requires { ⌜ Loads run × (i < 512) × (e < run .plan .events) × (o < outcomesOf (run .plan) e) ⌝ }
-    ensures { λ r. ⌜ r ≡ learnt (toldRun run t i x e o) ⌝ }
+    ensures { λ r. ⌜ r ≡ further (run .plan) mostPending (toldOf (run .progress) e x o) (set (run .window) i vacant) ⌝ }
 {
     let before = run.progress;
     let told = run_outcomes::told_of(before, e, x, o);
@@ -46,21 +38,5 @@ pub fn learnt(run: Run, t: Clock, i: usize, x: Entry, e: u8, o: u8) -> Answer
     let mut window = run.window;
     window[i] = free;
     let plan = run.plan;
-    let loading = run_loading::further(plan, told, window);
-    let failure = loading.failure;
-    let progress = loading.progress;
-    let places = loading.window;
-    let psi = run.psi;
-    Answer {
-        reply: reply_after(failure),
-        run: Run {
-            plan,
-            psi,
-            slack: run.slack,
-            progress,
-            window: places,
-            last: t,
-            halt: halt_after(failure),
-        },
-    }
+    run_loading::further(plan, told, window)
 }

@@ -160,17 +160,11 @@ impl Run {
     pub fn call(mut self, c: Call) -> Answer
         ensures { λ r. ⌜ r ≡ callOf self c ⌝ }
     {
-        let psi = self.psi;
         let t = effects::reading_of(c);
-        let checked = checks::check_call(self, t, effects::sought_by(psi, c));
-        let effect = effects::effect_of(c, checked);
+        let effect = checks::effect_at(self, t, c);
         match effect {
-            Effect::Stays(reply) => {
-                return Answer { reply, run: self };
-            }
-            Effect::Stops(s) => {
-                return calls::stops(self, t, s);
-            }
+            Effect::Stays(reply) => return Answer { reply, run: self },
+            Effect::Stops(s) => return calls::stops(self, t, s),
             Effect::Rests => {
                 let finals = self.plan.automaton.finals;
                 let window = self.window;
@@ -184,7 +178,18 @@ impl Run {
                 return Answer { reply, run: self };
             }
             Effect::Learns(i, x, e, o) => {
-                return learning::learnt(self, t, i, x, e, o);
+                let loading = learning::load_after(self, i, x, e, o);
+                let failure = loading.failure;
+                let progress = loading.progress;
+                let places = loading.window;
+                self.progress = progress;
+                self.window = places;
+                self.last = t;
+                let Halt::Stopped(s) = learning::halt_after(failure) else {
+                    let reply = Reply::Taken;
+                    return Answer { reply, run: self };
+                };
+                return calls::stops(self, t, s);
             }
         }
     }

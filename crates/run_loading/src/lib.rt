@@ -4,11 +4,10 @@ use automaton::Next;
 use automaton::next_of;
 use plan::Plan;
 use run_outcomes::way_on;
-use run_path::Pathed;
 use run_path::path;
 use run_window::Entry;
 use run_window::WINDOW;
-use run_window::place;
+use run_window::is_free;
 use run_window::vacancies;
 use run_window::vacant;
 use times::Progress;
@@ -17,7 +16,7 @@ ghost use lib.ListN.{replicate};
 ghost use Rattle.automaton.specs.Next.{nextOf};
 ghost use Rattle.run_window.specs.Window.{vacant};
 ghost use Rattle.run_loading.specs.Loading.{load, further, mostPending};
-ghost use Rattle.run_loading.specs.Inner.Loading.{Loads, hasFailed, settledBy};
+ghost use Rattle.run_loading.specs.Inner.Loading.{Loads, failureBy, hasFailed};
 
 // Whether loading failed.
 pub enum Failure {
@@ -33,44 +32,17 @@ pub struct Loading {
     pub window: [Entry; WINDOW],
 }
 
-// One path: "44 ..; then 43 the window would pass 512"; "the failing path adds nothing".
-fn settled(found: Pathed, progress: Progress, window: [Entry; WINDOW]) -> Loading
-    ensures { λ r. ⌜ r ≡ settledBy found progress window ⌝ }
+// "44 ..; then 43 the window would pass 512": how loading a path with so many entries ends where so many places are free.
+fn failure_of(beyond: bool, count: usize, free: usize) -> Failure
+    ensures { λ r. ⌜ r ≡ failureBy beyond count free ⌝ }
 {
-    if found.beyond {
-        return Loading {
-            failure: Failure::Beyond,
-            progress,
-            window,
-        };
+    if beyond {
+        return Failure::Beyond;
     }
-    if vacancies(window) < found.count {
-        return Loading {
-            failure: Failure::Full,
-            progress,
-            window,
-        };
+    if free < count {
+        return Failure::Full;
     }
-    let entries = found.entries;
-    let after = found.progress;
-    Loading {
-        failure: Failure::None,
-        progress: after,
-        window: place(window, entries, found.count),
-    }
-}
-
-// The first path, from the initial state into an empty window.
-pub fn first(plan: Plan, progress: Progress) -> Loading
-    requires { ⌜ Loads plan progress ⌝ }
-    ensures { λ r. ⌜ r ≡ load plan (nextOf (plan .automaton) (plan .automaton .initial)) progress (replicate 512 vacant) ⌝ }
-{
-    let automaton = plan.automaton;
-    let next = next_of(automaton, automaton.initial);
-    let found = path(plan, next, progress);
-    let free = vacant();
-    let window = [free; WINDOW];
-    settled(found, progress, window)
+    Failure::None
 }
 
 fn has_failed(failure: Failure) -> bool
@@ -83,40 +55,79 @@ fn has_failed(failure: Failure) -> bool
     }
 }
 
-// The next paths, each of which processes a reported instance: at most 128 are pending.
-pub fn further(plan: Plan, progress: Progress, window: [Entry; WINDOW]) -> Loading
+// The first path, from the initial state into an empty window: its entries are the window, from place 0 on.
+pub fn first(plan: Plan, progress: Progress) -> Loading
+    requires { ⌜ Loads plan progress ⌝ }
+    ensures { λ r. ⌜ r ≡ load plan (nextOf (plan .automaton) (plan .automaton .initial)) progress (replicate 512 vacant) ⌝ }
+{
+    let automaton = plan.automaton;
+    let next = next_of(automaton, automaton.initial);
+    let found = path(plan, next, progress);
+    let failure = failure_of(found.beyond, found.count, WINDOW);
+    if has_failed(failure) {
+        let free = vacant();
+        let window = [free; WINDOW];
+        return Loading {
+            failure,
+            progress,
+            window,
+        };
+    }
+    let after = found.progress;
+    let window = found.entries;
+    Loading {
+        failure,
+        progress: after,
+        window,
+    }
+}
+
+// The next paths, each of which processes a reported instance: at most 128 are pending. "the failing path adds nothing". The
+// entries are stored here, where the window is: a function that is handed the window copies it, and so does one that hands it back.
+pub fn further(plan: Plan, mut progress: Progress, mut window: [Entry; WINDOW]) -> Loading
     requires { ⌜ Loads plan progress ⌝ }
     ensures { λ r. ⌜ r ≡ further plan mostPending progress window ⌝ }
 {
     let automaton = plan.automaton;
-    let mut now = Loading {
+    let mut left: usize = 128;
+    while 0 < left {
+        let way = way_on(automaton, progress);
+        let Next::Goes(_) = way else {
+            return Loading {
+                failure: Failure::None,
+                progress,
+                window,
+            };
+        };
+        let found = path(plan, way, progress);
+        let failure = failure_of(found.beyond, found.count, vacancies(window));
+        if has_failed(failure) {
+            return Loading {
+                failure,
+                progress,
+                window,
+            };
+        }
+        let mut at: usize = 0;
+        let mut next: usize = 0;
+        while next < found.count {
+            let w = window[at];
+            if is_free(w) {
+                let e = found.entries[next];
+                window[at] = e;
+                next += 1;
+                at += 1;
+            } else {
+                at += 1;
+            }
+        }
+        let after = found.progress;
+        progress = after;
+        left -= 1;
+    }
+    Loading {
         failure: Failure::None,
         progress,
         window,
-    };
-    let mut left: usize = 128;
-    while 0 < left {
-        let at = now.progress;
-        let way = way_on(automaton, at);
-        match way {
-            Next::Ended => {
-                return now;
-            }
-            Next::Waits(_) => {
-                return now;
-            }
-            Next::Goes(_) => {
-                let found = path(plan, way, at);
-                let places = now.window;
-                let loaded = settled(found, at, places);
-                let failure = loaded.failure;
-                if has_failed(failure) {
-                    return loaded;
-                }
-                now = loaded;
-                left -= 1;
-            }
-        }
     }
-    now
 }

@@ -9,7 +9,8 @@ use lib.ListN.{length, getD, drop, drop-of-length-le}
 use lib.Seq.{drop-cons}
 use Rattle.run_window.specs.declared.Entry.{Entry}
 use Rattle.run_window.specs.declared.Found.{Found}
-use Rattle.run_window.specs.Window.{isFree, better, first, isEmpty, vacancies}
+use Rattle.run_window.specs.Window.{isFree, isNode, better, first, isEmpty, vacancies}
+use Rattle.run_window.specs.Where.{placeOf}
 
 -- ---- the first of those that pass a test, from the back
 
@@ -44,6 +45,28 @@ module _ (w : List Entry) (d : Entry) (i : ℕ) where
 pub empty-all : (w : List Entry) (i : ℕ) → length w ≤ i → isEmpty w ≡ isEmpty (drop i w) → true ≡ isEmpty w
 unfolding isEmpty
 empty-all w i h inv = sym (inv ∙ rw (drop-of-length-le w h))
+
+-- ---- where a node stands, from the front
+
+module _ (position node : ℕ) (w : List Entry) where
+  -- the place, told from place i on
+  abbrev pub FromOn : ℕ → Type 0
+  FromOn i = placeOf position node w ≡ i + placeOf position node (drop i w)
+
+  where-split : (d : Entry) (i : ℕ) → i < length w
+      → placeOf position node (drop i w) ≡ cond (isNode position node (getD w i d)) 0 (suc (placeOf position node (drop (i + 1) w)))
+  unfolding placeOf
+  where-split d i h = rw (add-one, drop-cons w i d)
+
+  pub where-past : (d : Entry) (i : ℕ) → i < length w → FromOn i → {b : Bool} → b ≡ isNode position node (getD w i d) → b ≡ false → FromOn (i + 1)
+  where-past d i h inv e t = let s : placeOf position node (drop i w) ≡ suc (placeOf position node (drop (i + 1) w)) = where-split d i h ∙ rw (sym e ∙ t) in omega (arith, inv)
+
+  pub where-here : (d : Entry) (i : ℕ) → i < length w → FromOn i → {b : Bool} → b ≡ isNode position node (getD w i d) → b ≡ true → i ≡ placeOf position node w
+  where-here d i h inv e t = let s : placeOf position node (drop i w) ≡ 0 = where-split d i h ∙ rw (sym e ∙ t) in omega (arith, inv)
+
+  pub where-nowhere : (i : ℕ) → length w ≤ i → FromOn i → i ≡ placeOf position node w
+  unfolding placeOf
+  where-nowhere i h inv = let s : placeOf position node (drop i w) ≡ 0 = rw (drop-of-length-le w h) in omega (arith, inv)
 
 -- ---- how many places are free, from the back
 

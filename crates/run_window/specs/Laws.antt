@@ -3,4 +3,8 @@ pub mod Places
 pub mod Firsts
 pub mod Order
 pub mod Placed
+pub mod Placing
+pub mod Lowest
 pub mod Tests
+pub mod Content
+pub mod Where

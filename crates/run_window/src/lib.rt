@@ -14,7 +14,7 @@ mod places; // the whole window
 pub const WINDOW: usize = 512;
 
 pub use places::is_empty;
-pub use places::place;
+pub use places::place_of;
 pub use places::vacancies;
 
 // What a place of the window holds: nothing, a loaded node, or a started one.

@@ -1,10 +1,11 @@
-// The whole window: whether it is empty, how many places are free, and a path's entries put into the lowest of them.
+// The whole window: whether it is empty, how many places are free, and where a node stands.
 use crate::Entry;
 use crate::WINDOW;
 use crate::is_free;
+use crate::is_node;
 ghost use mathlib.Core.Path.{_≡_};
-ghost use lib.ListN.{take};
-ghost use Rattle.run_window.specs.Window.{isEmpty, placed, vacancies};
+ghost use Rattle.run_window.specs.Window.{isEmpty, vacancies};
+ghost use Rattle.run_window.specs.Where.{placeOf};
 
 pub fn is_empty(window: [Entry; WINDOW]) -> bool
     ensures { λ r. ⌜ r ≡ isEmpty window ⌝ }
@@ -37,25 +38,18 @@ pub fn vacancies(window: [Entry; WINDOW]) -> usize
     n
 }
 
-// The first `count` of the entries, in order, in the lowest free places.
-pub fn place(mut window: [Entry; WINDOW], entries: [Entry; WINDOW], count: usize) -> [Entry; WINDOW]
-    ensures { λ r. ⌜ r ≡ placed window (take count entries) ⌝ }
+// The lowest place that holds the node, or the number of places where none does.
+pub fn place_of(window: [Entry; WINDOW], position: u32, node: u8) -> usize
+    ensures { λ r. ⌜ r ≡ placeOf position node window ⌝ }
 {
-    let mut at: usize = 0;
-    let mut next: usize = 0;
-    while at < WINDOW {
-        if count <= next {
-            return window;
-        }
-        let w = window[at];
-        if is_free(w) {
-            let e = entries[next];
-            window[at] = e;
-            next += 1;
-            at += 1;
+    let mut lowest: usize = 0;
+    while lowest < WINDOW {
+        let e = window[lowest];
+        if is_node(position, node, e) {
+            return lowest;
         } else {
-            at += 1;
+            lowest += 1;
         }
     }
-    window
+    lowest
 }

@@ -1,6 +1,6 @@
 //! The log of one opening and its calls.
 
-use crate::drive::{decode, RECORD};
+use crate::drive::{decode, Part, RECORD};
 use crate::run::{Call, Opening, Reply, Run, Stop};
 use crate::specified_times::NodeTime;
 use crate::Fault;
@@ -55,9 +55,9 @@ pub fn played(opening: &Opening, calls: &[Call]) -> (Log, Option<Answered>) {
     (log, changed)
 }
 
-/// The log that records of a drive tell; None where a record says nothing known.
+/// The log that records of a drive tell, its questions left out; None where a record says nothing known.
 pub fn from_records(input: &[u8], records: &[u8]) -> Option<Log> {
-    let (opening, calls) = decode(input)?;
+    let (opening, parts) = decode(input)?;
     let mut records = records.chunks_exact(RECORD);
     let first = records.next()?;
     let place = u64::from_le_bytes(first[8..].try_into().ok()?);
@@ -66,8 +66,12 @@ pub fn from_records(input: &[u8], records: &[u8]) -> Option<Log> {
         5 => Err(Fault { number: first[1], place }),
         _ => return None,
     };
+    let call = |(part, record)| match part {
+        Part::Call(call) => Some((call, record)),
+        Part::Place { .. } => None,
+    };
     let answered = |(call, record)| Some(Answered { call, reply: reply_of(record)?, window: None });
-    let calls = calls.into_iter().zip(records).map(answered).collect::<Option<_>>()?;
+    let calls = parts.into_iter().zip(records).filter_map(call).map(answered).collect::<Option<_>>()?;
     Some(Log { opening, answer, window: None, calls })
 }
 

@@ -6,5 +6,6 @@ pub mod demand_3;
 pub mod expected;
 pub mod host;
 pub mod log;
+pub mod places;
 pub mod stitching;
 pub mod told;

@@ -1,10 +1,10 @@
 //! Shrinking that knows what the bytes mean: a plan loses activities, nodes, transitions and states
-//! as a whole, a call list loses calls. What remains is shrunk as bytes.
+//! as a whole, a call list loses calls and questions. What remains is shrunk as bytes.
 
 use super::shrink::shrink;
-use crate::drive;
+use crate::drive::{self, Part};
 use crate::plan_file::{encode, read, Kind, Plan, Transition};
-use crate::run::{Call, Opening};
+use crate::run::Opening;
 use crate::timetable::split;
 
 /// How many plans one shrinking may try.
@@ -151,8 +151,8 @@ fn with_plan(opening: &Opening, plan: &Plan) -> Opening {
     Opening { plan: encode(plan), availabilities, ..opening.clone() }
 }
 
-fn without_calls(opening: &Opening, calls: Vec<Call>, fails: &mut impl FnMut(&[u8]) -> bool) -> Vec<Call> {
-    let mut best = calls;
+fn without_parts(opening: &Opening, parts: Vec<Part>, fails: &mut impl FnMut(&[u8]) -> bool) -> Vec<Part> {
+    let mut best = parts;
     let mut at = best.len();
     while at > 0 {
         at -= 1;
@@ -167,18 +167,18 @@ fn without_calls(opening: &Opening, calls: Vec<Call>, fails: &mut impl FnMut(&[u
 
 /// The smallest opening and call list found that still fails.
 pub fn smallest_call_list(input: &[u8], mut fails: impl FnMut(&[u8]) -> bool) -> Vec<u8> {
-    let Some((mut opening, calls)) = drive::decode(input) else { return shrink(input, fails) };
-    if !fails(&drive::encode(&opening, &calls)) {
+    let Some((mut opening, parts)) = drive::decode(input) else { return shrink(input, fails) };
+    if !fails(&drive::encode(&opening, &parts)) {
         return shrink(input, fails);
     }
-    let calls = without_calls(&opening, calls, &mut fails);
+    let parts = without_parts(&opening, parts, &mut fails);
     if let Ok(plan) = read(&opening.plan) {
-        let plan = shrink_plan(plan, |less| fails(&drive::encode(&with_plan(&opening, less), &calls)));
+        let plan = shrink_plan(plan, |less| fails(&drive::encode(&with_plan(&opening, less), &parts)));
         let smaller = with_plan(&opening, &plan);
-        if fails(&drive::encode(&smaller, &calls)) {
+        if fails(&drive::encode(&smaller, &parts)) {
             opening = smaller;
         }
     }
-    let calls = without_calls(&opening, calls, &mut fails);
-    drive::encode(&opening, &calls)
+    let parts = without_parts(&opening, parts, &mut fails);
+    drive::encode(&opening, &parts)
 }

@@ -113,7 +113,7 @@ pub fn call_list_of(random: &mut Random, host: Host) -> Vec<u8> {
     let opening = opening(random);
     let most = random.pick(&[20, 60, 60, 120]);
     let calls = calls(random, &opening, host, most);
-    let mut input = drive::encode(&opening, &calls);
+    let mut input = drive::encode_calls(&opening, &calls);
     if random.one_in(50) {
         input.truncate(random.below(input.len() + 1));
     }

@@ -10,6 +10,7 @@ pub mod made_up;
 pub mod openings;
 pub mod pairs;
 pub mod plans;
+pub mod questions;
 pub mod random;
 pub mod templates;
 

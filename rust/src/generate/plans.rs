@@ -228,3 +228,22 @@ pub fn wide_plan(first: usize, second: usize) -> Plan {
     plan.automaton = Automaton { states: state + 1, initial: 0, finals: 1 << state, transitions };
     plan
 }
+
+/// A plan whose first path has one event, and whose second path has a transition with so many actions
+/// for each of `sizes`, each at most 62: the first processes the event.
+pub fn loading_plan(sizes: &[usize]) -> Plan {
+    let action = (Kind::Action { number: 0, peripheral: 0 }, 60_000_000u32);
+    let mut plan = Plan {
+        resources: 1,
+        peripherals: vec![0],
+        events: vec![1],
+        activities: vec![dense_activity(0, &[(Kind::Event(0), 2_000)])],
+        ..Plan::default()
+    };
+    plan.activities.extend(sizes.iter().map(|&size| dense_activity(0, &vec![action; size])));
+    let last = plan.activities.len() as u8;
+    let mut transitions: Vec<Transition> = (0..last).map(|a| plain(a, a + 1, Some(a))).collect();
+    transitions[1].input = Some((0, 0));
+    plan.automaton = Automaton { states: last + 1, initial: 0, finals: 1 << last, transitions };
+    plan
+}

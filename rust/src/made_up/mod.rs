@@ -101,6 +101,16 @@ fn entry(entry: &Entry, out: &mut Vec<u8>) {
     out.extend(time.completion.to_le_bytes());
 }
 
+/// Each entry at its place; a free place is zeros.
+fn window(run: &Run, out: &mut Vec<u8>) {
+    let start = out.len();
+    for held in &run.window {
+        out.resize(start + held.place * BYTES_OF_ENTRY, 0);
+        entry(held, out);
+    }
+    out.resize(start + Run::WINDOW * BYTES_OF_ENTRY, 0);
+}
+
 fn stop(stop: Option<Stop>, out: &mut Vec<u8>) {
     let (position, node) = stop.and_then(|stop| stop.node).unwrap_or((0, 0));
     out.extend(stop.map_or([0, 0], |stop| [1, stop.number - 41]));
@@ -126,7 +136,7 @@ pub fn encode(run: &Run, calls: &[Call]) -> Vec<u8> {
     plan(&run.plan, &mut out);
     times(&mut out, 2, &[run.psi, run.slack]);
     progress(run, &mut out);
-    array(&mut out, Run::WINDOW, BYTES_OF_ENTRY, &run.window, entry);
+    window(run, &mut out);
     out.extend(run.last_reading.to_le_bytes());
     stop(run.stop, &mut out);
     array(&mut out, 2, BYTES_OF_CALL, calls, call);

@@ -117,11 +117,10 @@ impl Run {
 
     /// Completion (no outcome) or outcome of a node, 52 to 55 looked for in order.
     fn report(self, reading: u64, (position, node): (u32, u8), outcome: Option<u8>) -> (Reply, Run) {
-        let named = |e: &Entry| (e.time.position, e.time.node) == (position as u64, node);
-        let Some(place) = self.window.iter().position(named) else {
+        let Some(index) = self.index_of(position, node) else {
             return self.refused(52, reading);
         };
-        let entry = self.window[place];
+        let entry = self.window[index];
         let kind = self.plan.activities[entry.time.activity as usize][node as usize].kind;
         // A made-up entry may name a claim or a release, which neither report fits.
         let fits = matches!((kind, outcome), (Kind::Action { .. }, None) | (Kind::Event(_), Some(_)));
@@ -139,21 +138,24 @@ impl Run {
             (Kind::Event(event), Some(outcome)) if outcome >= self.plan.events[event as usize] => {
                 self.refused(55, reading)
             }
-            (Kind::Event(event), Some(outcome)) => self.accept_report(reading, place, Some((event, outcome))),
-            _ => self.accept_report(reading, place, None),
+            (Kind::Event(event), Some(outcome)) => self.accept_report(reading, index, Some((event, outcome))),
+            _ => self.accept_report(reading, index, None),
         }
     }
 
     /// "An accepted report is taken; if loading after it fails the answer is stopped, the report
     /// and any path loaded before still count". A completion loads nothing: a path is loaded "in the
     /// call that reports the awaited outcome".
-    fn accept_report(mut self, reading: u64, place: usize, told: Option<(u8, u8)>) -> (Reply, Run) {
+    fn accept_report(mut self, reading: u64, index: usize, told: Option<(u8, u8)>) -> (Reply, Run) {
         let before = broken(Broken::FailedReportForgotten).then(|| self.clone());
         self.last_reading = reading;
-        let entry = self.window[place];
+        let entry = self.window[index];
         if !broken(Broken::ReportedStillCounts) {
-            // The others keep their order: of two that are alike the first is taken.
-            self.window.remove(place);
+            // Its place is free before anything is loaded; the others keep theirs.
+            self.window.remove(index);
+        }
+        if broken(Broken::WindowClosesUp) {
+            self.window.iter_mut().filter(|e| e.place > entry.place).for_each(|e| e.place -= 1);
         }
         let loading = match told {
             Some((event, outcome)) => {

@@ -44,11 +44,13 @@ pub enum Reply {
     Stopped(Stop),
 }
 
-/// An entry of the window: a loaded action or event node not yet reported complete.
+/// An entry of the window: a loaded action or event node not yet reported complete, at its place of
+/// the 512.
 #[derive(Clone, Copy, Debug, PartialEq, Eq)]
 pub struct Entry {
     pub time: NodeTime,
     pub started: bool,
+    pub place: usize,
 }
 
 /// "An opening gives a plan, Ψ, a slack of 1 to 1,000,000, and one availability, in specified
@@ -73,6 +75,7 @@ pub struct Run {
     pub(crate) moment: Moment,
     /// Outcomes reported for instances not yet processed, by position and node.
     pub(crate) outcomes: BTreeMap<(u64, u8), u8>,
+    /// The places that are held, from the lowest on.
     pub(crate) window: Vec<Entry>,
     pub(crate) stop: Option<Stop>,
     pub(crate) last_reading: u64,
@@ -102,6 +105,17 @@ impl Run {
         let mut window = self.window.clone();
         window.sort_unstable_by_key(|entry| (entry.time.position, entry.time.node));
         window
+    }
+
+    /// "A node's identity is its position and its node number"; of two that are alike the one at the
+    /// lowest place is meant.
+    fn index_of(&self, position: u32, node: u8) -> Option<usize> {
+        self.window.iter().position(|e| (e.time.position, e.time.node) == (position as u64, node))
+    }
+
+    /// The place of a node, or 512 where the window holds no such node.
+    pub fn place_of(&self, position: u32, node: u8) -> usize {
+        self.index_of(position, node).map_or(Run::WINDOW, |index| self.window[index].place)
     }
 
     pub fn last_reading(&self) -> u64 {

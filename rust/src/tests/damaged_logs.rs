@@ -8,7 +8,7 @@ use crate::check::told::Told;
 use crate::compare::hits::Hits;
 use crate::compare::settings::{self, run_cases};
 use crate::compare::Failure;
-use crate::drive::decode;
+use crate::drive::{calls_among, decode};
 use crate::generate::{inputs, Random};
 use crate::plan_file::{Kind, Plan};
 use crate::run::{Reply, Request, Stop};
@@ -45,8 +45,8 @@ const DAMAGES: &[(&str, Claim, Damage)] = &[
 
 impl Sound {
     fn of(input: &[u8]) -> Result<Option<Sound>, String> {
-        let Some((opening, calls)) = decode(input) else { return Ok(None) };
-        let log = record(&opening, &calls)?;
+        let Some((opening, parts)) = decode(input) else { return Ok(None) };
+        let log = record(&opening, &calls_among(&parts))?;
         let (Ok(()), Ok(plan)) = (log.answer, judge(&opening.plan)) else { return Ok(None) };
         let judged = demand_3::judged(&plan, &log);
         if let Some(breach) = judged.breaches.first() {

@@ -5,7 +5,7 @@ use super::mutations::hush_broken_builds;
 use crate::check::claims::Claim;
 use crate::check::demand_3;
 use crate::check::log::played;
-use crate::drive::decode;
+use crate::drive::{calls_among, decode};
 use crate::generate::{inputs, Random};
 use crate::toggles::{of_the_run, with_broken, Broken};
 use crate::verdict::judge;
@@ -51,8 +51,8 @@ struct Noticed {
 fn broken_claims(list: u64) -> Vec<Claim> {
     let judged = || {
         let input = inputs::call_list(&mut Random::new(SEED + list));
-        let (opening, calls) = decode(&input)?;
-        let (log, _) = played(&opening, &calls);
+        let (opening, parts) = decode(&input)?;
+        let (log, _) = played(&opening, &calls_among(&parts));
         let plan = judge(&opening.plan).ok().filter(|_| log.answer.is_ok())?;
         Some(demand_3::judged(&plan, &log).breaches.iter().map(|breach| breach.claim).collect())
     };

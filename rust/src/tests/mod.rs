@@ -9,6 +9,7 @@ mod graph_timetable;
 mod host_side;
 mod made_up;
 mod mutations;
+mod places;
 mod runs;
 mod stitching;
 mod times;
@@ -39,6 +40,7 @@ pub const CHECKS: &[(&str, Check)] = &[
     ("timetables", times::timetables_agree),
     ("call lists", runs::call_lists),
     ("pairs of runs", stitching::pairs_of_runs),
+    ("places", places::places_kept),
 ];
 
 /// Judges the table of hits, unless the cases were chosen by hand.

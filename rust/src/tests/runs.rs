@@ -8,7 +8,7 @@ use crate::compare::hits::{wanted_of_runs, Hits};
 use crate::compare::settings::{self, run_cases};
 use crate::compare::smaller::smallest_call_list;
 use crate::compare::Failure;
-use crate::drive::{decode, drive, RECORD};
+use crate::drive::{calls_among, decode, drive, RECORD};
 use crate::generate::hosts::{calls, Host, HOSTS};
 use crate::generate::openings::opening;
 use crate::generate::{inputs, Random};
@@ -26,8 +26,8 @@ struct Checked {
 
 /// Drives an input and checks its log.
 fn checked(input: &[u8]) -> Result<Option<Checked>, String> {
-    let Some((opening, calls)) = decode(input) else { return Ok(None) };
-    let log = record(&opening, &calls)?;
+    let Some((opening, parts)) = decode(input) else { return Ok(None) };
+    let log = record(&opening, &calls_among(&parts))?;
     let paths = expected::check(&log)?;
     let host = match log.answer {
         Ok(()) => Some(demand_3_holds(&log)?),

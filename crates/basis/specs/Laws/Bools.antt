@@ -28,5 +28,10 @@ pub by-test : {A : Type 0} (P : A → Type 0) (b : Bool) (x y : A) → (b ≡ tr
 by-test P true x y f g = f refl
 by-test P false x y f g = g refl
 
+-- and of two choices by one test
+pub by-same : {A B : Type 0} (P : A → B → Type 0) (b : Bool) (x y : A) (z u : B) → (b ≡ true → P x z) → (b ≡ false → P y u) → P (cond b x y) (cond b z u)
+by-same P true x y z u f g = f refl
+by-same P false x y z u f g = g refl
+
 pub by-cond : {A : Type 0} (P : A → Type 0) (b : Bool) (x y : A) → P x → P y → P (cond b x y)
 by-cond P b x y p q = by-test P b x y (λ e. p) (λ e. q)

@@ -12,11 +12,17 @@ use Rattle.run.specs.declared.Call.{Call}
 use Rattle.run.specs.declared.Reply.{Reply}
 use Rattle.run.specs.declared.Answer.{Answer}
 use Rattle.run_checks.specs.declared.Refusal.{Refusal}
+use Rattle.run.specs.declared.Opening.{Opening}
+use Rattle.run.specs.Opening.{openOf}
 use Rattle.run.specs.Calls.{callOf, readingOf}
 use Rattle.demands_log.specs.Log.{Log, said, reading, StoppedIn, StoppedBy}
 use Rattle.demands_log.specs.Drive.{drive}
+use Rattle.demands_log.specs.Laws.Kept.{plan-kept}
 use Rattle.demands_log.specs.Laws.Latest.{Right, reading-last}
 use Rattle.demands_theory.specs.Laws.Replies.{same-stop}
+use Rattle.demands_run.specs.Laws.Theorem as Works
+use Rattle.demands.specs.Accepted.{Bytes}
+use Rattle.demands.specs.Demand3.{drivenBy}
 use Rattle.demands.specs.InLimits.{RunInLimits}
 use Rattle.demands.specs.Laws.InLimitsIff.{in-limits}
 use Rattle.demands.specs.Laws.InLimitsKept.{limits-kept}
@@ -87,7 +93,7 @@ module _ (log : Log) (run : Run) (a : After log run) (c : Call) where
     goes : After (said c (callOf run c .reply) ∷ log) (callOf run c .run)
     goes = by-reply (callOf run c .reply) (callOf run c .run) (limits-kept run c (a .limits)) (reading-last run c going) (λ f e. refused-unchanged run c f e)
 
-  after-call : After (said c (callOf run c .reply) ∷ log) (callOf run c .run)
+  pub after-call : After (said c (callOf run c .reply) ∷ log) (callOf run c .run)
   after-call = go (run .halt) refl
     where
       go : (h : Halt) → run .halt ≡ h → After (said c (callOf run c .reply) ∷ log) (callOf run c .run)
@@ -97,3 +103,14 @@ module _ (log : Log) (run : Run) (a : After log run) (c : Call) where
 pub after-calls : (cs : List Call) (log : Log) (run : Run) → After log run → After (drive log run cs .log) (drive log run cs .run)
 after-calls [] log run a = a
 after-calls (c ∷ cs) log run a = after-calls cs _ _ (after-call log run a c)
+
+-- after an opening that is accepted, and any calls
+pub after-opening : (bytes : List ℕ) → Bytes bytes → (psi : Clock) (slack : ℕ) (ts : List ℕ) → openOf bytes psi slack ts .opening ≡ Opening.Opened → (cs : List Call)
+    → After (drivenBy bytes psi slack ts cs .log) (drivenBy bytes psi slack ts cs .run)
+after-opening bytes are psi slack ts opened cs =
+    let k = plan-kept bytes psi slack ts opened in
+    after-calls cs [] (openOf bytes psi slack ts .run) record {
+      limits = in-limits (openOf bytes psi slack ts .run) .0 (Works.in-limits bytes are psi slack ts opened []);
+      last = λ n. k .last;
+      halted = λ s. (λ q. going-stopped (sym (k .going) ∙ q), λ q. absurd q);
+    }

@@ -1,7 +1,7 @@
 -- `answers-by-log`: from `replies`, demand 3, and how loading goes over words.
 use mathlib.Core.Path.{_≡_, refl, sym, ap, _∙_, subst}
 use mathlib.Core.Bool.{true, false}
-use mathlib.Core.List.{List, [], _∷_}
+use mathlib.Core.List.{List, _∷_}
 use mathlib.Core.Logic.{⊎-elim, _↔_}
 use Prim.Native.Nat.{ℕ, _+_, _≤_, _<_}
 use native.Mathlib.Omega.{arith}
@@ -55,7 +55,7 @@ use Rattle.demands.specs.Laws.ConditionsHold.{replies}
 use Rattle.demands.specs.ByLog.{Known, Refuses, Asks, After, Halts, Takes as Taken, Answered}
 use Rattle.demands.specs.Laws.ByLogPlaces.{known, of-word}
 use Rattle.demands.specs.Laws.ByLogConditions.{stopped-by, stopped-in, same-condition}
-use Rattle.demands.specs.Laws.AfterCalls.{going-stopped, after-calls}
+use Rattle.demands.specs.Laws.AfterCalls.{after-opening}
 use Rattle.demands.specs.Laws.AfterCalls as AfterCalls
 use Rattle.demands.specs.AnswersByLog.{StatementAnswersByLog}
 
@@ -155,13 +155,7 @@ module _ (bytes : List ℕ) (are : Bytes bytes) (psi : Clock) (slack : ℕ) (ts 
   Goal p = TheWord p log is → (S C : Ident → ℕ) → Timing (wholeOf p is) available S C → (c : Call) (r : Reply) → (callOf run c .reply ≡ r) ↔ Answered (knownBy p (psi .0) slack S C) c r
 
   after : AfterCalls.After log run
-  after =
-      let k = plan-kept bytes psi slack ts opened in
-      after-calls cs [] (openOf bytes psi slack ts .run) record {
-        limits = in-limits (openOf bytes psi slack ts .run) .0 (Works.in-limits bytes are psi slack ts opened []);
-        last = λ n. k .last;
-        halted = λ s. (λ q. going-stopped (sym (k .going) ∙ q), λ q. absurd q);
-      }
+  after = after-opening bytes are psi slack ts opened cs
 
   keeps : Keeps (openOf bytes psi slack ts .run .plan) psi slack run
   keeps = Works.kept bytes are psi slack ts opened cs

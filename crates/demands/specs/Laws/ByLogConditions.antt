@@ -10,9 +10,8 @@ use Rattle.plan.specs.Plan.{isFinal}
 use Rattle.plan.specs.declared.Kind.{Kind}
 use Rattle.times_combined.specs.Combined.{Ident, Is}
 use Rattle.times_combined.specs.Paths.{Follows, Lawful}
-use Rattle.run_window.specs.Window.{isHeld, isFree, startsBefore}
-use Rattle.run_window.specs.Laws.Tests.{free-or-held, unfree-held}
-use Rattle.run_window.specs.declared.Phase.{Phase}
+use Rattle.run_window.specs.Window.{isHeld, startsBefore}
+use Rattle.run_window.specs.Laws.Tests.{free-true, free-or-held, unfree-held}
 use Rattle.run.specs.declared.Run.{Run}
 use Rattle.run_checks.specs.declared.Halt.{Halt}
 use Rattle.run_checks.specs.declared.Stop.{Stop}
@@ -43,11 +42,6 @@ stopped-by (y ∷ log) (inr q) = let r = stopped-by log q in (r .0, inr (r .1))
 pub stopped-in : (log : Log) (s : Stop) → StoppedBy log s → StoppedIn log
 stopped-in (y ∷ log) s (inl q) = inl (subst Stops (sym q) tt)
 stopped-in (y ∷ log) s (inr q) = inr (stopped-in log s q)
-
-free-phase : (s : Phase) → isFree s ≡ true → s ≡ Phase.Free
-free-phase Phase.Free e = refl
-free-phase Phase.Loaded e = absurd (true≢false (sym e))
-free-phase Phase.Started e = absurd (true≢false (sym e))
 
 module _ (run : Run) (log : Log) (is : List ℕ) (S C : Ident → ℕ) (available : ℕ → ℕ) (d : Demand3 (run .plan) (run .psi .0) (run .slack) available is S C (record { log = log; run = run })) (nf : FailedIn log → ⊥)
     (lawful : Lawful (run .plan)) (path : Follows (run .plan) (run .plan .automaton .initial) is (stateAfter (run .plan) is))
@@ -189,7 +183,7 @@ module _ (run : Run) (log : Log) (is : List ℕ) (S C : Ident → ℕ) (availabl
   ended-from : Ended K → Places.Ended run
   ended-from e = record {
     final = subst (λ (s : ℕ). isFinal (run .plan .automaton) s ≡ true) (sym place) (e .final);
-    empty = λ i. ⊎-elim (free-phase (entryAt run i .phase)) (λ n. absurd (e .empty (nodeOf run log is S C available d nf i) (stands-at run log is S C available d nf i (unfree-held (entryAt run i .phase) n)))) (free-or-held (entryAt run i .phase));
+    empty = λ i. ⊎-elim (free-true (entryAt run i .phase)) (λ n. absurd (e .empty (nodeOf run log is S C available d nf i) (stands-at run log is S C available d nf i (unfree-held (entryAt run i .phase) n)))) (free-or-held (entryAt run i .phase));
   }
 
   asks-to : (c : Call) (r : Reply) → Places.Asks run c r → Asks K c r

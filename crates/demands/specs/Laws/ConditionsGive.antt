@@ -3,13 +3,14 @@ use mathlib.Core.Path.{_≡_, refl, sym, _∙_, ap}
 use mathlib.Core.Bool.{Bool, true, false, cond, true≢false}
 use Prim.Native.Nat.{ℕ, _≤_, _<_}
 use borrow.Author.Tests.{lt-ltb, le-ltb}
+use lib.ListN.{set}
 use Rattle.basis.specs.Laws.Tells.{is-false}
 use Rattle.time.specs.declared.Clock.{Clock}
 use Rattle.plan.specs.Plan.{outcomesOf}
 use Rattle.plan.specs.declared.Kind.{Kind}
 use Rattle.run_window.specs.declared.Entry.{Entry}
 use Rattle.run_window.specs.declared.Phase.{Phase}
-use Rattle.run_window.specs.Window.{isFree, isOverdue, isLate, isDue, isNode, startsBefore, endsBefore}
+use Rattle.run_window.specs.Window.{startedOf, isFree, isOverdue, isLate, isDue, isNode, startsBefore, endsBefore}
 use Rattle.run_window.specs.Laws.Order.{starts-order, ends-order}
 use Rattle.run_checks.specs.Order.{timelyBy}
 use Rattle.run.specs.declared.Run.{Run}
@@ -21,7 +22,7 @@ use Rattle.run.specs.declared.Answer.{Answer}
 use Rattle.run_checks.specs.declared.Refusal.{Refusal}
 use Rattle.run_loading.specs.declared.Failure.{Failure}
 use Rattle.run_outcomes.specs.Told.{toldOf}
-use Rattle.run.specs.Calls.{answer, refuse, stops, readingOf, isDone, asked, kindOf, reported, completedBy, completed, cleared, afterLoading, learnt, learnsBy, learns, timely, called, askOf, completionOf, outcomeOf, callOf}
+use Rattle.run.specs.Calls.{answer, refuse, heard, stops, readingOf, isDone, asked, kindOf, reported, completedBy, completed, cleared, afterLoading, learnt, learnsBy, learns, timely, called, askOf, completionOf, outcomeOf, callOf}
 use Rattle.run.specs.Inner.Calls.{replyAfter}
 use Rattle.demands.specs.Conditions.{entryAt, OverdueAt, LateAt, DueAt, NodeAt, NamedAt, IsReport, RightKind, IsAction, IsEvent, Nowhere, FirstOf, Going, Rises, NotOverdue, Timely, Reports, Learns, loadingAfter, Ended, Refuses, Halts, Asks, Takes, Condition}
 use Rattle.demands.specs.InLimits.{RunInLimits}
@@ -35,7 +36,7 @@ replyOf a = a .reply
 -- ---- the order of checks
 
 -- what a call does once the checks up to 41 are passed
-abbrev passed : Run → Call → Answer
+abbrev pub passed : Run → Call → Answer
 passed run (Call.Ask t) = asked run t
 passed run (Call.Completion t p n) = completed run t p n
 passed run (Call.Outcome t p n o) = learns run t p n o
@@ -82,30 +83,47 @@ module _ (run : Run) (t : Clock) (go : Answer) where
         none-place run (isLate (run .psi) (run .slack) t) (LateAt run t) (late-places run t) startsBefore starts-order (h .none),
       )
 
+-- ---- the whole answer: of 42 and 41, and of a timely call
+
+module _ (run : Run) (c : Call) where
+  going-call : Going run → callOf run c ≡ timely run (readingOf c) (passed run c)
+  going-call g = call-order run c ∙ called-going run (readingOf c) (passed run c) g
+
+  pub overdue-call : (i : ℕ) → Rises run (readingOf c) → FirstOf run (OverdueAt run (readingOf c)) endsBefore i
+      → callOf run c ≡ stops run (readingOf c) (Stop.Overdue (entryAt run i .position) (entryAt run i .node))
+  overdue-call i r f = going-call (r .going) ∙ timely-overdue run (readingOf c) (passed run c) i r f
+
+  pub late-call : (i : ℕ) → NotOverdue run (readingOf c) → FirstOf run (LateAt run (readingOf c)) startsBefore i
+      → callOf run c ≡ stops run (readingOf c) (Stop.Late (entryAt run i .position) (entryAt run i .node))
+  late-call i h f = going-call (h .rises .going) ∙ timely-late run (readingOf c) (passed run c) i h f
+
+  pub timely-call : Timely run (readingOf c) → callOf run c ≡ passed run c
+  timely-call h = going-call (h .not-overdue .rises .going) ∙ timely-goes run (readingOf c) (passed run c) h
+
 -- the reply of a timely call
 at-call : (run : Run) (c : Call) (r : Reply) → Timely run (readingOf c) → passed run c .reply ≡ r → callOf run c .reply ≡ r
-at-call run c r h q =
-    ap replyOf (call-order run c ∙ (called-going run (readingOf c) (passed run c) (h .not-overdue .rises .going) ∙ timely-goes run (readingOf c) (passed run c) h)) ∙ q
+at-call run c r h q = ap replyOf (timely-call run c h) ∙ q
 
 -- ---- ask
 
 module _ (run : Run) (t : Clock) where
-  asked-starts : (i : ℕ) → FirstOf run (DueAt run t) startsBefore i → asked run t .reply ≡ Reply.Start (entryAt run i .position) (entryAt run i .activity) (entryAt run i .node)
+  pub asked-starts : (i : ℕ) → FirstOf run (DueAt run t) startsBefore i
+      → asked run t ≡ answer (Reply.Start (entryAt run i .position) (entryAt run i .activity) (entryAt run i .node)) (heard run t Halt.Going (run .progress) (set (run .window) i (startedOf (entryAt run i))))
   unfolding asked
   asked-starts i f = rw (first-place run (isDue (run .psi) t) (DueAt run t) (due-places run t) startsBefore starts-order i f)
 
-  asked-nothing : Nowhere (DueAt run t) → asked run t .reply ≡ cond (isDone run) Reply.Done Reply.Wait
+  pub asked-nothing : Nowhere (DueAt run t) → asked run t ≡ answer (cond (isDone run) Reply.Done Reply.Wait) (heard run t Halt.Going (run .progress) (run .window))
   unfolding asked
   asked-nothing n = rw (none-place run (isDue (run .psi) t) (DueAt run t) (due-places run t) startsBefore starts-order n)
 
-  none-due : Ended run → Nowhere (DueAt run t)
+  pub none-due : Ended run → Nowhere (DueAt run t)
   none-due e i h = true≢false (ap isFree (sym (e .empty i) ∙ h .unstarted))
 
   asked-done : Ended run → asked run t .reply ≡ Reply.Done
-  asked-done e = asked-nothing (none-due e) ∙ rw (ended-done run e)
+  asked-done e = ap replyOf (asked-nothing (none-due e)) ∙ rw (ended-done run e)
 
   asked-waits : Nowhere (DueAt run t) → (Ended run → ⊥) → asked run t .reply ≡ Reply.Wait
-  asked-waits n e = asked-nothing n ∙ go (isDone run) refl
+  asked-waits n e = ap replyOf (asked-nothing n) ∙ go (isDone run) refl
     where
       go : (b : Bool) → isDone run ≡ b → cond b Reply.Done Reply.Wait ≡ Reply.Wait
       go true q = absurd (e (done-ended run q))
@@ -136,7 +154,7 @@ not-started run (Call.Completion t p n) i h s = reported-loaded run p n _ i h s
 not-started run (Call.Outcome t p n o) i h s = reported-loaded run p n _ i h s
 
 -- what a report of a started node comes to
-abbrev accepted : Run → Call → ℕ → Answer
+abbrev pub accepted : Run → Call → ℕ → Answer
 accepted run (Call.Ask t) i = asked run t
 accepted run (Call.Completion t p n) i = completedBy run t i (kindOf run (entryAt run i))
 accepted run (Call.Outcome t p n o) i = learnsBy run t i (entryAt run i) o (kindOf run (entryAt run i))
@@ -147,11 +165,14 @@ started-node run (Call.Ask t) i r = refl
 started-node run (Call.Completion t p n) i r = reported-started run p n _ i (r .named) (r .started)
 started-node run (Call.Outcome t p n o) i r = reported-started run p n _ i (r .named) (r .started)
 
+pub report-call : (run : Run) (c : Call) (i : ℕ) → Reports run c i → callOf run c ≡ accepted run c i
+report-call run c i h = timely-call run c (h .timely) ∙ started-node run c i h
+
 -- the reply of a timely report of a started node
 at-report : (run : Run) (c : Call) (i : ℕ) (r : Reply) → Reports run c i → accepted run c i .reply ≡ r → callOf run c .reply ≡ r
-at-report run c i r h q = at-call run c r (h .timely) (ap replyOf (started-node run c i h) ∙ q)
+at-report run c i r h q = ap replyOf (report-call run c i h) ∙ q
 
-completed-action : (run : Run) (t : Clock) (i : ℕ) (k : Kind) → IsAction k → completedBy run t i k .reply ≡ Reply.Taken
+pub completed-action : (run : Run) (t : Clock) (i : ℕ) (k : Kind) → IsAction k → completedBy run t i k ≡ answer Reply.Taken (cleared run t i (run .progress))
 completed-action run t i (Kind.Action a x) h = refl
 completed-action run t i (Kind.Claim r) h = absurd h
 completed-action run t i (Kind.Release r) h = absurd h
@@ -189,17 +210,18 @@ learns-event : (run : Run) (t : Clock) (o i e : ℕ) → kindOf run (entryAt run
     → learnsBy run t i (entryAt run i) o (kindOf run (entryAt run i)) ≡ learnt (cleared run t i (toldOf (run .progress) e (entryAt run i) o))
 learns-event run t o i e k l = rw (k, lt-ltb o (outcomesOf (run .plan) e) l)
 
+pub outcome-call : (run : Run) (t : Clock) (p n o i e : ℕ) → Learns run t p n o i e → callOf run (Call.Outcome t p n o) ≡ learnt (cleared run t i (toldOf (run .progress) e (entryAt run i) o))
+outcome-call run t p n o i e l = report-call run (Call.Outcome t p n o) i (l .reports) ∙ learns-event run t o i e (l .event) (l .has)
+
 at-loading : (run : Run) (t : Clock) (p n o i e : ℕ) (f : Failure) → Learns run t p n o i e → loadingAfter run t o i e ≡ f → callOf run (Call.Outcome t p n o) .reply ≡ replyAfter f
 at-loading run t p n o i e f l q =
-    at-report run (Call.Outcome t p n o) i (replyAfter f) (l .reports)
-    (ap replyOf (learns-event run t o i e (l .event) (l .has)) ∙ (after-loading (loadingAfter run t o i e) _ ∙ ap replyAfter q))
+    ap replyOf (outcome-call run t p n o i e l) ∙ (after-loading (loadingAfter run t o i e) _ ∙ ap replyAfter q)
 
 -- ---- every reply
 
 gives-refusal : (run : Run) (c : Call) (f : Refusal) → Refuses run c f → callOf run c .reply ≡ Reply.Refused f
 gives-refusal run c _ (Refuses.number50 l) = ap replyOf (call-order run c ∙ called-out run (readingOf c) (passed run c) l)
-gives-refusal run c _ (Refuses.number51 g l) =
-    ap replyOf (call-order run c ∙ (called-going run (readingOf c) (passed run c) g ∙ timely-below run (readingOf c) (passed run c) l))
+gives-refusal run c _ (Refuses.number51 g l) = ap replyOf (going-call run c g ∙ timely-below run (readingOf c) (passed run c) l)
 gives-refusal run c _ (Refuses.number52 h r m) = at-call run c _ h (ap replyOf (not-node run c r m))
 gives-refusal run c _ (Refuses.number53 i h f s) = at-call run c _ h (ap replyOf (not-started run c i f s))
 gives-refusal run c _ (Refuses.number54 i r k) = at-report run c i _ r (other-kind run c i r k)
@@ -207,20 +229,18 @@ gives-refusal run _ _ (Refuses.number55 {t} {p} {n} {o} i e r k l) = at-report r
 
 gives-stop : (run : Run) (c : Call) (s : Stop) → Halts run c s → callOf run c .reply ≡ Reply.Stopped s
 gives-stop run c s (Halts.kept l h) = ap replyOf (call-order run c ∙ called-kept run (readingOf c) (passed run c) s l h)
-gives-stop run c _ (Halts.number42 i r f) =
-    ap replyOf (call-order run c ∙ (called-going run (readingOf c) (passed run c) (r .going) ∙ timely-overdue run (readingOf c) (passed run c) i r f))
-gives-stop run c _ (Halts.number41 i h f) =
-    ap replyOf (call-order run c ∙ (called-going run (readingOf c) (passed run c) (h .rises .going) ∙ timely-late run (readingOf c) (passed run c) i h f))
+gives-stop run c _ (Halts.number42 i r f) = ap replyOf (overdue-call run c i r f)
+gives-stop run c _ (Halts.number41 i h f) = ap replyOf (late-call run c i h f)
 gives-stop run _ _ (Halts.number43 {t} {p} {n} {o} i e l q) = at-loading run t p n o i e Failure.Full l q
 gives-stop run _ _ (Halts.number44 {t} {p} {n} {o} i e l q) = at-loading run t p n o i e Failure.Beyond l q
 
 gives-asked : (run : Run) (c : Call) (r : Reply) → Asks run c r → callOf run c .reply ≡ r
-gives-asked run _ _ (Asks.starts {t} i h f) = at-call run (Call.Ask t) _ h (asked-starts run t i f)
+gives-asked run _ _ (Asks.starts {t} i h f) = at-call run (Call.Ask t) _ h (ap replyOf (asked-starts run t i f))
 gives-asked run _ _ (Asks.done {t} h e) = at-call run (Call.Ask t) _ h (asked-done run t e)
 gives-asked run _ _ (Asks.waits {t} h n e) = at-call run (Call.Ask t) _ h (asked-waits run t n e)
 
 gives-taken : (run : Run) (c : Call) → Takes run c → callOf run c .reply ≡ Reply.Taken
-gives-taken run _ (Takes.completion {t} {p} {n} i r k) = at-report run (Call.Completion t p n) i _ r (completed-action run t i (kindOf run (entryAt run i)) k)
+gives-taken run _ (Takes.completion {t} {p} {n} i r k) = at-report run (Call.Completion t p n) i _ r (ap replyOf (completed-action run t i (kindOf run (entryAt run i)) k))
 gives-taken run _ (Takes.outcome {t} {p} {n} {o} i e l q) = at-loading run t p n o i e Failure.None l q
 
 pub gives : (run : Run) (c : Call) (r : Reply) → Condition run c r → callOf run c .reply ≡ r

@@ -19,9 +19,9 @@ use Rattle.run_path.specs.Path.{Path, takenBy, entriesBy, pathFrom, longestPath
 use Rattle.run.specs.declared.Run.{Run}
 use Rattle.run_loading.specs.declared.Failure.{Failure}
 use Rattle.run.specs.Loading.{Loading}
-use Rattle.run_outcomes.specs.Way.{wayOn}
 use Rattle.demands_log.specs.Laws.ByCases.{by-way}
 use Rattle.demands_run.specs.Laws.Crosses.{Crosses, tells-crosses}
+use Rattle.demands.specs.Places.{wayFrom}
 use Rattle.demands.specs.Laws.OpeningTests.{is-true}
 use Rattle.plan.specs.declared.Plan.{Plan}
 use Rattle.times.specs.declared.Progress.{Progress}
@@ -66,11 +66,6 @@ tells-path p (suc k) (Next.Goes t) g =
 
 -- ---- loading
 
--- "the next is loaded in the call that reports the awaited outcome, and further ones while their outcomes are already
--- reported": the transition that begins the next path, if its outcome is reported
-abbrev pub wayOf : Run → Next
-wayOf run = wayOn (run .plan .automaton) (run .progress) (nextOf (run .plan .automaton) (run .progress .state))
-
 -- the path that begins with transition t
 abbrev pub pathBy : Run → ℕ → Path
 pathBy run t = pathFrom (run .plan) longestPath (Next.Goes t) (run .progress)
@@ -85,9 +80,9 @@ pub record HasRoom (run : Run) (t : ℕ) : Type 0 where
 
 -- of at most k paths one fails, and those before it are loaded
 pub data Fails : ℕ → Run → Failure → Type 0 where
-  number44 : {k : ℕ} {run : Run} (t : ℕ) → wayOf run ≡ Next.Goes t → Crossed run t → Fails (suc k) run Failure.Beyond
-  number43 : {k : ℕ} {run : Run} (t : ℕ) → wayOf run ≡ Next.Goes t → (Crossed run t → ⊥) → vacancies (run .window) < length (pathBy run t .entries) → Fails (suc k) run Failure.Full
-  later : {k : ℕ} {run : Run} {f : Failure} (t : ℕ) → wayOf run ≡ Next.Goes t → HasRoom run t → Fails k (withPath run (pathBy run t)) f → Fails (suc k) run f
+  number44 : {k : ℕ} {run : Run} (t : ℕ) → wayFrom run ≡ Next.Goes t → Crossed run t → Fails (suc k) run Failure.Beyond
+  number43 : {k : ℕ} {run : Run} (t : ℕ) → wayFrom run ≡ Next.Goes t → (Crossed run t → ⊥) → vacancies (run .window) < length (pathBy run t .entries) → Fails (suc k) run Failure.Full
+  later : {k : ℕ} {run : Run} {f : Failure} (t : ℕ) → wayFrom run ≡ Next.Goes t → HasRoom run t → Fails k (withPath run (pathBy run t)) f → Fails (suc k) run f
 
 -- a failure, or none
 abbrev pub FailsOrNot : ℕ → Run → Failure → Type 0
@@ -103,7 +98,7 @@ tells run t = tells-path (run .plan) longestPath (Next.Goes t) (run .progress)
 record Comes (k : ℕ) (run : Run) (l : Loading) : Type 0 where
   comes : FailsOrNot k run (l .failure)
 
-comes-later : (k : ℕ) (run : Run) (t : ℕ) → wayOf run ≡ Next.Goes t → HasRoom run t → (f : Failure) → FailsOrNot k (withPath run (pathBy run t)) f → FailsOrNot (suc k) run f
+comes-later : (k : ℕ) (run : Run) (t : ℕ) → wayFrom run ≡ Next.Goes t → HasRoom run t → (f : Failure) → FailsOrNot k (withPath run (pathBy run t)) f → FailsOrNot (suc k) run f
 comes-later k run t w h Failure.None c = tt
 comes-later k run t w h Failure.Full c = Fails.later t w h c
 comes-later k run t w h Failure.Beyond c = Fails.later t w h c
@@ -111,7 +106,7 @@ comes-later k run t w h Failure.Beyond c = Fails.later t w h c
 record ComesOn (k : ℕ) (run : Run) (m : Run → Loading) (l : Loading) : Type 0 where
   comes : Comes k run (onLoading l m)
 
-comes-on : (k : ℕ) (run : Run) (t : ℕ) → wayOf run ≡ Next.Goes t → ((next : Run) → Comes k next (further k next)) → ComesOn (suc k) run (further k) (loadPath run (pathBy run t))
+comes-on : (k : ℕ) (run : Run) (t : ℕ) → wayFrom run ≡ Next.Goes t → ((next : Run) → Comes k next (further k next)) → ComesOn (suc k) run (further k) (loadPath run (pathBy run t))
 comes-on k run t w next =
     by-test (ComesOn (suc k) run (further k)) (pathBy run t .beyond) _ _ (λ b. record { comes = record { comes = Fails.number44 t w (told-true (tells run t) b) } })
     (λ b. by-test (ComesOn (suc k) run (further k)) (ltb (vacancies (run .window)) (length (pathBy run t .entries))) _ _
@@ -121,7 +116,7 @@ comes-on k run t w next =
 comes : (k : ℕ) (run : Run) → Comes k run (further k run)
 unfolding further load
 comes zero run = record { comes = tt }
-comes (suc k) run = by-way (Comes (suc k) run) (wayOf run) _ _ (λ t w. comes-on k run t w (comes k) .comes) (λ n. record { comes = tt })
+comes (suc k) run = by-way (Comes (suc k) run) (wayFrom run) _ _ (λ t w. comes-on k run t w (comes k) .comes) (λ n. record { comes = tt })
 
 -- ---- a path that cannot be loaded makes the failure
 

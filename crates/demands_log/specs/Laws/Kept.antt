@@ -1,8 +1,10 @@
--- `plan-kept`: the opened run keeps the plan that its bytes hold, Ψ and the slack; an answer makes its reading the last one.
-use mathlib.Core.Path.{_≡_, refl, subst}
+-- `opened-begins`: an accepted opening has loaded the first path. `plan-kept`: its run keeps the plan that its bytes hold, Ψ and the
+-- slack; an answer makes its reading the last one.
+use mathlib.Core.Path.{_≡_, refl, sym, subst}
 use mathlib.Core.Bool.{_||_}
 use mathlib.Core.List.{List}
 use Prim.Native.Nat.{ℕ}
+use native.Mathlib.Omega.{arith}
 use lib.Dec.{ltb, eqb}
 use lib.ListN.{length}
 use Rattle.basis.specs.Laws.Bools.{by-cond}
@@ -22,10 +24,11 @@ use Rattle.run.specs.declared.Run.{Run}
 use Rattle.run_checks.specs.declared.Halt.{Halt}
 use Rattle.run.specs.declared.Opening.{Opening}
 use Rattle.run.specs.declared.Opened.{Opened}
+use Rattle.run.specs.declared.Unopened.{Unopened}
 use Rattle.run.specs.Loading.{Loading}
 use Rattle.run.specs.Limits.{slackInLimits}
 use Rattle.run.specs.Loading.{load, loadPath}
-use Rattle.run.specs.Opening.{openOf, openJudged, openPlan, firstLoaded, fresh}
+use Rattle.run.specs.Opening.{openOf, openJudged, openPlan, unopened, begin, firstLoaded, fresh}
 use Rattle.demands_log.specs.Kept.{Keeps}
 
 -- a run that is opened with them
@@ -55,29 +58,50 @@ module _ (p : Plan) (psi : Clock) (slack : ℕ) where
   unfolding load
   kept-load run next k = kept-path run (pathFrom (run .plan) longestPath next (run .progress)) k
 
-  kept-short : (r : Short) (f : ℕ → Opened) (z : Opened) → ((a : ℕ) → KeptOf p psi slack (f a)) → KeptOf p psi slack z → KeptOf p psi slack (onShort r f z)
-  kept-short Short.Nothing f z h q = q
-  kept-short (Short.Activity a) f z h q = h a
+-- ---- an opening that is accepted has loaded the first path
 
-  kept-plan : (ts : List ℕ) → KeptOf p psi slack (openPlan p psi slack ts)
+-- the run before its first path
+abbrev pub unbegun : Plan → Clock → ℕ → List ℕ → Run
+unbegun p psi slack ts = fresh p psi slack (atFirst (availabilities ts) (p .automaton .initial))
+
+record Begins (p : Plan) (psi : Clock) (slack : ℕ) (ts : List ℕ) (o : Opened) : Type 0 where
+  begins : o .opening ≡ Opening.Opened → o ≡ begin (unbegun p psi slack ts)
+
+module _ (p : Plan) (psi : Clock) (slack : ℕ) (ts : List ℕ) where
+  refused : (u : Unopened) → Begins p psi slack ts (unopened u)
+  refused u = record { begins = λ e. absurd (let z : _≡_ {A = ℕ} 0 1 = cc in omega arith) }
+
+  begins-short : (r : Short) (f : ℕ → Opened) (z : Opened) → ((a : ℕ) → Begins p psi slack ts (f a)) → Begins p psi slack ts z → Begins p psi slack ts (onShort r f z)
+  begins-short Short.Nothing f z h q = q
+  begins-short (Short.Activity a) f z h q = h a
+
+  begins-plan : Begins p psi slack ts (openPlan p psi slack ts)
   unfolding openPlan
-  kept-plan ts =
-      by-cond (KeptOf p psi slack) (eqb (length ts) (p .resources)) _ _
-      (by-cond (KeptOf p psi slack) (ltb horizon (psi .0) || anyAbove ts) _ _ (record { kept = tt })
-      (by-cond (KeptOf p psi slack) (slackInLimits slack) _ _
-      (kept-short (shortFrom p slack 0 (p .activities)) _ _ (λ a. record { kept = tt })
-      (kept-load (fresh p psi slack (atFirst (availabilities ts) (p .automaton .initial))) (nextOf (p .automaton) (p .automaton .initial)) (record { keeps = record { same-plan = refl; same-psi = refl; same-slack = refl }; last = refl; going = refl }) .kept))
-      (record { kept = tt })))
-      (record { kept = tt })
+  begins-plan =
+      by-cond (Begins p psi slack ts) (eqb (length ts) (p .resources)) _ _
+      (by-cond (Begins p psi slack ts) (ltb horizon (psi .0) || anyAbove ts) _ _ (refused Unopened.Time)
+      (by-cond (Begins p psi slack ts) (slackInLimits slack) _ _
+      (begins-short (shortFrom p slack 0 (p .activities)) _ _ (λ a. refused (Unopened.Short a)) (record { begins = λ e. refl }))
+      (refused Unopened.Slack)))
+      (refused Unopened.Availabilities)
 
-  kept-judged : (v : Verdict) (ts : List ℕ) → KeptOf p psi slack (openJudged v p psi slack ts)
-  kept-judged Verdict.Accepted ts = kept-plan ts
-  kept-judged (Verdict.Refused f place) ts = record { kept = tt }
+  begins-judged : (v : Verdict) → Begins p psi slack ts (openJudged v p psi slack ts)
+  begins-judged Verdict.Accepted = begins-plan
+  begins-judged (Verdict.Refused f place) = refused (Unopened.Plan f place)
 
-kept-open : (bytes : List ℕ) (psi : Clock) (slack : ℕ) (ts : List ℕ) → KeptOf (judgeOf bytes .plan) psi slack (openOf bytes psi slack ts)
-unfolding openOf
-kept-open bytes psi slack ts = kept-judged (judgeOf bytes .plan) psi slack (judgeOf bytes .verdict) ts
+module _ (bytes : List ℕ) (psi : Clock) (slack : ℕ) (ts : List ℕ) (opened : openOf bytes psi slack ts .opening ≡ Opening.Opened) where
+  pub opened-begins : openOf bytes psi slack ts ≡ begin (unbegun (judgeOf bytes .plan) psi slack ts)
+  unfolding openOf
+  opened-begins = begins-judged (judgeOf bytes .plan) psi slack ts (judgeOf bytes .verdict) .begins opened
 
--- "the run keeps it"
-pub plan-kept : (bytes : List ℕ) (psi : Clock) (slack : ℕ) (ts : List ℕ) → openOf bytes psi slack ts .opening ≡ Opening.Opened → Opens (judgeOf bytes .plan) psi slack (openOf bytes psi slack ts .run)
-plan-kept bytes psi slack ts e = subst (λ (o : Opening). Kept (judgeOf bytes .plan) psi slack o (openOf bytes psi slack ts .run)) e (kept-open bytes psi slack ts .kept)
+  -- "the run keeps it"
+  pub plan-kept : Opens (judgeOf bytes .plan) psi slack (openOf bytes psi slack ts .run)
+  plan-kept = subst (λ (o : Opening). Kept (judgeOf bytes .plan) psi slack o (openOf bytes psi slack ts .run)) opened (first .kept)
+    where
+      p : Plan
+      p = judgeOf bytes .plan
+
+      first : KeptOf p psi slack (openOf bytes psi slack ts)
+      first =
+          subst (KeptOf p psi slack) (sym opened-begins)
+          (kept-load p psi slack (unbegun p psi slack ts) (nextOf (p .automaton) (p .automaton .initial)) (record { keeps = record { same-plan = refl; same-psi = refl; same-slack = refl }; last = refl; going = refl }) .kept)

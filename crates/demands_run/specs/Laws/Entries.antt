@@ -59,10 +59,10 @@ module _ (position a : ℕ) (s : Schedule) where
       let u = ap (λ (e : Entry). e .node) (b .entry) in
       omega arith
 
-  abbrev Rises : List Entry → Type 0
+  abbrev pub Rises : List Entry → Type 0
   Rises es = (k l : ℕ) → k < l → l < length es → getD es k vacant .node < getD es l vacant .node
 
-  rises : (n : ℕ) (xs : List Node) → Rises (entriesFrom position a s n xs)
+  pub rises : (n : ℕ) (xs : List Node) → Rises (entriesFrom position a s n xs)
   unfolding entriesFrom
   rises n [] = λ k l h m. absurd (omega arith)
   rises n (x ∷ xs) = go (isWork (x .kind)) (rises (n + 1) xs)

@@ -5,7 +5,7 @@ use mathlib.Core.Bool.{true}
 use mathlib.Core.List.{List, [], _∷_}
 use Prim.Native.Nat.{ℕ}
 use lib.Dec.{ltb}
-use lib.ListN.{getD}
+use lib.ListN.{length, getD}
 use Rattle.time.specs.declared.Clock.{Clock}
 use Rattle.plan.specs.Plan.{outcomesOf}
 use Rattle.plan.specs.declared.Kind.{Kind}
@@ -71,6 +71,9 @@ module _ (bytes : List ℕ) (are : Bytes bytes) (psi : Clock) (slack : ℕ) (ts 
   -- "the run keeps it"
   pub kept : Keeps plan psi slack (driven .run)
   kept = let g = after .1 in record { same-plan = g .same-plan; same-psi = g .same-psi; same-slack = g .same-slack }
+
+  pub window-long : length (driven .run .window) ≡ 512
+  window-long = after .1 .long
 
   pub in-limits : runInLimits (driven .run) ≡ true
   in-limits =

@@ -1,7 +1,7 @@
--- The opening's record stands first, and the calls begin where the opening ends.
+-- The opening's record stands first, and the parts begin where the opening ends.
 use native.Mathlib.Omega.{arith}
 use denote.Ref.{now}
-use Rattle.drive.proofs.Turns.{whole-fits, whole-calls, opens}
+use Rattle.drive.proofs.Turns.{whole-fits, whole-parts, opens}
 use Rattle.drive_records.specs.Laws.Records.{record-length}
 use Rattle.wire.specs.Laws.Puts.{puts-length}
 use borrow.Author.Needs.{needs}
@@ -11,11 +11,11 @@ use Rattle.drive.proofs.opened_and_called.Tie as tie
 open-requires : tie.Need-open-requires
 open-requires c κs = let a = c .before .before .args in whole-fits (now (a .input)) (a .head) (c .before .before .pre .0)
 
-calls-from-requires : tie.Need-calls-from-requires
-calls-from-requires c κs = let m = c .before .before .before .before in let s = m .before .before .before .before .before .before in let a = s .args in (whole-calls (now (a .input)) (a .head) (s .pre .0), omega (arith, s .pre .2, record-length (m .before .before .opening-record .result), m .put-at .ensures .past, puts-length (m .put-at .ensures)))
+parts-from-requires : tie.Need-parts-from-requires
+parts-from-requires c κs = let m = c .before .before .before .before in let s = m .before .before .before .before .before .before in let a = s .args in (whole-parts (now (a .input)) (a .head) (s .pre .0), omega (arith, s .pre .2, record-length (m .before .before .opening-record .result), m .put-at .ensures .past, puts-length (m .put-at .ensures)))
 
 returns : tie.Need-returns
-returns c = let m = c .before .before .before .before .before .before .before in let s = m .before .before .before .before .before .before in let a = s .args in opens (now (a .input)) (a .head) (s .pre .0) (a .calls) (s .pre .1) _ (m .before .before .before .«open» .ensures) _ (m .before .before .opening-record .ensures) (m .put-at .ensures) (c .before .before .calls-from .ensures)
+returns c = let m = c .before .before .before .before .before .before .before in let s = m .before .before .before .before .before .before in let a = s .args in opens (now (a .input)) (a .head) (s .pre .0) (a .parts) (s .pre .1) _ (m .before .before .before .«open» .ensures) _ (m .before .before .opening-record .ensures) (m .put-at .ensures) (c .before .before .parts-from .ensures)
 
 pub opened-and-called-spec : {M : Type 1} → statement M
 opened-and-called-spec =
@@ -24,6 +24,6 @@ opened-and-called-spec =
     open-requires
     (λ c κs. search needs)
     (λ c κs. search needs)
-    calls-from-requires
+    parts-from-requires
     (λ c. search needs)
     returns)

@@ -18,11 +18,11 @@ returns-2 c = let a = c .before .before .before .before .args in head-cut (now (
 few : (c : tie.After-u8-to-usize) → c .u8-to-usize .result < 256
 few c = omega (arith, c .before .shared-slice-known2 .given (c .before .before .before .two .result + 18))
 
-mul-calls : tie.Need-mul-calls
-mul-calls c = omega (arith, few c)
+mul-parts : tie.Need-mul-parts
+mul-parts c = omega (arith, few c)
 
-add-calls-2 : tie.Need-add-calls-2
-add-calls-2 c = omega (arith, few c)
+add-parts-2 : tie.Need-add-parts-2
+add-parts-2 c = omega (arith, few c)
 
 returns-3 : tie.Need-returns-3
 returns-3 c = let a = c .before .before .before .before .before .before .before .args in times-cut (now (a .input)) _ _ _ (c .before .before .before .before .two .ensures .0) (c .before .u8-to-usize .ensures) refl (omega arith)
@@ -42,8 +42,8 @@ head-of-spec =
     (λ c. search needs)
     (λ c. search needs)
     (λ c κs. search needs)
-    mul-calls
-    add-calls-2
+    mul-parts
+    add-parts-2
     returns-3
     (λ c. search needs)
     (λ c κs. search needs)

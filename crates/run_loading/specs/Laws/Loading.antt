@@ -1,34 +1,40 @@
 -- One path by the path as the code has it; the way on; and each turn of further paths, which keeps the numbers within the limits.
 use mathlib.Core.Path.{_≡_, refl, sym, _∙_, ap, subst}
 use mathlib.Core.Bool.{Bool, true, false, cond, true≢false}
-use mathlib.Core.List.{List}
-use Prim.Native.Nat.{ℕ, suc}
+use mathlib.Core.List.{List, [], _∷_}
+use mathlib.Core.Logic.{⊎-elim}
+use Prim.Native.Nat.{ℕ, suc, _≤_}
+use native.Mathlib.Omega.{arith}
+use types.Run.{OneOf}
+use denote.Enum.Declared.{tagOf}
 use borrow.Author.Tests.{ltb-false}
 use lib.Dec.{ltb}
-use lib.ListN.{length, take}
+use lib.ListN.{length, replicate, take}
 use Rattle.basis.specs.Laws.Bools.{by-test}
 use Rattle.plan.specs.declared.Automaton.{Automaton}
 use Rattle.plan.specs.declared.Plan.{Plan}
 use Rattle.automaton.specs.Next.{nextOf, chosenOf}
 use Rattle.automaton.specs.Laws.States.{ChosenIs, chosen-is}
+use Rattle.automaton.proofs.Next as next-type
 use Rattle.automaton.specs.declared.Next.{Next}
 use Rattle.automaton.specs.declared.Chosen.{Chosen}
 use Rattle.times.specs.declared.Told.{Told}
 use Rattle.times.specs.declared.Progress.{Progress}
-use Rattle.run_window.specs.Window.{placed, vacancies}
-use Rattle.run_window.specs.Laws.Placed.{placed-length}
+use Rattle.run_window.specs.Window.{vacant, placed, vacancies}
+use Rattle.run_window.specs.Laws.Lowest.{all-free}
 use Rattle.run_window.specs.declared.Entry.{Entry}
 use Rattle.run_path.specs.Path.{Path, pathFrom, longestPath}
 use Rattle.run_path.specs.Pathed.{Leads, pathed}
 use Rattle.run_path.specs.Pathed as the-path
 use Rattle.run_path.specs.declared.Pathed.{Pathed}
 use Rattle.run_path.specs.Laws.InTime.{loads, placed-all}
+use Rattle.run_path.specs.Laws.Collecting.{placed-firsts}
 use Rattle.run_outcomes.specs.Told.{oldestTold}
 use Rattle.run_outcomes.specs.Way.{byChoice, byTold, wayOn}
 use Rattle.run_loading.specs.declared.Failure.{Failure}
 use Rattle.run_loading.specs.declared.Loading.{Loading}
 use Rattle.run_loading.specs.Loading.{loading, load, onWay, onLoading, further}
-use Rattle.run_loading.specs.Inner.Loading.{Loads, Loadable, hasFailed, settledBy}
+use Rattle.run_loading.specs.Inner.Loading.{Loads, Loadable, failureBy, hasFailed}
 
 -- ---- one path
 
@@ -39,22 +45,38 @@ module _ (p : Plan) (next : Next) (g : Progress) (w : List Entry) (able : Loadab
   kept : (r : Pathed) → r ≡ pathed path → the-path.Loads p path r
   kept r e = loads p (able .loads .plan) next g (able .leads) (able .loads .progress) r e
 
-  -- what the code hands over
-  pub settled-loads : (r : Pathed) → r ≡ pathed path → length w ≡ 512 → settledBy r g w ≡ load p next g w
-  unfolding settledBy load
-  settled-loads r e long =
-      let k = kept r e in
-      ap (λ (b : Bool). cond b (loading Failure.Beyond g w) (cond (ltb (vacancies w) (r .count)) (loading Failure.Full g w) (loading Failure.None (r .progress) (placed w (take (r .count) (r .entries)))))) (k .beyond)
-      ∙ ap (λ (x : Loading). cond (path .beyond) (loading Failure.Beyond g w) x) (rest (ltb (vacancies w) (r .count)) refl k)
-    where
-      rest : (b : Bool) → ltb (vacancies w) (r .count) ≡ b → the-path.Loads p path r
-          → cond b (loading Failure.Full g w) (loading Failure.None (r .progress) (placed w (take (r .count) (r .entries))))
-          ≡ cond (ltb (vacancies w) (length (path .entries))) (loading Failure.Full g w) (loading Failure.None (path .progress) (placed w (path .entries)))
-      rest true h k = rw (sym (k .count), h)
-      rest false h k =
-          ap (λ (x : Progress). loading Failure.None x (placed w (take (r .count) (r .entries)))) (k .progress)
-          ∙ ap (loading Failure.None (path .progress)) (placed-all p path r k w long (ltb-false _ _ h))
-          ∙ rw (sym (k .count), h)
+  -- by how it ends, as the code has it
+  module _ (r : Pathed) (e : r ≡ pathed path) (f : Failure) (q : f ≡ failureBy (r .beyond) (r .count) (vacancies w)) where
+    load-by : load p next g w ≡ cond (hasFailed f) (loading f g w) (loading f (path .progress) (placed w (path .entries)))
+    unfolding load failureBy
+    load-by = rw (q, kept r e .beyond, kept r e .count) (go (path .beyond) (ltb (vacancies w) (length (path .entries))))
+      where
+        go : (b c : Bool)
+            → cond b (loading Failure.Beyond g w) (cond c (loading Failure.Full g w) (loading Failure.None (path .progress) (placed w (path .entries))))
+            ≡ cond (hasFailed (cond b Failure.Beyond (cond c Failure.Full Failure.None))) (loading (cond b Failure.Beyond (cond c Failure.Full Failure.None)) g w)
+            (loading (cond b Failure.Beyond (cond c Failure.Full Failure.None)) (path .progress) (placed w (path .entries)))
+        go true c = refl
+        go false true = refl
+        go false false = refl
+
+    pub load-failed : hasFailed f ≡ true → loading f g w ≡ load p next g w
+    load-failed h = sym (load-by ∙ rw h)
+
+    -- there is room for all entries
+    pub load-fits : hasFailed f ≡ false → r .count ≤ vacancies w
+    unfolding failureBy
+    load-fits h = ltb-false _ _ (not-full (r .beyond) (ltb (vacancies w) (r .count)) (ap hasFailed (sym q) ∙ h))
+      where
+        not-full : (b c : Bool) → hasFailed (cond b Failure.Beyond (cond c Failure.Full Failure.None)) ≡ false → c ≡ false
+        not-full true c h = absurd (true≢false h)
+        not-full false true h = absurd (true≢false h)
+        not-full false false h = refl
+
+    pub load-placed : length w ≡ 512 → hasFailed f ≡ false → loading f (r .progress) (placed w (take (r .count) (r .entries))) ≡ load p next g w
+    load-placed long h =
+        ap (λ (x : Progress). loading f x (placed w (take (r .count) (r .entries)))) (kept r e .progress)
+        ∙ ap (loading f (path .progress)) (placed-all p path r (kept r e) w long (load-fits h))
+        ∙ sym (load-by ∙ rw h)
 
   -- the numbers stay within the limits
   load-keeps : hasFailed (load p next g w .failure) ≡ false → Loads p (load p next g w .progress)
@@ -67,20 +89,21 @@ module _ (p : Plan) (next : Next) (g : Progress) (w : List Entry) (able : Loadab
   pub loaded-keeps : (l : Loading) → l ≡ load p next g w → hasFailed (l .failure) ≡ false → Loads p (l .progress)
   loaded-keeps l q = subst (λ (m : Loading). hasFailed (m .failure) ≡ false → Loads p (m .progress)) (sym q) load-keeps
 
-  -- and the window's length
-  load-long : length w ≡ 512 → length (load p next g w .window) ≡ 512
-  unfolding load
-  load-long h =
-      by-test (λ (l : Loading). length (l .window) ≡ 512) (path .beyond) _ _ (λ b. h)
-      (λ b. by-test (λ (l : Loading). length (l .window) ≡ 512) (ltb (vacancies w) (length (path .entries))) _ _ (λ f. h) (λ f. placed-length w (path .entries) ∙ h))
+-- ---- the first path, into an empty window
 
-  pub loaded-long : (l : Loading) → l ≡ load p next g w → length w ≡ 512 → length (l .window) ≡ 512
-  loaded-long l q h = ap (λ (m : Loading). length (m .window)) q ∙ load-long h
+module _ (p : Plan) (next : Next) (g : Progress) (able : Loadable p g next) (r : Pathed) (e : r ≡ pathed (pathFrom p longestPath next g)) (f : Failure) (q : f ≡ failureBy (r .beyond) (r .count) 512) where
+  ending : f ≡ failureBy (r .beyond) (r .count) (vacancies (replicate 512 vacant))
+  ending = q ∙ ap (failureBy (r .beyond) (r .count)) (sym (all-free 512))
 
-pub not-failed : (f : Failure) → hasFailed f ≡ false → f ≡ Failure.None
-not-failed Failure.None h = refl
-not-failed Failure.Full h = absurd (true≢false h)
-not-failed Failure.Beyond h = absurd (true≢false h)
+  pub first-failed : hasFailed f ≡ true → loading f g (replicate 512 vacant) ≡ load p next g (replicate 512 vacant)
+  first-failed h = load-failed p next g (replicate 512 vacant) able r e f ending h
+
+  -- its entries are what the window then holds
+  pub first-placed : hasFailed f ≡ false → loading f (r .progress) (r .entries) ≡ load p next g (replicate 512 vacant)
+  unfolding pathed
+  first-placed h =
+      ap (loading f (r .progress)) (ap (λ (x : Pathed). x .entries) e ∙ sym (placed-firsts 512 (pathFrom p longestPath next g .entries)) ∙ sym (placed-all p (pathFrom p longestPath next g) r (kept p next g (replicate 512 vacant) able r e) (replicate 512 vacant) refl (load-fits p next g (replicate 512 vacant) able r e f ending h)))
+      ∙ load-placed p next g (replicate 512 vacant) able r e f ending refl h
 
 -- ---- the way on
 
@@ -133,11 +156,14 @@ module _ (p : Plan) (g : Progress) (w : List Entry) (left : ℕ) where
     turn : (n : Next) → v ≡ n → (k : ℕ) → left ≡ suc k → further p left g w ≡ onWay n (λ t. onLoading (load p (Next.Goes t) g w) (further p k)) (loading Failure.None g w)
     turn n z k e = further-turn k e ∙ ap (λ (x : Next). onWay x (λ t. onLoading (load p (Next.Goes t) g w) (further p k)) (loading Failure.None g w)) (sym q ∙ z)
 
-    pub turn-ended : v ≡ Next.Ended → (k : ℕ) → left ≡ suc k → further p left g w ≡ loading Failure.None g w
-    turn-ended z k e = turn Next.Ended z k e
-
-    pub turn-waits : (x : ℕ) → v ≡ Next.Waits x → (k : ℕ) → left ≡ suc k → further p left g w ≡ loading Failure.None g w
-    turn-waits x z k e = turn (Next.Waits x) z k e
+    -- where no transition is taken there are no more paths
+    pub turn-rests : OneOf (0 ∷ (2 ∷ [])) (tagOf next-type.the-type v) → (k : ℕ) → left ≡ suc k → further p left g w ≡ loading Failure.None g w
+    turn-rests o k e = go v refl o
+      where
+        go : (n : Next) → v ≡ n → OneOf (0 ∷ (2 ∷ [])) (tagOf next-type.the-type n) → further p left g w ≡ loading Failure.None g w
+        go Next.Ended z o = turn Next.Ended z k e
+        go (Next.Waits x) z o = turn (Next.Waits x) z k e
+        go (Next.Goes t) z o = absurd (⊎-elim (λ e. omega arith) (λ e. omega arith) o)
 
     module _ (t : ℕ) (z : v ≡ Next.Goes t) (k : ℕ) (e : left ≡ suc k) (l : Loading) (r : l ≡ load p v g w) where
       turn-load : further p left g w ≡ onLoading l (further p k)

@@ -10,10 +10,12 @@ use Rattle.basis.specs.Laws.Parts.{part-step, part-end}
 use Rattle.plan.specs.Plan.{pastNode}
 use Rattle.plan.specs.declared.Node.{Node}
 use Rattle.times.specs.declared.Schedule.{Schedule}
-use Rattle.run_window.specs.Window.{vacant}
+use Rattle.run_window.specs.Window.{vacant, placed}
+use Rattle.run_window.specs.Laws.Placed.{placed-none}
 use Rattle.run_window.specs.declared.Entry.{Entry}
-use Rattle.run_path.specs.Path.{isWork, loaded, entriesFrom}
-use Rattle.run_path.specs.Pathed.{firsts}
+use Rattle.run_path.specs.declared.Pathed.{Pathed}
+use Rattle.run_path.specs.Path.{Path, isWork, loaded, entriesFrom}
+use Rattle.run_path.specs.Pathed.{firsts, pathed}
 use Rattle.run_path.specs.Inner.Path.{put}
 
 pub set-outside : {A : Type 0} (l : List A) (i : ℕ) (x : A) → length l ≤ i → set l i x ≡ l
@@ -103,3 +105,22 @@ entries-few position a s n (x ∷ xs) = go (isWork (x .kind)) (entries-few posit
     go : (b : Bool) → length (entriesFrom position a s (n + 1) xs) ≤ length xs → length (cond b (loaded position a s n ∷ entriesFrom position a s (n + 1) xs) (entriesFrom position a s (n + 1) xs)) ≤ suc (length xs)
     go true u = omega arith
     go false u = omega arith
+
+-- ---- as many as there are places
+
+firsts-length : (n : ℕ) (es : List Entry) → length (firsts n es) ≡ n
+unfolding firsts
+firsts-length zero es = refl
+firsts-length (suc n) [] = ap suc (firsts-length n [])
+firsts-length (suc n) (e ∷ es) = ap suc (firsts-length n es)
+
+pub pathed-long : (q : Path) (r : Pathed) → r ≡ pathed q → length (r .entries) ≡ 512
+unfolding pathed
+pathed-long q r e = ap (λ (x : Pathed). length (x .entries)) e ∙ firsts-length 512 (q .entries)
+
+-- they are what an empty window then holds
+pub placed-firsts : (n : ℕ) (es : List Entry) → placed (replicate n vacant) es ≡ firsts n es
+unfolding placed firsts
+placed-firsts zero es = refl
+placed-firsts (suc n) [] = ap (λ (l : List Entry). vacant ∷ l) (sym (placed-none (replicate n vacant)) ∙ placed-firsts n [])
+placed-firsts (suc n) (e ∷ es) = ap (λ (l : List Entry). e ∷ l) (placed-firsts n es)

@@ -47,24 +47,24 @@ placed-none [] = refl
 placed-none (x ∷ w) = refl
 
 module _ (x : Entry) (w : List Entry) where
-  place-first : isFree (x .phase) ≡ true → freePlace (x ∷ w) 0 ≡ 0
+  pub place-first : isFree (x .phase) ≡ true → freePlace (x ∷ w) 0 ≡ 0
   unfolding freePlace
   place-first f = rw f
 
-  place-next : (k : ℕ) → isFree (x .phase) ≡ true → freePlace (x ∷ w) (suc k) ≡ suc (freePlace w k)
+  pub place-next : (k : ℕ) → isFree (x .phase) ≡ true → freePlace (x ∷ w) (suc k) ≡ suc (freePlace w k)
   unfolding freePlace
   place-next k f = rw f
 
-  place-past : (k : ℕ) → isFree (x .phase) ≡ false → freePlace (x ∷ w) k ≡ suc (freePlace w k)
+  pub place-past : (k : ℕ) → isFree (x .phase) ≡ false → freePlace (x ∷ w) k ≡ suc (freePlace w k)
   unfolding freePlace
   place-past zero f = rw f
   place-past (suc k) f = rw f
 
-  vacant-first : isFree (x .phase) ≡ true → vacancies (x ∷ w) ≡ suc (vacancies w)
+  pub vacant-first : isFree (x .phase) ≡ true → vacancies (x ∷ w) ≡ suc (vacancies w)
   unfolding vacancies
   vacant-first f = rw f
 
-  vacant-past : isFree (x .phase) ≡ false → vacancies (x ∷ w) ≡ vacancies w
+  pub vacant-past : isFree (x .phase) ≡ false → vacancies (x ∷ w) ≡ vacancies w
   unfolding vacancies
   vacant-past f = rw f
 
@@ -92,11 +92,11 @@ places-rise (x ∷ w) (suc k) (suc l) h =
     ⊎-elim (λ f. omega (arith, place-next x w k f, place-next x w l f)) (λ f. omega (arith, place-past x w (suc k) f, place-past x w (suc l) f))
     (free-or-held (x .phase))
 
-vacant-none : vacancies [] ≡ 0
+pub vacant-none : vacancies [] ≡ 0
 unfolding vacancies
 vacant-none = refl
 
-no-vacancies : (k : ℕ) → k < vacancies [] → ⊥
+pub no-vacancies : (k : ℕ) → k < vacancies [] → ⊥
 no-vacancies k h = omega (arith, vacant-none)
 
 -- place n of the window is free

@@ -23,6 +23,11 @@ loaded-true Phase.Free e = absurd (true≢false (sym e))
 loaded-true Phase.Loaded e = refl
 loaded-true Phase.Started e = absurd (true≢false (sym e))
 
+pub free-true : (s : Phase) → isFree s ≡ true → s ≡ Phase.Free
+free-true Phase.Free e = refl
+free-true Phase.Loaded e = absurd (true≢false (sym e))
+free-true Phase.Started e = absurd (true≢false (sym e))
+
 -- a place is free or holds a node, and never both
 pub free-or-held : (s : Phase) → (isFree s ≡ true) ⊎ (isFree s ≡ false)
 free-or-held Phase.Free = inl refl

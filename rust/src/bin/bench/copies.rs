@@ -98,7 +98,7 @@ fn told(name: &str, counts: &Counts, names: &Names) -> String {
     }
     let calls: f64 = counts.values().sum();
     let bytes: f64 = counts.iter().map(|((_, size), calls)| *size as f64 * calls).sum();
-    println!("{name:<52} {bytes:>11.0} bytes in {calls:>7.1} calls");
+    println!("{name:<60} {bytes:>11.0} bytes in {calls:>7.1} calls");
     let mut largest: Vec<_> = by_function.into_iter().filter(|(_, calls)| *calls != 0.0).collect();
     largest.sort_by(|a, b| (b.0 .1 as f64 * b.1).total_cmp(&(a.0 .1 as f64 * a.1)));
     for ((function, size), calls) in largest.iter().take(NAMED) {

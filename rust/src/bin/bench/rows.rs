@@ -28,12 +28,12 @@ impl Row {
 
     pub fn print(&self) {
         let ratio = self.ratio().map_or(nothing(), of_ratio);
-        println!("{:<52} {:>11} {:>11} {:>7}", self.name, figure(self.rust), figure(self.rattle), ratio);
+        println!("{:<60} {:>11} {:>11} {:>7}", self.name, figure(self.rust), figure(self.rattle), ratio);
     }
 }
 
 pub fn print_head(title: &str) {
-    println!("{title:<52} {:>11} {:>11} {:>7}", "Rust", "Rattle", "ratio");
+    println!("{title:<60} {:>11} {:>11} {:>7}", "Rust", "Rattle", "ratio");
 }
 
 fn nothing() -> String {

@@ -58,7 +58,7 @@ struct Drive {
 
 impl Drive {
     fn new(opening: &Opening, calls: &[Call]) -> Drive {
-        let made = Drive { input: drive::encode(opening, calls), room: (calls.len() + 1) * RECORD };
+        let made = Drive { input: drive::encode_calls(opening, calls), room: (calls.len() + 1) * RECORD };
         let answered = made.answers(drive);
         assert!(answered[0] == 0, "the opening is refused");
         linked::drive().iter().for_each(|&rattle| assert!(answered == made.answers(rattle)));
@@ -94,6 +94,12 @@ fn loading_opening() -> Opening {
     opening_of(&plans::wide_plan(0, 75))
 }
 
+/// The second of two calls: an outcome after which a path with so many nodes in each transition is loaded.
+fn outcome_that_loads(name: &str, sizes: &[usize]) -> Case {
+    let opening = opening_of(&plans::loading_plan(sizes));
+    calling(name, &opening, &calls_in_time(&opening, 2), 1)
+}
+
 fn full_opening() -> Opening {
     opening_of(&plans::wide_plan(511, 1))
 }
@@ -121,12 +127,22 @@ fn start_over_full_window() -> Case {
     calling("start or report while a full window empties", &full, &calls, before)
 }
 
+/// The third call reports the outcome: 511 nodes stand beside the event, and one is loaded.
+fn outcome_over_full_window() -> Case {
+    let full = full_opening();
+    calling("an outcome that loads 1 node into a window of 511", &full, &calls_in_time(&full, 3), 2)
+}
+
 pub fn cases() -> Vec<Case> {
     let loading = loading_opening();
+    let tenths: Vec<usize> = (0..10).map(|n| (75 + n) / 10).collect();
     vec![
         driving("open plan T", &opening_of(&plan_t_read()), &[]),
         driving("open the largest accepted plan", &opening_of(&plans::largest_plan()), &[]),
         calling("an outcome that loads a path of 75 nodes", &loading, &calls_in_time(&loading, 2), 1),
+        outcome_that_loads("an outcome that loads a path of 62 nodes in one transition", &[62]),
+        outcome_that_loads("an outcome that loads a path of 75 nodes in ten transitions", &tenths),
+        outcome_over_full_window(),
         ask_over_full_window(),
         report_over_full_window(),
         start_over_full_window(),

@@ -102,7 +102,8 @@ fn pushed(random: &mut Random, run: Run, past: u8) -> Run {
     tried
 }
 
-/// One more entry of a node that the window holds, of any activity that has such a node.
+/// One more entry of a node that the window holds, of any activity that has such a node, at a free
+/// place before, among or behind the others.
 fn with_a_twin(random: &mut Random, mut run: Run) -> Run {
     if run.window.is_empty() || run.window.len() == Run::WINDOW {
         return run;
@@ -113,7 +114,12 @@ fn with_a_twin(random: &mut Random, mut run: Run) -> Run {
         twin.time.activity = activity as u8;
     }
     twin.started = random.one_in(2);
-    run.window.insert(random.below(run.window.len() + 1), twin);
+    let most = run.window.last().map_or(0, |entry| entry.place) + 1;
+    let is_held = |place: &usize| run.window.iter().any(|entry| entry.place == *place);
+    let free: Vec<usize> = (0..Run::WINDOW.min(most + 1)).filter(|place| !is_held(place)).collect();
+    twin.place = random.pick(&free);
+    run.window.push(twin);
+    run.window.sort_by_key(|entry| entry.place);
     run
 }
 

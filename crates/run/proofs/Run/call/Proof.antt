@@ -1,14 +1,16 @@
 -- `call` does to the run what its effect says.
-use mathlib.Core.Path.{_≡_, sym, _∙_, subst}
+use mathlib.Core.Path.{_≡_, sym, _∙_}
 use native.Mathlib.Omega.{arith}
 use lib.ListN.{length}
 use Rattle.basis.specs.Laws.Lists.{unmapped}
-use Rattle.run_window.specs.Inner.Search.{SoughtInTime}
+use Rattle.run_checks.specs.declared.Halt.{Halt}
+use Rattle.run_outcomes.specs.Told.{toldOf}
 use Rattle.run.specs.declared.Effect.{Effect}
 use Rattle.run.specs.Calls.{callOf}
 use Rattle.run.specs.Inner.Effects.{acted, Named}
 use Rattle.run.proofs.Checking.{state-below, loads-in-limits}
-use Rattle.run.proofs.Acting.{sought-timely, call-acted, call-named, rests-acted, stores-acted}
+use Rattle.run.proofs.Acting.{call-acted, call-named, rests-acted, stores-acted}
+use Rattle.run.proofs.Loaded.{storing, answerBy, learnt-parts}
 use borrow.Author.Needs.{needs}
 use Rattle.run.proofs.Run.call.Statement.{statement}
 use Rattle.run.proofs.Run.call.Tie as tie
@@ -17,14 +19,11 @@ long : (c : tie.Start) → length (c .args .t1 .window) ≡ 512
 long c = search unmapped
 
 -- the answer by the effect, and what is known of the effect
-answered : (c : tie.After-effect-of) (x : Effect) → c .effect-of .result ≡ x → acted (c .before .before .before .before .before .args .t1) (c .before .before .before .reading-of .result) x ≡ callOf (c .before .before .before .before .before .args .t1) (c .before .before .before .before .before .args .c)
-answered c x r = call-acted _ _ _ _ _ _ (c .before .before .before .reading-of .ensures) (c .before .before .sought-by .ensures) (c .before .check-call .ensures) (c .effect-of .ensures) x r
+answered : (c : tie.After-effect-at) (x : Effect) → c .effect-at .result ≡ x → acted (c .before .before .args .t1) (c .before .reading-of .result) x ≡ callOf (c .before .before .args .t1) (c .before .before .args .c)
+answered c x r = call-acted _ (c .before .before .args .c) _ _ (c .before .reading-of .ensures) (c .effect-at .ensures) x r
 
-known : (c : tie.After-effect-of) (x : Effect) → c .effect-of .result ≡ x → Named (c .before .before .before .before .before .args .t1) x
-known c x r = call-named _ _ _ _ _ _ (c .before .before .before .reading-of .ensures) (c .before .before .sought-by .ensures) (c .before .check-call .ensures) (c .effect-of .ensures) (long (c .before .before .before .before .before)) x r
-
-check-call-requires : tie.Need-check-call-requires
-check-call-requires c κs = λ g. subst SoughtInTime (sym (c .sought-by .ensures)) (sought-timely (c .before .before .before .args .t1) (c .before .before .before .args .c) g)
+known : (c : tie.After-effect-at) (x : Effect) → c .effect-at .result ≡ x → Named (c .before .before .args .t1) x
+known c x r = call-named _ (c .before .before .args .c) _ _ (c .before .reading-of .ensures) (c .effect-at .ensures) (long (c .before .before)) x r
 
 returns : tie.Need-returns
 returns c = answered (c .before .before .before) _ (c .before .effect .given .1)
@@ -36,7 +35,10 @@ at-rest-requires : tie.Need-at-rest-requires
 at-rest-requires c κs = state-below _ (known (c .before .before .before) _ (c .before .enum-told .given .1) .0)
 
 returns-3 : tie.Need-returns-3
-returns-3 c = rests-acted (c .before .before .before .before .before .before .before .before .before .args .t1) (c .before .before .before .before .before .before .before .reading-of .result) (c .at-rest .result) (known (c .before .before .before .before) _ (c .before .before .enum-told .given .1) .1) (c .at-rest .ensures) ∙ answered (c .before .before .before .before) _ (c .before .before .enum-told .given .1)
+returns-3 c =
+    let e = c .before .before .before .before in
+    let g = c .before .before .enum-told .given .1 in
+    rests-acted (e .before .before .args .t1) (e .before .reading-of .result) (c .at-rest .result) (known e _ g .1) (c .at-rest .ensures) ∙ answered e _ g
 
 mul-e : tie.Need-mul-e
 mul-e c = let l = known (c .before .before .before) _ (c .before .effect3 .given .1) .0 in omega arith
@@ -45,21 +47,37 @@ element-set-from-e : tie.Need-element-set-from-e
 element-set-from-e c = let l = known (c .before .before .before) _ (c .before .effect3 .given .1) .0 in omega arith
 
 returns-4 : tie.Need-returns-4
-returns-4 c = let x = c .before .effect3 .given .0 in stores-acted (c .before .before .before .before .before .before .before .before .args .t1) (c .before .before .before .before .before .before .reading-of .result) (x .0) (x .1 .0) (x .1 .1 .0) (known (c .before .before .before) _ (c .before .effect3 .given .1) .1 .1) ∙ answered (c .before .before .before) _ (c .before .effect3 .given .1)
+returns-4 c =
+    let e = c .before .before .before in
+    let x = c .before .effect3 .given in
+    stores-acted (e .before .before .args .t1) (e .before .reading-of .result) (x .0 .0) (x .0 .1 .0) (x .0 .1 .1 .0) (known e _ (x .1) .1 .1) ∙ answered e _ (x .1)
 
-learnt-requires : tie.Need-learnt-requires
-learnt-requires c κs = let k = known (c .before .before .before) _ (c .before .effect4 .given .1) in (loads-in-limits _ (k .3 .0), k .0, k .1, k .2)
+load-after-requires : tie.Need-load-after-requires
+load-after-requires c κs = let k = known (c .before .before .before) _ (c .before .effect4 .given .1) in (loads-in-limits _ (k .3 .0), k .0, k .1, k .2)
+
+-- the run with what was loaded is taken, or keeps a stop
+after : (c : tie.After-halt-after) (x : Halt) → c .halt-after .result ≡ x
+    → answerBy (c .before .before .before .before .before .before .before .before .reading-of .result) x (storing (c .before .before .before .before .before .before .before .before .before .args .t1) (c .before .before .before .before .before .before .before .before .reading-of .result) (c .before .before .before .load-after .result))
+    ≡ callOf (c .before .before .before .before .before .before .before .before .before .args .t1) (c .before .before .before .before .before .before .before .before .before .args .c)
+after c x r =
+    let e = c .before .before .before .before .before .before .before in
+    let y = c .before .before .before .before .before .effect4 .given in
+    let run = e .before .before .args .t1 in
+    let l = c .before .before .before .load-after in
+    learnt-parts run (known e _ (y .1) .3 .1) (e .before .reading-of .result) (y .0 .0) (toldOf (run .progress) (y .0 .1 .1 .0) (y .0 .1 .0) (y .0 .1 .1 .1 .0)) (l .result) (l .ensures) x (sym r ∙ c .halt-after .ensures)
+    ∙ answered e _ (y .1)
 
 returns-5 : tie.Need-returns-5
-returns-5 c = c .learnt .ensures ∙ answered (c .before .before .before .before) _ (c .before .before .effect4 .given .1)
+returns-5 c = after (c .before .before) _ (c .enum-told2 .given .1)
+
+returns-6 : tie.Need-returns-6
+returns-6 c = c .stops2 .ensures ∙ after (c .before .before .before .before) _ (c .before .before .s .given .1)
 
 pub call-spec : {M : Type 1} → statement M
 call-spec =
     tie.close
     (tie.spec
     (λ c κs. search needs)
-    (λ c κs. search needs)
-    check-call-requires
     (λ c κs. search needs)
     (λ c. search needs)
     returns
@@ -74,5 +92,10 @@ call-spec =
     element-set-from-e
     returns-4
     (λ c. search needs)
-    learnt-requires
-    returns-5)
+    load-after-requires
+    (λ c κs. search needs)
+    (λ c. search needs)
+    (λ c. search needs)
+    returns-5
+    (λ c κs. search needs)
+    returns-6)
