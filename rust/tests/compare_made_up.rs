@@ -93,3 +93,15 @@ fn made_up_runs_agree() {
     let missing = hits.missing(&wanted());
     assert!(settings::is_by_hand() || missing.is_empty(), "never hit: {missing:?}");
 }
+
+/// Why `replies-by-content` asks that no node of the window has a position that is still to come: of two
+/// entries that are alike the lower place is taken, so that here places tell.
+#[test]
+fn places_tell_of_a_node_that_is_loaded_again() {
+    let (runs, calls) = generate::loaded_again();
+    let answers = runs.each_ref().map(|run| replies(run, calls));
+    assert_eq!(answers, [[Reply::Taken; 2], [Reply::Taken, Reply::Refused(53)]]);
+    for run in &runs {
+        assert_eq!(theirs(&encode(run, &calls), ANSWER), ours(run, calls, ANSWER));
+    }
+}

@@ -5,21 +5,17 @@ use mathlib.Core.List.{List, []}
 use Prim.Native.Nat.{ℕ, _<_}
 use lib.ListN.{length}
 use Rattle.run_window.specs.declared.Entry.{Entry}
-use Rattle.run_window.specs.Places.{Holds}
+use Rattle.run_window.specs.Places.{Holds, Once}
 use Rattle.run.specs.declared.Run.{Run}
 use Rattle.run.specs.declared.Call.{Call}
 use Rattle.demands_log.specs.Drive.{drive}
-
--- no node stands at two places
-abbrev pub NoneTwice : List Entry → Type 0
-NoneTwice w = (i j : ℕ) (e f : Entry) → Holds w i e → Holds w j f → (e .position ≡ f .position) × (e .node ≡ f .node) → i ≡ j
 
 -- the two windows, of as many places, hold the same entries, no node twice
 pub record SameContent (w v : List Entry) : Type 0 where
   pub size : length w ≡ length v
   pub there : (i : ℕ) (e : Entry) → Holds w i e → (j : ℕ) × Holds v j e
   pub back : (j : ℕ) (e : Entry) → Holds v j e → (i : ℕ) × Holds w i e
-  pub once : NoneTwice w × NoneTwice v
+  pub once : Once w × Once v
 
 -- two runs that differ in nothing but places. Each node of the window has a position before the next one, as in every run that
 -- was opened: a run made up otherwise could load a node that it holds already, and of two like ones the lower place is taken.

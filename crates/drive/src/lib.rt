@@ -79,8 +79,7 @@ fn parts_from(
     let mut end = written;
     let mut left = parts;
     while 0 < left {
-        let read = drive_input::part_at(input, at);
-        let PartRead::Some(part, next) = read else {
+        let PartRead::Some(part, next) = drive_input::part_at(input, at) else {
             return end;
         };
         match part {

@@ -15,7 +15,7 @@ ghost use mathlib.Core.Path.{_≡_};
 ghost use lib.ListN.{replicate};
 ghost use Rattle.automaton.specs.Next.{nextOf};
 ghost use Rattle.run_window.specs.Window.{vacant};
-ghost use Rattle.run_loading.specs.Loading.{load, further, mostPending};
+ghost use Rattle.run_loading.specs.Loading.{loading, load, further, mostPending};
 ghost use Rattle.run_loading.specs.Inner.Loading.{Loads, failureBy, hasFailed};
 
 // Whether loading failed.
@@ -55,6 +55,17 @@ fn has_failed(failure: Failure) -> bool
     }
 }
 
+// What loading answers.
+fn ended(failure: Failure, progress: Progress, window: [Entry; WINDOW]) -> Loading
+    ensures { λ r. ⌜ r ≡ loading failure progress window ⌝ }
+{
+    Loading {
+        failure,
+        progress,
+        window,
+    }
+}
+
 // The first path, from the initial state into an empty window: its entries are the window, from place 0 on.
 pub fn first(plan: Plan, progress: Progress) -> Loading
     requires { ⌜ Loads plan progress ⌝ }
@@ -67,19 +78,11 @@ pub fn first(plan: Plan, progress: Progress) -> Loading
     if has_failed(failure) {
         let free = vacant();
         let window = [free; WINDOW];
-        return Loading {
-            failure,
-            progress,
-            window,
-        };
+        return ended(failure, progress, window);
     }
     let after = found.progress;
     let window = found.entries;
-    Loading {
-        failure,
-        progress: after,
-        window,
-    }
+    ended(failure, after, window)
 }
 
 // The next paths, each of which processes a reported instance: at most 128 are pending. "the failing path adds nothing". The
@@ -93,20 +96,12 @@ pub fn further(plan: Plan, mut progress: Progress, mut window: [Entry; WINDOW]) 
     while 0 < left {
         let way = way_on(automaton, progress);
         let Next::Goes(_) = way else {
-            return Loading {
-                failure: Failure::None,
-                progress,
-                window,
-            };
+            return ended(Failure::None, progress, window);
         };
         let found = path(plan, way, progress);
         let failure = failure_of(found.beyond, found.count, vacancies(window));
         if has_failed(failure) {
-            return Loading {
-                failure,
-                progress,
-                window,
-            };
+            return ended(failure, progress, window);
         }
         let mut at: usize = 0;
         let mut next: usize = 0;
@@ -125,9 +120,5 @@ pub fn further(plan: Plan, mut progress: Progress, mut window: [Entry; WINDOW]) 
         progress = after;
         left -= 1;
     }
-    Loading {
-        failure: Failure::None,
-        progress,
-        window,
-    }
+    ended(Failure::None, progress, window)
 }

@@ -11,3 +11,11 @@ use Rattle.run_window.specs.Window.{vacant, isHeld}
 pub record Holds (w : List Entry) (i : ℕ) (e : Entry) : Type 0 where
   pub entry : getD w i vacant ≡ e
   pub held : isHeld (e .phase) ≡ true
+
+-- "A node's identity is its position and its node number."
+abbrev pub SameNode : Entry → Entry → Type 0
+SameNode e f = (e .position ≡ f .position) × (e .node ≡ f .node)
+
+-- no node stands at two places
+abbrev pub Once : List Entry → Type 0
+Once w = (i j : ℕ) (e f : Entry) → Holds w i e → Holds w j f → SameNode e f → i ≡ j

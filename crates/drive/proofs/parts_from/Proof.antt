@@ -36,11 +36,11 @@ loop-again c =
     let l = g .before .before .before .before .before .before .before .loop in
     let more = g .before .before .before .before .before .before .loop-test .taken in
     let a = g .before .before .before .before .before .before .before .before .before .before .args in
-    let e = sym (g .before .before .before .before .before .part-at .ensures) ∙ g .before .before .before .read .given .1 in (
+    let e = sym (g .before .before .before .before .before .part-at .ensures) ∙ g .before .before .before .part .given .1 in (
       part-ahead (now (a .input)) (l .at) _ _ e .1,
       omega (arith, more, l .inv .1, record-length (d .before .reply-record .result), d .put-at .ensures .past, puts-length (d .put-at .ensures)),
       puts-length (d .put-at .ensures) ∙ l .inv .2,
-      (λ after next p. l .inv .3 after next (turn-calls (now (a .input)) (l .at) (l .run) (l .left) (l .left - 1) (omega (arith, more)) _ _ e _ (d .put-at .ensures) _ (g .part .given .1) _ (m .call .ensures) (d .before .reply-record .ensures) p)),
+      (λ after next p. l .inv .3 after next (turn-calls (now (a .input)) (l .at) (l .run) (l .left) (l .left - 1) (omega (arith, more)) _ _ e _ (d .put-at .ensures) _ (g .part2 .given .1) _ (m .call .ensures) (d .before .reply-record .ensures) p)),
     )
 
 put-at-requires-2 : tie.Need-put-at-requires-2 Inv-loop μ-loop
@@ -54,11 +54,11 @@ loop-again-2 c =
     let l = g .before .before .before .before .before .before .before .loop in
     let more = g .before .before .before .before .before .before .loop-test .taken in
     let a = g .before .before .before .before .before .before .before .before .before .before .args in
-    let e = sym (g .before .before .before .before .before .part-at .ensures) ∙ g .before .before .before .read .given .1 in (
+    let e = sym (g .before .before .before .before .before .part-at .ensures) ∙ g .before .before .before .part .given .1 in (
       part-ahead (now (a .input)) (l .at) _ _ e .1,
       omega (arith, more, l .inv .1, record-length (d .before .place-record .result), d .put-at2 .ensures .past, puts-length (d .put-at2 .ensures)),
       puts-length (d .put-at2 .ensures) ∙ l .inv .2,
-      (λ after next p. l .inv .3 after next (turn-asks (now (a .input)) (l .at) (l .run) (l .left) (l .left - 1) (omega (arith, more)) _ _ e _ (d .put-at2 .ensures) _ _ (g .part2 .given .1) _ (m .place-of .ensures) (d .before .place-record .ensures) p)),
+      (λ after next p. l .inv .3 after next (turn-asks (now (a .input)) (l .at) (l .run) (l .left) (l .left - 1) (omega (arith, more)) _ _ e _ (d .put-at2 .ensures) _ _ (g .part3 .given .1) _ (m .place-of .ensures) (d .before .place-record .ensures) p)),
     )
 
 returns-2 : tie.Need-returns-2 Inv-loop μ-loop

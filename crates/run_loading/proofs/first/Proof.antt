@@ -24,22 +24,24 @@ path-requires c κs = let k = able c in (k .loads .plan, (k .leads, k .loads .pr
 
 returns : tie.Need-returns
 returns c =
-    let n = c .before .before .before .before .before in
+    let n = c .before .before .before .before .before .before in
     let s = n .before .before in
-    let f = c .before .before .before .failure-of in
-    ap (λ (x : Entry). loading (f .result) (s .args .progress) (replicate 512 x)) (c .vacant .ensures)
-    ∙ first-failed (s .args .plan) (n .next-of .result) (s .args .progress) (able n) _ (c .before .before .before .before .path .ensures) (f .result) (f .ensures) (sym (c .before .before .has-failed .ensures) ∙ c .before .if1 .taken)
+    let f = c .before .before .before .before .failure-of in
+    c .ended .ensures
+    ∙ ap (λ (x : Entry). loading (f .result) (s .args .progress) (replicate 512 x)) (c .before .vacant .ensures)
+    ∙ first-failed (s .args .plan) (n .next-of .result) (s .args .progress) (able n) _ (c .before .before .before .before .before .path .ensures) (f .result) (f .ensures) (sym (c .before .before .before .has-failed .ensures) ∙ c .before .before .if1 .taken)
     ∙ ap (λ (x : Next). load (s .args .plan) x (s .args .progress) (replicate 512 vacant)) (n .next-of .ensures)
 
 returns-2 : tie.Need-returns-2
 returns-2 c =
-    let n = c .before .before .before .before .before .before in
+    let n = c .before .before .before .before .before .before .before in
     let s = n .before .before in
-    let f = c .before .before .before .before .failure-of in
-    first-placed (s .args .plan) (n .next-of .result) (s .args .progress) (able n) _ (c .before .before .before .before .before .path .ensures) (f .result) (f .ensures) (sym (c .before .before .before .has-failed .ensures) ∙ c .before .before .if1 .left)
+    let f = c .before .before .before .before .before .failure-of in
+    c .ended2 .ensures
+    ∙ first-placed (s .args .plan) (n .next-of .result) (s .args .progress) (able n) _ (c .before .before .before .before .before .before .path .ensures) (f .result) (f .ensures) (sym (c .before .before .before .before .has-failed .ensures) ∙ c .before .before .before .if1 .left)
     ∙ ap (λ (x : Next). load (s .args .plan) x (s .args .progress) (replicate 512 vacant)) (n .next-of .ensures)
 
 pub first-spec : {M : Type 1} → statement M
 first-spec =
     tie.close
-    (tie.spec next-of-requires path-requires (λ c κs. search needs) (λ c κs. search needs) (λ c κs. search needs) returns returns-2)
+    (tie.spec next-of-requires path-requires (λ c κs. search needs) (λ c κs. search needs) (λ c κs. search needs) (λ c κs. search needs) returns (λ c κs. search needs) returns-2)

@@ -93,16 +93,16 @@ way-on-requires c κs = plan-awaits _ (c .before .before .before .pre .plan)
 
 returns : tie.Need-returns Inv-loop2 μ-loop2 Inv-loop μ-loop
 returns c =
-    let l = c .before .before .before .loop in
-    sym (l .inv .2 ∙ turn-rests _ (l .progress) (l .window) (l .left) _ (c .before .way-on .ensures) (c .match .keys2) (l .left - 1) (omega arith))
+    let l = c .before .before .before .before .loop in
+    c .ended .ensures ∙ sym (l .inv .2 ∙ turn-rests _ (l .progress) (l .window) (l .left) _ (c .before .before .way-on .ensures) (c .before .match .keys2) (l .left - 1) (omega arith))
 
 path-requires : tie.Need-path-requires Inv-loop2 μ-loop2 Inv-loop μ-loop
 path-requires c κs = let k = able (c .before .before) in (k .loads .plan, (k .leads, k .loads .progress))
 
 returns-2 : tie.Need-returns-2 Inv-loop2 μ-loop2 Inv-loop μ-loop
 returns-2 c =
-    let l = c .before .before .before .before .before .before .before .before .before .loop in
-    sym (l .inv .2 ∙ turn-fails _ (l .progress) (l .window) (l .left) _ (c .before .before .before .before .before .before .before .way-on .ensures) _ (c .before .before .before .before .before .enum-told .given .1) (l .left - 1) (omega arith) _ (failed (c .before .before) (sym (c .before .has-failed .ensures) ∙ c .if1 .taken)) (sym (c .before .has-failed .ensures) ∙ c .if1 .taken))
+    let l = c .before .before .before .before .before .before .before .before .before .before .loop in
+    c .ended2 .ensures ∙ sym (l .inv .2 ∙ turn-fails _ (l .progress) (l .window) (l .left) _ (c .before .before .before .before .before .before .before .before .way-on .ensures) _ (c .before .before .before .before .before .before .enum-told .given .1) (l .left - 1) (omega arith) _ (failed (c .before .before .before) (sym (c .before .before .has-failed .ensures) ∙ c .before .if1 .taken)) (sym (c .before .before .has-failed .ensures) ∙ c .before .if1 .taken))
 
 loop2-holds : tie.Need-loop2-holds Inv-loop2 μ-loop2 Inv-loop μ-loop
 loop2-holds c =
@@ -169,8 +169,8 @@ loop-again c =
 
 returns-3 : tie.Need-returns-3 Inv-loop2 μ-loop2 Inv-loop μ-loop
 returns-3 c =
-    let l = c .before .loop in
-    sym (l .inv .2 ∙ further-over _ (l .progress) (l .window) (l .left) (omega arith))
+    let l = c .before .before .loop in
+    c .ended3 .ensures ∙ sym (l .inv .2 ∙ further-over _ (l .progress) (l .window) (l .left) (omega arith))
 
 pub further-spec : {M : Type 1} → statement M
 further-spec =
@@ -183,8 +183,10 @@ further-spec =
     loop-holds
     way-on-requires
     (λ c. search needs)
+    (λ c κs. search needs)
     returns
     path-requires
+    (λ c κs. search needs)
     (λ c κs. search needs)
     (λ c κs. search needs)
     (λ c κs. search needs)
@@ -207,4 +209,5 @@ further-spec =
     (λ c. search needs)
     (λ c. search needs)
     loop-again
+    (λ c κs. search needs)
     returns-3)

@@ -13,14 +13,7 @@ use Rattle.run_window.specs.declared.Entry.{Entry}
 use Rattle.run_window.specs.Window.{vacant, isFree, isHeld, isEmpty, vacancies}
 use Rattle.run_window.specs.Laws.Tests.{held-unfree, unfree-held}
 use Rattle.run_window.specs.Places.{Holds}
-
--- "A node's identity is its position and its node number."
-abbrev pub SameNode : Entry → Entry → Type 0
-SameNode e f = (e .position ≡ f .position) × (e .node ≡ f .node)
-
--- no node stands at two places
-abbrev pub Once : List Entry → Type 0
-Once w = (i j : ℕ) (e f : Entry) → Holds w i e → Holds w j f → SameNode e f → i ≡ j
+pub use Rattle.run_window.specs.Places.{SameNode, Once}
 
 pub holds-within : (w : List Entry) (i : ℕ) (e : Entry) → Holds w i e → i < length w
 holds-within [] i e h = absurd (true≢false (sym (h .held) ∙ ap (λ (x : Entry). isHeld (x .phase)) (sym (h .entry))))

@@ -9,11 +9,12 @@ pub use of_runs::OF_RUNS;
 
 use super::hosts::{self, HOSTS};
 use super::openings::opening;
+use super::plan_t;
 use super::Random;
 use crate::activity_rules::before;
 use crate::made_up::limits::Limits;
 use crate::plan_file::{Automaton, Kind};
-use crate::run::{Call, Entry, Request, Run};
+use crate::run::{Call, Entry, Opening, Request, Run};
 use crate::specified_times::incremental::shapes;
 use std::collections::{BTreeMap, BTreeSet};
 use std::sync::Arc;
@@ -189,4 +190,24 @@ pub fn calls(random: &mut Random, run: &Run) -> [Call; 2] {
     let first = call(random, run);
     let (_, after) = run.clone().call(first);
     [first, call(random, &after)]
+}
+
+/// Two runs of T that hold the same two entries, each where the other run has the other one: the event
+/// that is awaited, and a started node of the path that its outcome loads. The two calls report both.
+pub fn loaded_again() -> ([Run; 2], [Call; 2]) {
+    let opening = Opening { plan: plan_t(), psi: 0, slack: 500, availabilities: vec![0, 0] };
+    let (_, mut run) = Run::open(&opening);
+    run.window.retain(|entry| entry.time.node == 4);
+    run.window[0].started = true;
+    let event = run.window[0];
+    let report = |request| Call { reading: 10, request };
+    let outcome = report(Request::Outcome { position: 0, node: 4, outcome: 1 });
+    let loaded = Entry { started: true, ..run.clone().call(outcome).1.window[0] };
+    let (position, node) = (loaded.time.position as u32, loaded.time.node);
+    let holding = |entries: [Entry; 2]| {
+        let placed = entries.into_iter().enumerate().map(|(place, entry)| Entry { place, ..entry });
+        Run { window: placed.collect(), ..run.clone() }
+    };
+    let runs = [holding([loaded, event]), holding([event, loaded])];
+    (runs, [outcome, report(Request::Completion { position, node })])
 }
