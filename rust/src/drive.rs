@@ -163,6 +163,11 @@ pub const TOO_SHORT: usize = 36 << 32;
 /// the input ends or ends inside a part: how many bytes it wrote. A buffer that does not hold all
 /// of them stays as it was.
 pub fn drive(input: &[u8], out: &mut [u8]) -> usize {
+    drive_shown(input, out, |_, _| ())
+}
+
+/// The same; each answer to a call is shown, with the run after it.
+pub fn drive_shown(input: &[u8], out: &mut [u8], mut show: impl FnMut(&Run, Reply)) -> usize {
     let Some((opening, parts)) = decode(input) else { return 0 };
     let size = (parts.len() + 1) * RECORD;
     let Some(room) = out.get_mut(..size) else { return TOO_SHORT };
@@ -173,6 +178,7 @@ pub fn drive(input: &[u8], out: &mut [u8]) -> usize {
             Part::Call(call) => {
                 let (reply, next) = run.call(call);
                 run = next;
+                show(&run, reply);
                 reply_record(reply)
             }
             Part::Place { position, node } => place_record(run.place_of(position, node)),

@@ -5,11 +5,12 @@
 
 use jidlekuvo_reference::compare::hits::{name, Hits};
 use jidlekuvo_reference::compare::threads::in_threads;
+use jidlekuvo_reference::compare::ties::{wanted_of_made_up, Ties};
 use jidlekuvo_reference::compare::{rattle, settings, Failure};
 use jidlekuvo_reference::generate::made_up::{OF_PLANS, OF_RUNS};
 use jidlekuvo_reference::generate::{made_up as generate, Random};
 use jidlekuvo_reference::made_up::limits::Limits;
-use jidlekuvo_reference::made_up::{answer, encode, replies, ANSWER};
+use jidlekuvo_reference::made_up::{answer, encode, replies, replies_shown, ANSWER};
 use jidlekuvo_reference::run::{Call, Reply, Run};
 
 /// "36 a buffer too short", times 2^32.
@@ -54,7 +55,7 @@ fn count(run: &Run, replies: [Reply; 2], hits: &mut Hits) {
     limits.only_past().iter().for_each(|what| hits.hit(format!("one past it: {what}")));
 }
 
-/// The replies, and every limit from both sides.
+/// The replies, every limit from both sides, and what decides ties.
 fn wanted() -> Vec<String> {
     let refusals = (50..=55).map(|n| format!("refused {n}"));
     let stops = (41..=44).map(|n| format!("stopped {n}"));
@@ -64,7 +65,7 @@ fn wanted() -> Vec<String> {
     let limits = OF_PLANS.iter().chain(OF_RUNS);
     let sides =
         limits.flat_map(|(what, _)| [format!("at the limit: {what}"), format!("one past it: {what}")]);
-    refusals.chain(stops).chain(rest).chain(alike).chain(sides).collect()
+    refusals.chain(stops).chain(rest).chain(alike).chain(sides).chain(wanted_of_made_up()).collect()
 }
 
 #[test]
@@ -73,11 +74,13 @@ fn made_up_runs_agree() {
         let run = generate::run(random);
         let calls = generate::calls(random, &run);
         let bytes = bytes_of(random, &run, calls);
-        let replies = replies(&run, calls);
+        let mut ties = Ties::of(&run);
+        let replies = replies_shown(&run, calls, |run, reply| ties.look(run, reply));
         if (replies[0] == Reply::Refused(50)) == Limits::of(&run).are_kept() {
             return Err(Failure::new(format!("50 and the limits: {:?}", Limits::of(&run)), &bytes));
         }
         count(&run, replies, hits);
+        ties.count(hits);
         let room = if random.one_in(50) { random.below(ANSWER) } else { ANSWER + random.below(6) };
         let (wanted, written) = (ours(&run, calls, room), theirs(&bytes, room));
         match wanted == written {

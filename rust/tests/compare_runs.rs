@@ -7,8 +7,9 @@ use jidlekuvo_reference::check::{demand_3, log};
 use jidlekuvo_reference::compare::hits::{wanted_of_runs, Hits};
 use jidlekuvo_reference::compare::smaller::smallest_call_list;
 use jidlekuvo_reference::compare::threads::in_threads;
+use jidlekuvo_reference::compare::ties::{too_few, Ties};
 use jidlekuvo_reference::compare::{rattle, settings, Failure};
-use jidlekuvo_reference::drive::{decode, drive, RECORD, TOO_SHORT};
+use jidlekuvo_reference::drive::{decode, drive_shown, RECORD, TOO_SHORT};
 use jidlekuvo_reference::generate::{inputs, Random};
 use jidlekuvo_reference::verdict::judge;
 
@@ -21,13 +22,15 @@ fn length_of(input: &[u8]) -> usize {
     decode(input).map_or(0, |(_, parts)| (parts.len() + 1) * RECORD)
 }
 
-/// What the Rattle side writes into a buffer so long, or where the two builds differ.
-fn alike(input: &[u8], length: usize) -> Result<Vec<u8>, String> {
+/// What the Rattle side writes into a buffer so long and the ties that the calls met, or where the two builds
+/// differ.
+fn alike(input: &[u8], length: usize) -> Result<(Vec<u8>, Ties), String> {
     let (mut ours, mut theirs) = (buffer(length), buffer(length));
-    let wanted = drive(input, &mut ours);
+    let mut ties = Ties::default();
+    let wanted = drive_shown(input, &mut ours, |run, reply| ties.look(run, reply));
     let written = rattle::drive(input, &mut theirs);
     if wanted == written && ours == theirs {
-        return Ok(theirs);
+        return Ok((theirs, ties));
     }
     let at = (0..length / RECORD).find(|n| ours[n * RECORD..][..RECORD] != theirs[n * RECORD..][..RECORD]);
     let told = |out: &[u8]| at.map(|n| out[n * RECORD..][..RECORD].to_vec());
@@ -38,7 +41,7 @@ fn alike(input: &[u8], length: usize) -> Result<Vec<u8>, String> {
     ))
 }
 
-fn compared(input: &[u8], length: usize) -> Result<Vec<u8>, Failure> {
+fn compared(input: &[u8], length: usize) -> Result<(Vec<u8>, Ties), Failure> {
     alike(input, length).map_err(|_| {
         let smallest = smallest_call_list(input, |tried| alike(tried, length).is_err());
         Failure::new(alike(&smallest, length).err().unwrap_or_default(), &smallest)
@@ -55,18 +58,18 @@ fn refused_for(input: &[u8], length: usize) -> Result<(), Failure> {
 }
 
 /// An exact fit or a few bytes over; and now and then both, one byte too few, and any length below. Gives the Rattle
-/// side's records.
-fn buffers_compared(random: &mut Random, input: &[u8]) -> Result<Vec<u8>, Failure> {
+/// side's records and the ties.
+fn buffers_compared(random: &mut Random, input: &[u8]) -> Result<(Vec<u8>, Ties), Failure> {
     let length = length_of(input);
     let over = random.pick(&[0, 5]);
-    let mut records = compared(input, length + over)?;
+    let (mut records, ties) = compared(input, length + over)?;
     records.truncate(length);
     if length > 0 && random.one_in(30) {
         compared(input, length + 5 - over)?;
         refused_for(input, length - 1)?;
         refused_for(input, random.below(length))?;
     }
-    Ok(records)
+    Ok((records, ties))
 }
 
 /// Demand 3 on what the Rattle side answered.
@@ -89,7 +92,8 @@ fn demand_3_holds(input: &[u8], records: &[u8], hits: &mut Hits) -> Result<(), F
 fn call_lists_agree() {
     let case = |random: &mut Random, hits: &mut Hits| {
         let input = inputs::call_list(random);
-        let records = buffers_compared(random, &input)?;
+        let (records, ties) = buffers_compared(random, &input)?;
+        ties.count_of_an_opening(hits).map_err(|what| Failure::new(what, &input))?;
         demand_3_holds(&input, &records, hits)
     };
     let cases = settings::cases(50_000);
@@ -97,4 +101,6 @@ fn call_lists_agree() {
     hits.print(&format!("{cases} call lists agree"));
     let missing = hits.missing(&wanted_of_runs());
     assert!(settings::is_by_hand() || missing.is_empty(), "never hit: {missing:?}");
+    let few = too_few(&hits, cases);
+    assert!(settings::is_by_hand() || few.is_empty(), "too few ties: {few:?}");
 }

@@ -20,6 +20,7 @@ use Rattle.demands_theory.specs.Nodes.{whose, EmitsAt}
 use Rattle.demands_theory.specs.TheWord.{stateAfter, wholeOf}
 use Rattle.demands_theory.specs.Loading.{Unreported, Loads}
 use Rattle.demands.specs.Conditions.{IsAction, RightKind}
+use Rattle.demands.specs.Served.{Turn, Served}
 
 -- what is known after some calls: the plan, Ψ, the slack and the availabilities of the opening, the word of their log and its
 -- specified times, and the log
@@ -64,7 +65,7 @@ pub record Due (k : Known) (t : ℕ) (x : Id) : Type 0 where
   pub unstarted : Started (k .log) x → ⊥
   pub due : k .psi + k .S (whose x) ≤ t
 
--- x goes first of x and y: by time, "ties go by position, then node"
+-- x goes first of x and y: by time, "by position and node"
 pub data NotAfter (T : Ident → ℕ) (x y : Id) : Type 0 where
   time : T (whose x) < T (whose y) → NotAfter T x y
   position : T (whose x) ≡ T (whose y) → x .position < y .position → NotAfter T x y
@@ -74,6 +75,22 @@ pub data NotAfter (T : Ident → ℕ) (x y : Id) : Type 0 where
 pub record Earliest (T : Ident → ℕ) (P : Id → Type 0) (x : Id) : Type 0 where
   pub has : P x
   pub first : (y : Id) → P y → NotAfter T x y
+
+-- what decides when node x of kind h is served
+abbrev pub turnOf : Known → Id → Kind → Turn
+turnOf k x h = record { start = k .S (whose x); kind = h; position = x .position; node = x .node }
+
+-- x is served before y, by start and kinds of the nodes in the combined activity of the word
+pub record ServedBefore (k : Known) (x y : Id) : Type 0 where
+  pub kinds : Kind × Kind
+  pub is : Is (wholeOf (k .plan) (k .word)) (whose x) (kinds .0)
+  pub other : Is (wholeOf (k .plan) (k .word)) (whose y) (kinds .1)
+  pub served : Served (turnOf k x (kinds .0)) (turnOf k y (kinds .1))
+
+-- of the nodes that have P, the one that is served first
+pub record FirstServed (k : Known) (P : Id → Type 0) (x : Id) : Type 0 where
+  pub has : P x
+  pub first : (y : Id) → P y → (y ≡ x → ⊥) → ServedBefore k x y
 
 -- ---- "Order at a call: 50, kept stop, 51, 42, 41, 52 to 55."; 50 is none of an opened run's
 
@@ -133,8 +150,8 @@ pub record Ended (k : Known) : Type 0 where
   pub empty : (x : Id) → Open k x → ⊥
 
 pub data Asks (k : Known) : Call → Reply → Type 0 where
-  -- "Ask starts the due, unstarted node with the earliest specified start"
-  starts : {t : Clock} {q a n : ℕ} → Timely k (t .0) → Earliest (k .S) (Due k (t .0)) (id q n) → EmitsAt (k .plan) (k .word) q a → Asks k (Call.Ask t) (Reply.Start q a n)
+  -- "Ask starts the due, unstarted node with the earliest specified start"; ties as in Served
+  starts : {t : Clock} {q a n : ℕ} → Timely k (t .0) → FirstServed k (Due k (t .0)) (id q n) → EmitsAt (k .plan) (k .word) q a → Asks k (Call.Ask t) (Reply.Start q a n)
   -- "It says done if the path ended in a final state and the window is empty"
   done : {t : Clock} → Timely k (t .0) → Ended k → Asks k (Call.Ask t) Reply.Done
   -- "otherwise wait when nothing is due"
@@ -150,8 +167,8 @@ pub data Halts (k : Known) : Call → Stop → Type 0 where
   kept : {c : Call} {s : Stop} → StoppedBy (k .log) s → Halts k c s
   -- "naming the one with the earliest completion"
   number42 : {c : Call} {p n : ℕ} → Rises k (reading c) → Earliest (k .C) (Overdue k (reading c)) (id p n) → Halts k c (Stop.Overdue p n)
-  -- "naming the one with the earliest start"
-  number41 : {c : Call} {p n : ℕ} → NotOverdue k (reading c) → Earliest (k .S) (Late k (reading c)) (id p n) → Halts k c (Stop.Late p n)
+  -- "naming the one with the earliest start"; ties as in Served
+  number41 : {c : Call} {p n : ℕ} → NotOverdue k (reading c) → FirstServed k (Late k (reading c)) (id p n) → Halts k c (Stop.Late p n)
   -- "if loading after it fails the answer is stopped"
   number43 : {t : Clock} {p n o : ℕ} (e : ℕ) → Learns k (Call.Outcome t p n o) o e → After k (Call.Outcome t p n o) Failure.Full → Halts k (Call.Outcome t p n o) Stop.Full
   number44 : {t : Clock} {p n o : ℕ} (e : ℕ) → Learns k (Call.Outcome t p n o) o e → After k (Call.Outcome t p n o) Failure.Beyond → Halts k (Call.Outcome t p n o) Stop.Beyond

@@ -11,7 +11,7 @@ use Rattle.plan.specs.Plan.{isFinal, outcomesOf}
 use Rattle.plan.specs.declared.Kind.{Kind}
 use Rattle.run_window.specs.declared.Entry.{Entry}
 use Rattle.run_window.specs.declared.Phase.{Phase}
-use Rattle.run_window.specs.Window.{vacant, isHeld, startsBefore, endsBefore}
+use Rattle.run_window.specs.Window.{vacant, isHeld, startsBefore, endsBefore, byStart}
 use Rattle.run.specs.declared.Run.{Run}
 use Rattle.run_checks.specs.declared.Halt.{Halt}
 use Rattle.run_checks.specs.declared.Stop.{Stop}
@@ -54,7 +54,7 @@ pub record NodeAt (run : Run) (p n i : ℕ) : Type 0 where
 abbrev pub Nowhere : (ℕ → Type 0) → Type 0
 Nowhere P = (i : ℕ) → P i → ⊥
 
--- Place i has P, and none that has P goes before it. Entries with one time, position and node go alike: only a made-up run
+-- Place i has P, and none that has P goes before it. Entries with one time, rank, position and node go alike: only a made-up run
 -- holds such, and of them the lowest place is taken.
 pub record FirstOf (run : Run) (P : ℕ → Type 0) (goes : Entry → Entry → Bool) (i : ℕ) : Type 0 where
   pub has : P i
@@ -99,7 +99,7 @@ NamedAt run (Call.Outcome t p n o) = NodeAt run p n
 -- a timely report of a started node, at place i
 pub record Reports (run : Run) (c : Call) (i : ℕ) : Type 0 where
   pub timely : Timely run (readingOf c)
-  pub named : FirstOf run (NamedAt run c) startsBefore i
+  pub named : FirstOf run (NamedAt run c) byStart i
   pub started : entryAt run i .phase ≡ Phase.Started
 
 abbrev pub IsAction : Kind → Type 0
@@ -141,7 +141,7 @@ pub data Refuses (run : Run) : Call → Refusal → Type 0 where
   -- "no such node in the window"
   number52 : {c : Call} → Timely run (readingOf c) → IsReport c → Nowhere (NamedAt run c) → Refuses run c Refusal.NoSuchNode
   -- "node not started"
-  number53 : {c : Call} (i : ℕ) → Timely run (readingOf c) → FirstOf run (NamedAt run c) startsBefore i → entryAt run i .phase ≡ Phase.Loaded → Refuses run c Refusal.NotStarted
+  number53 : {c : Call} (i : ℕ) → Timely run (readingOf c) → FirstOf run (NamedAt run c) byStart i → entryAt run i .phase ≡ Phase.Loaded → Refuses run c Refusal.NotStarted
   -- "completion of an event or outcome of an action"
   number54 : {c : Call} (i : ℕ) → Reports run c i → (RightKind c (kindOf run (entryAt run i)) → ⊥) → Refuses run c Refusal.OtherKind
   -- "outcome the event lacks"
@@ -156,8 +156,8 @@ pub data Halts (run : Run) : Call → Stop → Type 0 where
   -- "naming the one with the earliest completion"
   number42 : {c : Call} (i : ℕ) → Rises run (readingOf c) → FirstOf run (OverdueAt run (readingOf c)) endsBefore i
       → Halts run c (Stop.Overdue (entryAt run i .position) (entryAt run i .node))
-  -- "naming the one with the earliest start"
-  number41 : {c : Call} (i : ℕ) → NotOverdue run (readingOf c) → FirstOf run (LateAt run (readingOf c)) startsBefore i
+  -- "naming the one with the earliest start"; ties in words: Served
+  number41 : {c : Call} (i : ℕ) → NotOverdue run (readingOf c) → FirstOf run (LateAt run (readingOf c)) (startsBefore (run .plan .nodes)) i
       → Halts run c (Stop.Late (entryAt run i .position) (entryAt run i .node))
   -- "if loading after it fails the answer is stopped"
   number43 : {t : Clock} {p n o : ℕ} (i e : ℕ) → Learns run t p n o i e → loadingAfter run t o i e ≡ Failure.Full → Halts run (Call.Outcome t p n o) Stop.Full
@@ -171,8 +171,8 @@ pub record Ended (run : Run) : Type 0 where
   pub empty : (i : ℕ) → entryAt run i .phase ≡ Phase.Free
 
 pub data Asks (run : Run) : Call → Reply → Type 0 where
-  -- "Ask starts the due, unstarted node with the earliest specified start"
-  starts : {t : Clock} (i : ℕ) → Timely run t → FirstOf run (DueAt run t) startsBefore i
+  -- "Ask starts the due, unstarted node with the earliest specified start"; ties in words: Served
+  starts : {t : Clock} (i : ℕ) → Timely run t → FirstOf run (DueAt run t) (startsBefore (run .plan .nodes)) i
       → Asks run (Call.Ask t) (Reply.Start (entryAt run i .position) (entryAt run i .activity) (entryAt run i .node))
   -- "It says done if the path ended in a final state and the window is empty"
   done : {t : Clock} → Timely run t → Ended run → Asks run (Call.Ask t) Reply.Done

@@ -15,6 +15,7 @@ pub mod FirstPath
 pub mod FirstPlaces
 pub mod ConditionsMet
 pub mod ConditionsGive
+pub mod ServedOrder
 pub mod LoadingFails
 -- and over the log
 pub mod AfterCalls
@@ -43,6 +44,7 @@ pub mod PlacesHold
 pub mod Repeated
 pub mod RepliesByContentHold
 pub mod RowsHold
+pub mod ServedHolds
 pub mod StitchingHolds
 pub mod TimesEqual
 pub mod TimetablesHold

@@ -9,6 +9,8 @@ pub mod Times
 pub mod Demand3
 -- Request (i): two runs of one plan
 pub mod Stitching
+-- Request (b): which node is served first
+pub mod Served
 -- Request (h): places of the window
 pub mod Places
 pub mod RepliesByContent

@@ -2,6 +2,7 @@
 use crate::Automaton;
 use crate::Fault;
 use crate::Kind;
+use crate::NODES;
 use crate::Node;
 use crate::Transition;
 
@@ -92,7 +93,7 @@ pub struct ActivitiesRead {
     pub step: Step,
     pub count: u8,
     pub sizes: [u8; 32],
-    pub nodes: [Node; 2048],
+    pub nodes: [Node; NODES],
 }
 
 pub struct AutomatonRead {

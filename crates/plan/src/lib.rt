@@ -7,6 +7,9 @@ ghost use Rattle.plan.specs.Plan.{finalBit};
 pub mod fields;
 pub mod numbers; // the number of each fault
 
+// the most nodes of a plan: 64 of each of 32 activities
+pub const NODES: usize = 2048;
+
 // Which of the four kinds a node is, with the numbers that it names.
 pub enum Kind {
     // action number, peripheral
@@ -86,7 +89,7 @@ pub struct Plan {
     // how many nodes each activity has
     pub sizes: [u8; 32],
     // node n of activity a stands at 64 * a + n
-    pub nodes: [Node; 2048],
+    pub nodes: [Node; NODES],
     pub automaton: Automaton,
 }
 

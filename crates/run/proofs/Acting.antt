@@ -16,14 +16,14 @@ use Rattle.plan.proofs.Kind as kind-type
 use Rattle.plan.specs.Plan.{outcomesOf}
 use Rattle.plan.specs.Limits.{KindNames}
 use Rattle.plan.specs.declared.Kind.{Kind}
+use Rattle.plan.specs.declared.Node.{Node}
 use Rattle.run_window.specs.declared.Entry.{Entry}
 use Rattle.run_window.specs.declared.Found.{Found}
 use Rattle.run_window.specs.declared.Sought.{Sought}
-use Rattle.run_window.specs.Window.{isHeld, isStarted, isOverdue, isLate, isDue, isNode, startsBefore, endsBefore, startedOf, onFound}
+use Rattle.run_window.specs.Window.{isStarted, startedOf, onFound}
 use Rattle.run_window.specs.Places.{Holds}
-use Rattle.run_window.specs.Inner.Search.{firstOf, SoughtInTime}
-use Rattle.run_window.specs.Laws.Tests.{overdue-tells, late-tells, due-tells, node-tells}
-use Rattle.run_window.specs.Laws.Order.{starts-order, ends-order}
+use Rattle.run_window.specs.Inner.Search.{isSought, sooner, firstOf, SoughtInTime}
+use Rattle.run_window.specs.Laws.Sought.{sought-held, sought-order}
 use Rattle.run_window.specs.Laws.Firsts.{first-found}
 use Rattle.run_checks.specs.declared.Halt.{Halt}
 use Rattle.run_checks.specs.declared.Refusal.{Refusal}
@@ -114,7 +114,7 @@ module _ (run : Run) where
   abbrev kindAt : Found → Kind
   kindAt found = kindFound run (Check.Goes found)
 
-  acted-call : (c : Call) (found : Found) → found ≡ firstOf (soughtBy (run .psi) c) (run .window)
+  acted-call : (c : Call) (found : Found) → found ≡ firstOf (run .plan .nodes) (soughtBy (run .psi) c) (run .window)
       → acted run (readingOf c) (effectOn c found (kindAt found) (outcomesFor (run .plan .outcomes) (kindAt found))) ≡ answerOf run c
   unfolding asked completed learns
   acted-call (Call.Ask t) found q =
@@ -142,11 +142,8 @@ module _ (run : Run) where
 -- ---- what an effect names
 
 -- what is found stands in the window
-found-holds : (s : Sought) (w : List Entry) (i : ℕ) (e : Entry) → firstOf s w ≡ Found.At i e → Holds w i e × (i < length w)
-found-holds (Sought.Overdue psi t) w i e q = let f = first-found (isOverdue psi t) endsBefore ends-order w i e q in (record { entry = f .stands; held = ap isHeld (overdue-tells psi t e .0 (f .passes) .0) }, f .within)
-found-holds (Sought.Late psi slack t) w i e q = let f = first-found (isLate psi slack t) startsBefore starts-order w i e q in (record { entry = f .stands; held = ap isHeld (late-tells psi t e slack .0 (f .passes) .0) }, f .within)
-found-holds (Sought.Due psi t) w i e q = let f = first-found (isDue psi t) startsBefore starts-order w i e q in (record { entry = f .stands; held = ap isHeld (due-tells psi t e .0 (f .passes) .0) }, f .within)
-found-holds (Sought.Node p n) w i e q = let f = first-found (isNode p n) startsBefore starts-order w i e q in (record { entry = f .stands; held = node-tells p n e .0 (f .passes) .0 }, f .within)
+found-holds : (nodes : List Node) (s : Sought) (w : List Entry) (i : ℕ) (e : Entry) → firstOf nodes s w ≡ Found.At i e → Holds w i e × (i < length w)
+found-holds nodes s w i e q = let f = first-found (isSought s) (sooner nodes s) (sought-order nodes s) w i e q in (record { entry = f .stands; held = sought-held s e (f .passes) }, f .within)
 
 module _ (run : Run) (long : length (run .window) ≡ 512) where
   -- of a report of a started node
@@ -168,17 +165,17 @@ module _ (run : Run) (long : length (run .window) ≡ 512) where
   named-learns i x o (Kind.Event e) l n p = by-test (Named run) (ltb o (outcomesOf (run .plan) e)) (Effect.Learns i x e o) (refusing Refusal.OutcomeLacking) (λ b. (l, n, ltb-true o (outcomesOf (run .plan) e) b, p)) (λ b. tt)
 
   module _ (p : Passes run) where
-    named-call : (c : Call) (found : Found) → found ≡ firstOf (soughtBy (run .psi) c) (run .window)
+    named-call : (c : Call) (found : Found) → found ≡ firstOf (run .plan .nodes) (soughtBy (run .psi) c) (run .window)
         → Named run (effectOn c found (kindAt run found) (outcomesFor (run .plan .outcomes) (kindAt run found)))
     named-call (Call.Ask t) Found.Nothing q = p
-    named-call (Call.Ask t) (Found.At i e) q = (named-held run (p .0) long i e (found-holds (Sought.Due (run .psi) t) (run .window) i e (sym q)) .0, p)
+    named-call (Call.Ask t) (Found.At i e) q = (named-held run (p .0) long i e (found-holds (run .plan .nodes) (Sought.Due (run .psi) t) (run .window) i e (sym q)) .0, p)
     named-call (Call.Completion t m n) found q =
         named-report (λ f i e. completesBy i (kindAt run f)) found
-        (λ i e s. named-completes i (kindAt run found) (named-held run (p .0) long i e (found-holds (Sought.Node m n) (run .window) i e (sym q ∙ s)) .0) p)
+        (λ i e s. named-completes i (kindAt run found) (named-held run (p .0) long i e (found-holds (run .plan .nodes) (Sought.Node m n) (run .window) i e (sym q ∙ s)) .0) p)
     named-call (Call.Outcome t m n o) found q =
         named-report (λ f i e. learnsAs i e o (outcomesFor (run .plan .outcomes) (kindAt run f)) (kindAt run f)) found
         (λ i e s.
-        let k = named-held run (p .0) long i e (found-holds (Sought.Node m n) (run .window) i e (sym q ∙ s)) in
+        let k = named-held run (p .0) long i e (found-holds (run .plan .nodes) (Sought.Node m n) (run .window) i e (sym q ∙ s)) in
         named-learns i e o (kindAt run found) (k .0) (subst (λ (f : Found). KindNames (run .plan) (kindAt run f)) (sym s) (k .2)) p)
 
   named-check : (c : Call) (check : Check) → check ≡ checkOf run (readingOf c) (soughtBy (run .psi) c)
@@ -213,7 +210,7 @@ place-below run long t sought (Check.Objects o) q = omega arith
 place-below run long t sought (Check.Goes Found.Nothing) q = omega arith
 place-below run long t sought (Check.Goes (Found.At i e)) q =
     let h = goes run t sought (Check.Goes (Found.At i e)) q (Found.At i e) refl in
-    named-held run (h .limits) long i e (found-holds sought (run .window) i e (sym (h .found))) .1
+    named-held run (h .limits) long i e (found-holds (run .plan .nodes) sought (run .window) i e (sym (h .found))) .1
 
 -- the run with its reading, and with a place stored
 pub rests-acted : (run : Run) (t : Clock) (r : Reply) → run .halt ≡ Halt.Going → r ≡ cond (isDone run) Reply.Done Reply.Wait

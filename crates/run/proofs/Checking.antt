@@ -4,7 +4,7 @@ use mathlib.Core.Path.{_≡_, refl, sym, _∙_, subst}
 use mathlib.Core.Bool.{Bool, true, false, true≢false}
 use mathlib.Core.List.{List, [], _∷_}
 use mathlib.Core.Logic.{⊎-elim}
-use Prim.Native.Nat.{ℕ, zero, suc, _+_, _*_, _≤_, _<_}
+use Prim.Native.Nat.{ℕ, zero, suc, _≤_, _<_}
 use native.Mathlib.Omega.{arith}
 use lib.ListN.{length, getD}
 use Rattle.basis.specs.Inner.Tells.{Tells, holds, fails}
@@ -21,7 +21,7 @@ use Rattle.run_limits.specs.Laws.Places.{tells-window}
 use Rattle.run_window.specs.declared.Entry.{Entry}
 use Rattle.run_window.specs.declared.Found.{Found}
 use Rattle.run_window.specs.declared.Sought.{Sought}
-use Rattle.run_window.specs.Window.{vacant, isFree, isHeld}
+use Rattle.run_window.specs.Window.{vacant, isFree, isHeld, nodePlace}
 use Rattle.run_window.specs.Inner.Search.{firstOf}
 use Rattle.run_window.specs.Laws.Tests.{held-unfree}
 use Rattle.run_window.specs.Places.{Holds}
@@ -39,19 +39,19 @@ use Rattle.run.specs.Inner.Loads.{Loads}
 -- ---- the answer by the checks
 
 module _ (run : Run) (t : Clock) (sought : Sought) (check : Check) (q : check ≡ checkOf run t sought) where
-  said : check ≡ calledBy (runInLimits run) (run .halt) (momentOf run t) (run .window) Check.Objects (Check.Goes (firstOf sought (run .window)))
+  said : check ≡ calledBy (runInLimits run) (run .halt) (momentOf run t) (run .plan .nodes) (run .window) Check.Objects (Check.Goes (firstOf (run .plan .nodes) sought (run .window)))
   unfolding checkOf
   said = q
 
-  pub goes : (k : Found) → check ≡ Check.Goes k → Passed (runInLimits run) (run .halt) (firstOf sought (run .window)) k
-  goes k g = passed (runInLimits run) (run .halt) (momentOf run t) (run .window) (firstOf sought (run .window)) k (sym said ∙ g)
+  pub goes : (k : Found) → check ≡ Check.Goes k → Passed (runInLimits run) (run .halt) (firstOf (run .plan .nodes) sought (run .window)) k
+  goes k g = passed (runInLimits run) (run .halt) (momentOf run t) (run .plan .nodes) (run .window) (firstOf (run .plan .nodes) sought (run .window)) k (sym said ∙ g)
 
   module _ (go : Answer) where
     pub answer-goes : (k : Found) → check ≡ Check.Goes k → called run t go ≡ go
-    answer-goes k g = called-goes (runInLimits run) (run .halt) (momentOf run t) (run .window) (firstOf sought (run .window)) check said (objected run t) go k g
+    answer-goes k g = called-goes (runInLimits run) (run .halt) (momentOf run t) (run .plan .nodes) (run .window) (firstOf (run .plan .nodes) sought (run .window)) check said (objected run t) go k g
 
     pub answer-objects : (o : Objection) → check ≡ Check.Objects o → called run t go ≡ objected run t o
-    answer-objects o g = called-objects (runInLimits run) (run .halt) (momentOf run t) (run .window) (firstOf sought (run .window)) check said (objected run t) go o g
+    answer-objects o g = called-objects (runInLimits run) (run .halt) (momentOf run t) (run .plan .nodes) (run .window) (firstOf (run .plan .nodes) sought (run .window)) check said (objected run t) go o g
 
 -- ---- a run in limits
 
@@ -102,6 +102,16 @@ module _ (run : Run) (good : runInLimits run ≡ true) where
       (tells-and (tells-window (run .plan .activities) (run .plan .sizes) (run .window)) (tells-self (haltInLimits (run .halt))))))))
       good
 
+  -- a node that is held is one of the plan's
+  place-below : (e : Entry) → isHeld (e .phase) ≡ true → Good e → nodePlace e < 2048
+  place-below e h q =
+      let k = known (run .plan .activities) (run .plan .sizes) e h q in
+      let a = parts .0 .activities in
+      let b = k .1 .0 .0 in
+      let n = k .1 .0 .1 in
+      let z = parts .0 .sizes (e .activity) b .1 in
+      omega arith
+
   pub timed : (t : Clock) → Timed (momentOf run t) (run .window)
   timed t = (
     parts .1 .0,
@@ -109,6 +119,9 @@ module _ (run : Run) (good : runInLimits run ≡ true) where
     beyond (λ (e : Entry). isHeld (e .phase) ≡ true → (e .start .0 ≤ horizon) × (e .end .0 ≤ horizon)) (run .window)
         (λ h. absurd (true≢false (sym h)))
         (λ i l h. known (run .plan .activities) (run .plan .sizes) (getD (run .window) i vacant) h (parts .1 .1 .1 .1 .0 i l) .1 .1),
+    beyond (λ (e : Entry). isHeld (e .phase) ≡ true → nodePlace e < 2048) (run .window)
+        (λ h. absurd (true≢false (sym h)))
+        (λ i l h. place-below (getD (run .window) i vacant) h (parts .1 .1 .1 .1 .0 i l)),
   )
 
   pub state-below : run .progress .state < 64
@@ -119,11 +132,8 @@ module _ (run : Run) (good : runInLimits run ≡ true) where
   loads-in-limits = record { plan = parts .0; progress = parts .1 .1 .1 .0 .2 }
 
   -- a node that the window holds is one of the plan's
-  pub named-held : length (run .window) ≡ 512 → (i : ℕ) (e : Entry) → Holds (run .window) i e × (i < length (run .window)) → (i < 512) × (64 * e .activity + e .node < 2048) × KindNames (run .plan) (kindOf run e)
+  pub named-held : length (run .window) ≡ 512 → (i : ℕ) (e : Entry) → Holds (run .window) i e × (i < length (run .window)) → (i < 512) × (nodePlace e < 2048) × KindNames (run .plan) (kindOf run e)
   named-held long i e (h, l) =
-      let k = known (run .plan .activities) (run .plan .sizes) e (h .held) (subst Good (h .entry) (parts .1 .1 .1 .1 .0 i l)) in
-      let a = parts .0 .activities in
-      let b = k .1 .0 .0 in
-      let n = k .1 .0 .1 in
-      let z = parts .0 .sizes (e .activity) b .1 in
-      (omega arith, omega arith, parts .0 .nodes (e .activity) (e .node) b n .names)
+      let g = subst Good (h .entry) (parts .1 .1 .1 .1 .0 i l) in
+      let k = known (run .plan .activities) (run .plan .sizes) e (h .held) g in
+      (omega arith, place-below e (h .held) g, parts .0 .nodes (e .activity) (e .node) (k .1 .0 .0) (k .1 .0 .1) .names)

@@ -18,7 +18,7 @@ use Rattle.run.specs.declared.Reply.{Reply}
 use Rattle.run.specs.declared.Answer.{Answer}
 use Rattle.run.specs.declared.Call.{Call}
 use Rattle.run_loading.specs.declared.Failure.{Failure}
-use Rattle.run_window.specs.Window.{vacant, startedOf, isDue, isNode, startsBefore, onFound, first, isEmpty}
+use Rattle.run_window.specs.Window.{vacant, startedOf, isDue, isNode, startsBefore, byStart, onFound, first, isEmpty}
 use Rattle.run_checks.specs.declared.Objection.{Objection}
 use Rattle.run_checks.specs.declared.Moment.{Moment}
 use Rattle.run_checks.specs.Order.{timelyBy, calledBy, reportedBy}
@@ -51,7 +51,7 @@ isDone run = isFinal (run .plan .automaton) (run .progress .state) && isEmpty (r
 -- "Ask starts the due, unstarted node with the earliest specified start"
 unfoldable pub asked : Run → Clock → Answer
 asked run t =
-    onFound (first (isDue (run .psi) t) startsBefore 0 (run .window))
+    onFound (first (isDue (run .psi) t) (startsBefore (run .plan .nodes)) 0 (run .window))
     (λ i e. answer (Reply.Start (e .position) (e .activity) (e .node)) (heard run t Halt.Going (run .progress) (set (run .window) i (startedOf e))))
     (answer (cond (isDone run) Reply.Done Reply.Wait) (heard run t Halt.Going (run .progress) (run .window)))
 
@@ -64,7 +64,7 @@ kindOf run e = nodeAt (run .plan) (e .activity) (e .node) .kind
 -- 52 no such node in the window; 53 node not started
 abbrev pub reported : Run → ℕ → ℕ → (ℕ → Entry → Answer) → Answer
 reported run position node f =
-    reportedBy (first (isNode position node) startsBefore 0 (run .window)) f (refuse run)
+    reportedBy (first (isNode position node) byStart 0 (run .window)) f (refuse run)
 
 -- the reported node leaves the window
 abbrev pub cleared : Run → Clock → ℕ → Progress → Run
@@ -123,11 +123,11 @@ momentOf run t = record { psi = run .psi; slack = run .slack; last = run .last; 
 
 -- 51 reading below the last one, 42 overdue, 41 late
 abbrev pub timely : Run → Clock → Answer → Answer
-timely run t go = timelyBy (momentOf run t) (run .window) (objected run t) go
+timely run t go = timelyBy (momentOf run t) (run .plan .nodes) (run .window) (objected run t) go
 
 -- "Order at a call: 50, kept stop, 51, 42, 41, 52 to 55."
 abbrev pub called : Run → Clock → Answer → Answer
-called run t go = calledBy (runInLimits run) (run .halt) (momentOf run t) (run .window) (objected run t) go
+called run t go = calledBy (runInLimits run) (run .halt) (momentOf run t) (run .plan .nodes) (run .window) (objected run t) go
 
 unfoldable pub askOf : Run → Clock → Answer
 askOf run t = called run t (asked run t)

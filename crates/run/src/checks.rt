@@ -32,7 +32,8 @@ fn check_call(run: Run, t: Clock, sought: Sought) -> Checked
         t,
     };
     let window = run.window;
-    let check = run_checks::check_call(limits, halt, m, window, sought);
+    let nodes = plan.nodes;
+    let check = run_checks::check_call(limits, halt, m, window, nodes, sought);
     let k = effects::place_of(check);
     let node = plan.nodes[k];
     let kind = node.kind;

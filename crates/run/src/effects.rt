@@ -60,7 +60,7 @@ pub fn place_of(check: Check) -> usize
     let found = found_by(check);
     match found {
         Found::Nothing => 0,
-        Found::At(_, e) => 64 * u8_to_usize(e.activity) + u8_to_usize(e.node),
+        Found::At(_, e) => run_window::node_place(e),
     }
 }
 

@@ -5,10 +5,11 @@ use mathlib.Core.List.{List}
 use Prim.Native.Nat.{ℕ, _≤_}
 use lib.Dec.{ltb}
 use Rattle.time.specs.Time.{horizon}
+use Rattle.plan.specs.declared.Node.{Node}
 use Rattle.run_window.specs.declared.Entry.{Entry}
 use Rattle.run_window.specs.declared.Found.{Found}
 use Rattle.run_window.specs.Window.{isStarted, isOverdue, isLate, startsBefore, endsBefore, onFound, first}
-use Rattle.run_window.specs.Inner.Times.{AllInTime}
+use Rattle.run_window.specs.Inner.Times.{AllInTime, AllNamed}
 use Rattle.run_checks.specs.declared.Stop.{Stop}
 use Rattle.run_checks.specs.declared.Halt.{Halt}
 use Rattle.run_checks.specs.declared.Refusal.{Refusal}
@@ -32,28 +33,28 @@ readingThen below overdue late f go = cond below (f (Objection.Refuses Refusal.R
 abbrev pub isBelow : Moment → Bool
 isBelow m = ltb (m .t .0) (m .last .0)
 
--- the overdue node with the earliest completion; the late node with the earliest start
+-- the overdue node with the earliest completion; the late node with the earliest start, by the nodes of the plan
 abbrev pub firstOverdue : Moment → List Entry → Found
 firstOverdue m w = first (isOverdue (m .psi) (m .t)) endsBefore 0 w
 
-abbrev pub firstLate : Moment → List Entry → Found
-firstLate m w = first (isLate (m .psi) (m .slack) (m .t)) startsBefore 0 w
+abbrev pub firstLate : Moment → List Node → List Entry → Found
+firstLate m nodes w = first (isLate (m .psi) (m .slack) (m .t)) (startsBefore nodes) 0 w
 
-unfoldable pub timelyBy : {A : Type 0} → Moment → List Entry → (Objection → A) → A → A
-timelyBy m w f go = readingThen (isBelow m) (firstOverdue m w) (firstLate m w) f go
+unfoldable pub timelyBy : {A : Type 0} → Moment → List Node → List Entry → (Objection → A) → A → A
+timelyBy m nodes w f go = readingThen (isBelow m) (firstOverdue m w) (firstLate m nodes w) f go
 
 abbrev pub onHalt : {A : Type 0} → Halt → (Stop → A) → A → A
 onHalt Halt.Going f z = z
 onHalt (Halt.Stopped s) f z = f s
 
 -- 50 and the kept stop, then the others
-abbrev pub calledBy : {A : Type 0} → Bool → Halt → Moment → List Entry → (Objection → A) → A → A
-calledBy limits halt m w f go =
-    cond limits (onHalt halt (λ s. f (Objection.Keeps s)) (timelyBy m w f go)) (f (Objection.Refuses Refusal.OutOfLimits))
+abbrev pub calledBy : {A : Type 0} → Bool → Halt → Moment → List Node → List Entry → (Objection → A) → A → A
+calledBy limits halt m nodes w f go =
+    cond limits (onHalt halt (λ s. f (Objection.Keeps s)) (timelyBy m nodes w f go)) (f (Objection.Refuses Refusal.OutOfLimits))
 
--- the times that are added to Ψ, so that every sum fits
+-- the times that are added to Ψ, so that every sum fits, and the nodes that the window names
 abbrev pub Timed : Moment → List Entry → Type 0
-Timed m w = (m .psi .0 ≤ horizon) × (m .slack ≤ horizon) × AllInTime w
+Timed m w = (m .psi .0 ≤ horizon) × (m .slack ≤ horizon) × AllInTime w × AllNamed w
 
 -- ---- 52, 53
 

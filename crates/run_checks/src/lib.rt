@@ -1,4 +1,6 @@
 // The checks of a call: "Order at a call: 50, kept stop, 51, 42, 41, 52 to 55." Each takes the parts of a run that it needs.
+use plan::NODES;
+use plan::Node;
 use run_window::Entry;
 use run_window::Found;
 use run_window::Phase;
@@ -97,16 +99,16 @@ fn check_overdue(overdue: Found, next: Check) -> Check
 }
 
 // 51: "reading below the last one"; then 42, then 41.
-fn check_reading(m: Moment, window: [Entry; WINDOW], sought: Sought) -> Check
+fn check_reading(m: Moment, window: [Entry; WINDOW], nodes: [Node; NODES], sought: Sought) -> Check
     requires { ⌜ Timed m window × SoughtInTime sought ⌝ }
-    ensures { λ r. ⌜ r ≡ timelyBy m window Check.Objects (Check.Goes (firstOf sought window)) ⌝ }
+    ensures { λ r. ⌜ r ≡ timelyBy m nodes window Check.Objects (Check.Goes (firstOf nodes sought window)) ⌝ }
 {
     if m.t.0 < m.last.0 {
         return Check::Objects(Objection::Refuses(Refusal::ReadingBelow));
     }
     let psi = m.psi;
     let t = m.t;
-    let seen = run_window::look(window, psi, m.slack, t, sought);
+    let seen = run_window::look(window, nodes, psi, m.slack, t, sought);
     let overdue = seen.overdue;
     let late = seen.late;
     let found = seen.sought;
@@ -119,17 +121,18 @@ pub fn check_call(
     halt: Halt,
     m: Moment,
     window: [Entry; WINDOW],
+    nodes: [Node; NODES],
     sought: Sought,
 ) -> Check
     requires { ⌜ (limits ≡ true → Timed m window × SoughtInTime sought) ⌝ }
-    ensures { λ r. ⌜ r ≡ calledBy limits halt m window Check.Objects (Check.Goes (firstOf sought window)) ⌝ }
+    ensures { λ r. ⌜ r ≡ calledBy limits halt m nodes window Check.Objects (Check.Goes (firstOf nodes sought window)) ⌝ }
 {
     if !limits {
         return Check::Objects(Objection::Refuses(Refusal::OutOfLimits));
     }
     match halt {
         Halt::Going => {
-            return check_reading(m, window, sought);
+            return check_reading(m, window, nodes, sought);
         }
         Halt::Stopped(s) => {
             return Check::Objects(Objection::Keeps(s));

@@ -1,5 +1,5 @@
 -- One turn of a loop over the window: what the loop has worked out of the places behind, and of the place that it comes to.
-use mathlib.Core.Path.{_≡_, sym, _∙_}
+use mathlib.Core.Path.{_≡_, refl, sym, _∙_, ap}
 use mathlib.Core.Bool.{Bool, true, false, cond, _&&_}
 use mathlib.Core.List.{List}
 use Prim.Native.Nat.{ℕ, zero, suc, _+_, _-_, _≤_, _<_}
@@ -7,27 +7,65 @@ use native.Mathlib.Omega.{arith}
 use native.Mathlib.Numerals.{add-one, sub-one}
 use lib.ListN.{length, getD, drop, drop-of-length-le}
 use lib.Seq.{drop-cons}
+use Rattle.plan.specs.declared.Node.{Node}
 use Rattle.run_window.specs.declared.Entry.{Entry}
 use Rattle.run_window.specs.declared.Found.{Found}
-use Rattle.run_window.specs.Window.{isFree, isNode, better, first, isEmpty, vacancies}
+use Rattle.run_window.specs.declared.Ranked.{Ranked}
+use Rattle.run_window.specs.declared.Sought.{Sought}
+use Rattle.run_window.specs.Window.{isFree, isNode, rankAt, better, first, isEmpty, vacancies}
+use Rattle.run_window.specs.Inner.Search.{isSought, sooner, ranked, rankedOf, betterBy, keptBy}
 use Rattle.run_window.specs.Where.{placeOf}
 
 -- ---- the first of those that pass a test, from the back
 
 module _ (p : Entry → Bool) (goes : Entry → Entry → Bool) (w : List Entry) where
-  pub first-none : (i : ℕ) → length w ≤ i → Found.Nothing ≡ first p goes i (drop i w)
+  first-none : (i : ℕ) → length w ≤ i → Found.Nothing ≡ first p goes i (drop i w)
   unfolding first
   first-none i h = rw (drop-of-length-le w h)
 
-  pub first-turn : (d : Entry) (i : ℕ) → 0 < i → i ≤ length w
+  first-turn : (d : Entry) (i : ℕ) → 0 < i → i ≤ length w
       → cond (p (getD w (i - 1) d)) (better goes (i - 1) (getD w (i - 1) d) (first p goes i (drop i w))) (first p goes i (drop i w))
       ≡ first p goes (i - 1) (drop (i - 1) w)
   unfolding first
   first-turn d zero z h = absurd (omega arith)
   first-turn d (suc j) z h = rw (sub-one, drop-cons w j d)
 
-  pub first-passed : (d : Entry) (i : ℕ) → 0 < i → i ≤ length w → p (getD w (i - 1) d) ≡ false → first p goes i (drop i w) ≡ first p goes (i - 1) (drop (i - 1) w)
+  first-passed : (d : Entry) (i : ℕ) → 0 < i → i ≤ length w → p (getD w (i - 1) d) ≡ false → first p goes i (drop i w) ≡ first p goes (i - 1) (drop (i - 1) w)
   first-passed d i z h fails = rw fails at (first-turn d i z h)
+
+-- ---- the same with its rank
+
+module _ (nodes : List Node) (s : Sought) where
+  kept-better : (i : ℕ) (e : Entry) (found : Found) → keptBy s i e (rankAt nodes e) (rankedOf nodes found) ≡ rankedOf nodes (cond (isSought s e) (better (sooner nodes s) i e found) found)
+  kept-better i e found = go (isSought s e) found
+    where
+      chosen : (b : Bool) (j : ℕ) (f : Entry) → cond b (ranked (Found.At j f) (rankAt nodes f)) (ranked (Found.At i e) (rankAt nodes e)) ≡ rankedOf nodes (cond b (Found.At j f) (Found.At i e))
+      chosen true j f = refl
+      chosen false j f = refl
+
+      go : (b : Bool) (found : Found) → cond b (betterBy s i e (rankAt nodes e) (rankedOf nodes found)) (rankedOf nodes found) ≡ rankedOf nodes (cond b (better (sooner nodes s) i e found) found)
+      go false found = refl
+      go true Found.Nothing = refl
+      go true (Found.At j f) = chosen (sooner nodes s f e) j f
+
+  module _ (w : List Entry) where
+    -- of the places from i on
+    abbrev pub rankedFrom : ℕ → Ranked
+    rankedFrom i = rankedOf nodes (first (isSought s) (sooner nodes s) i (drop i w))
+
+    pub ranked-none : (i : ℕ) → length w ≤ i → ranked Found.Nothing 0 ≡ rankedFrom i
+    ranked-none i h = ap (rankedOf nodes) (first-none (isSought s) (sooner nodes s) w i h)
+
+    pub ranked-turn : (d : Entry) (i : ℕ) → 0 < i → i ≤ length w → {r : ℕ} → r ≡ rankAt nodes (getD w (i - 1) d) → {rest : Ranked} → rest ≡ rankedFrom i
+        → keptBy s (i - 1) (getD w (i - 1) d) r rest ≡ rankedFrom (i - 1)
+    ranked-turn d i z h q inv = rw (q, inv) (kept-better (i - 1) (getD w (i - 1) d) (first (isSought s) (sooner nodes s) i (drop i w)) ∙ ap (rankedOf nodes) (first-turn (isSought s) (sooner nodes s) w d i z h))
+
+    pub ranked-passed : (d : Entry) (i : ℕ) → 0 < i → i ≤ length w → isSought s (getD w (i - 1) d) ≡ false → rankedFrom i ≡ rankedFrom (i - 1)
+    ranked-passed d i z h fails = ap (rankedOf nodes) (first-passed (isSought s) (sooner nodes s) w d i z h fails)
+
+pub ranked-found : (nodes : List Node) (found : Found) → rankedOf nodes found .found ≡ found
+ranked-found nodes Found.Nothing = refl
+ranked-found nodes (Found.At i e) = refl
 
 -- ---- whether every place is free, from the front
 

@@ -6,5 +6,6 @@ pub mod Placed
 pub mod Placing
 pub mod Lowest
 pub mod Tests
+pub mod Sought
 pub mod Content
 pub mod Where

@@ -1,8 +1,12 @@
 -- The window: "loaded action and event nodes not yet reported complete, at most 512".
 use mathlib.Core.Bool.{Bool, true, false, cond, _&&_}
 use mathlib.Core.List.{List, [], _∷_}
-use Prim.Native.Nat.{ℕ, suc, _+_}
+use Prim.Native.Nat.{ℕ, suc, _+_, _*_}
 use lib.Dec.{ltb, leb, eqb}
+use lib.ListN.{getD}
+use Rattle.plan.specs.Plan.{pastNode}
+use Rattle.plan.specs.declared.Kind.{Kind}
+use Rattle.plan.specs.declared.Node.{Node}
 use Rattle.time.specs.Time.{toClock}
 use Rattle.time.specs.declared.Clock.{Clock}
 use Rattle.run_window.specs.declared.Phase.{Phase}
@@ -55,20 +59,55 @@ isDue psi t e = isLoaded (e .phase) && leb (toClock psi (e .start) .0) (t .0)
 unfoldable pub isNode : ℕ → ℕ → Entry → Bool
 isNode position node e = isHeld (e .phase) && (eqb (e .position) position && eqb (e .node) node)
 
--- ---- the order of ties: "ties go by position, then node"; "Ties in 41 and 42 go as in ask."
+-- ---- the order of ties
 
-unfoldable pub before : ℕ → ℕ → Entry → Entry → Bool
-before x y a b =
-    cond (eqb x y)
-    (cond (eqb (a .position) (b .position)) (ltb (a .node) (b .node)) (ltb (a .position) (b .position)))
-    (ltb x y)
+-- whether the first list of numbers goes before the second: by the first number in which they differ
+unfoldable pub precedes : List ℕ → List ℕ → Bool
+precedes [] [] = false
+precedes [] (y ∷ ys) = true
+precedes (x ∷ xs) [] = false
+precedes (x ∷ xs) (y ∷ ys) = cond (eqb x y) (precedes xs ys) (ltb x y)
 
--- "the earliest specified start", for ask and 41; "the earliest completion", for 42
-abbrev pub startsBefore : Entry → Entry → Bool
-startsBefore a b = before (a .start .0) (b .start .0) a b
+-- "A node's identity is its position and its node number."
+abbrev pub identityOf : Entry → List ℕ
+identityOf e = e .position ∷ (e .node ∷ [])
 
+-- of two entries with the numbers x and y: by number, "then position, then node"
+abbrev pub before : ℕ → ℕ → Entry → Entry → Bool
+before x y a b = precedes (x ∷ identityOf a) (y ∷ identityOf b)
+
+-- "by peripheral number, events after all actions": peripherals are 0 to 63. Claims and releases, which only the window of a
+-- made-up run holds, go with the events.
+abbrev pub rank : Kind → ℕ
+rank (Kind.Action a p) = p
+rank (Kind.Claim r) = 64
+rank (Kind.Release r) = 64
+rank (Kind.Event e) = 64
+
+-- where the node of an entry stands among the nodes of the plan
+abbrev pub nodePlace : Entry → ℕ
+nodePlace e = 64 * e .activity + e .node
+
+abbrev pub rankAt : List Node → Entry → ℕ
+rankAt nodes e = rank (getD nodes (nodePlace e) pastNode .kind)
+
+-- of two entries with the ranks x and y: "Ties in specified start now go by peripheral number, events after all actions, then
+-- position, then node."
+abbrev pub served : ℕ → ℕ → Entry → Entry → Bool
+served x y a b = precedes (a .start .0 ∷ (x ∷ identityOf a)) (b .start .0 ∷ (y ∷ identityOf b))
+
+-- "the earliest specified start": "Ask and stop 41 both follow"
+abbrev pub startsBefore : List Node → Entry → Entry → Bool
+startsBefore nodes a b = served (rankAt nodes a) (rankAt nodes b) a b
+
+-- "the earliest completion": "ties of stop 42 remain by position and node"
 abbrev pub endsBefore : Entry → Entry → Bool
 endsBefore a b = before (a .end .0) (b .end .0) a b
+
+-- A report finds its node by start, position and node: those that it compares have one position and node, and only a made-up
+-- run holds two of them.
+abbrev pub byStart : Entry → Entry → Bool
+byStart a b = before (a .start .0) (b .start .0) a b
 
 -- ---- the first of those that pass a test
 

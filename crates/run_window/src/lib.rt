@@ -1,14 +1,15 @@
 // The window: "loaded action and event nodes not yet reported complete, at most 512".
+use basis::u8_to_usize;
 use time::Clock;
 use time::Specified;
 ghost use mathlib.Core.Path.{_≡_};
-ghost use Prim.Native.Nat.{_≤_, _<_};
+ghost use Prim.Native.Nat.{_≤_};
 ghost use Rattle.time.specs.Time.{horizon};
-ghost use Rattle.run_window.specs.Window.{vacant, isFree, startedOf, isOverdue, isLate, isDue, isNode, before, better};
-ghost use Rattle.run_window.specs.Inner.Times.{InTime, AllInTime};
-ghost use Rattle.run_window.specs.Inner.Search.{isSought, SoughtInTime, isNoticed, timeOf, sooner, kept, seenOf};
+ghost use Rattle.run_window.specs.Window.{vacant, isFree, startedOf, isOverdue, isLate, isDue, isNode, nodePlace};
+ghost use Rattle.run_window.specs.Inner.Times.{InTime};
 
 mod places; // the whole window
+mod search; // the first of what a call looks for
 
 // the most nodes that the window holds
 pub const WINDOW: usize = 512;
@@ -16,6 +17,7 @@ pub const WINDOW: usize = 512;
 pub use places::is_empty;
 pub use places::place_of;
 pub use places::vacancies;
+pub use search::look;
 
 // What a place of the window holds: nothing, a loaded node, or a started one.
 pub enum Phase {
@@ -45,6 +47,12 @@ pub struct Seen {
     pub overdue: Found,
     pub late: Found,
     pub sought: Found,
+}
+
+// The first of what is sought so far, and its rank.
+pub struct Ranked {
+    pub found: Found,
+    pub rank: u64,
 }
 
 // What is looked for in the window.
@@ -163,110 +171,9 @@ pub fn is_node(position: u32, node: u8, e: Entry) -> bool
     false
 }
 
-// ---- the first of those that pass a test
-
-// The order of ties: of two entries with the times x and y, whether the first goes before the second.
-pub fn before(x: u64, y: u64, a: Entry, b: Entry) -> bool
-    ensures { λ r. ⌜ r ≡ before x y a b ⌝ }
+// Where its node stands among the nodes of the plan.
+pub fn node_place(e: Entry) -> usize
+    ensures { λ r. ⌜ r ≡ nodePlace e ⌝ }
 {
-    if x == y {
-        if a.position == b.position {
-            return a.node < b.node;
-        }
-        return a.position < b.position;
-    }
-    x < y
-}
-
-// "the earliest completion" of those that are overdue, "the earliest specified start" of the others.
-fn time_of(sought: Sought, e: Entry) -> u64
-    ensures { λ r. ⌜ r ≡ timeOf sought e ⌝ }
-{
-    match sought {
-        Sought::Overdue(_, _) => e.end.0,
-        Sought::Late(_, _, _) => e.start.0,
-        Sought::Due(_, _) => e.start.0,
-        Sought::Node(_, _) => e.start.0,
-    }
-}
-
-fn is_sought(sought: Sought, e: Entry) -> bool
-    requires { ⌜ SoughtInTime sought × InTime e ⌝ }
-    ensures { λ r. ⌜ r ≡ isSought sought e ⌝ }
-{
-    match sought {
-        Sought::Overdue(psi, t) => is_overdue(psi, t, e),
-        Sought::Late(psi, slack, t) => is_late(psi, slack, t, e),
-        Sought::Due(psi, t) => is_due(psi, t, e),
-        Sought::Node(position, node) => is_node(position, node, e),
-    }
-}
-
-// Entry e at place i, unless what was found behind it goes before it.
-fn better(sought: Sought, i: usize, e: Entry, rest: Found) -> Found
-    ensures { λ r. ⌜ r ≡ better (sooner sought) i e rest ⌝ }
-{
-    match rest {
-        Found::Nothing => {
-            return Found::At(i, e);
-        }
-        Found::At(_, f) => {
-            if before(time_of(sought, f), time_of(sought, e), f, e) {
-                return rest;
-            }
-            return Found::At(i, e);
-        }
-    }
-}
-
-// What is sought of place i with entry e and of what was found behind it.
-fn kept(sought: Sought, i: usize, e: Entry, rest: Found) -> Found
-    requires { ⌜ SoughtInTime sought × InTime e ⌝ }
-    ensures { λ r. ⌜ r ≡ kept sought i e rest ⌝ }
-{
-    if is_sought(sought, e) {
-        return better(sought, i, e, rest);
-    }
-    rest
-}
-
-// Whether an entry is overdue, late, or what is sought. Most of a window is none of these, and `look` passes it by.
-fn is_noticed(psi: Clock, slack: u64, t: Clock, sought: Sought, e: Entry) -> bool
-    requires { ⌜ (psi .0 ≤ horizon) × (slack ≤ horizon) × SoughtInTime sought × InTime e ⌝ }
-    ensures { λ r. ⌜ r ≡ isNoticed psi slack t sought e ⌝ }
-{
-    if is_overdue(psi, t, e) {
-        return true;
-    }
-    if is_late(psi, slack, t, e) {
-        return true;
-    }
-    is_sought(sought, e)
-}
-
-// Of those that are overdue, of those that are late and of what is sought, the first in the order of ties; of two like places
-// the lower one.
-pub fn look(window: [Entry; WINDOW], psi: Clock, slack: u64, t: Clock, sought: Sought) -> Seen
-    requires { ⌜ (psi .0 ≤ horizon) × (slack ≤ horizon) × SoughtInTime sought × AllInTime window ⌝ }
-    ensures { λ r. ⌜ r ≡ seenOf psi slack t sought window ⌝ }
-{
-    let mut overdue = Found::Nothing;
-    let mut late = Found::Nothing;
-    let mut found = Found::Nothing;
-    let mut i: usize = WINDOW;
-    while 0 < i {
-        i -= 1;
-        let e = window[i];
-        if !is_noticed(psi, slack, t, sought, e) {
-            continue;
-        }
-        overdue = kept(Sought::Overdue(psi, t), i, e, overdue);
-        late = kept(Sought::Late(psi, slack, t), i, e, late);
-        found = kept(sought, i, e, found);
-    }
-    Seen {
-        overdue,
-        late,
-        sought: found,
-    }
+    64 * u8_to_usize(e.activity) + u8_to_usize(e.node)
 }

@@ -3,6 +3,7 @@
 //! reported, which outcomes were told.
 
 use super::log::Log;
+use super::ties::{turn, Turn};
 use super::told::{Identity, Told};
 use crate::plan_file::{Kind, Plan};
 use crate::run::{Call, Opening, Reply, Request, Stop};
@@ -109,14 +110,22 @@ impl<'a> Expected<'a> {
         reply
     }
 
+    /// What decides among nodes of equal specified start: the kind that the node has in the combined
+    /// activity, then position and node.
+    fn tie_in_start(&self, n: &NodeTime) -> (Option<Turn>, Identity) {
+        let combined = &self.told.combined;
+        let member = combined.find(n.position, n.node);
+        (member.map(|m| turn(combined.members[m].kind)), identity(n))
+    }
+
     fn stop_at(&self, reading: u64) -> Option<Stop> {
         let (psi, slack) = (self.opening.psi, self.opening.slack);
         let is_started = |n: &NodeTime| self.started.contains(&identity(n));
         let overdue = |n: &&NodeTime| is_started(n) && reading >= psi + n.completion;
         let late = |n: &&NodeTime| !is_started(n) && reading > psi + n.start + slack;
         let named = |number, n: &NodeTime| Stop { number, node: Some((n.position as u32, n.node)) };
-        let first_overdue = self.window().filter(overdue).min_by_key(|n| (n.completion, n.position, n.node));
-        let first_late = self.window().filter(late).min_by_key(|n| (n.start, n.position, n.node));
+        let first_overdue = self.window().filter(overdue).min_by_key(|n| (n.completion, identity(n)));
+        let first_late = self.window().filter(late).min_by_key(|n| (n.start, self.tie_in_start(n)));
         first_overdue.map(|n| named(42, n)).or(first_late.map(|n| named(41, n)))
     }
 
@@ -133,7 +142,7 @@ impl<'a> Expected<'a> {
     fn reply_to_ask(&mut self, reading: u64) -> Reply {
         let due =
             |n: &&NodeTime| !self.started.contains(&identity(n)) && reading >= self.opening.psi + n.start;
-        let first = self.window().filter(due).min_by_key(|n| (n.start, n.position, n.node)).copied();
+        let first = self.window().filter(due).min_by_key(|n| (n.start, self.tie_in_start(n))).copied();
         if let Some(node) = first {
             self.started.insert(identity(&node));
             return Reply::Start { position: node.position as u32, activity: node.activity, node: node.node };

@@ -8,4 +8,5 @@ pub mod host;
 pub mod log;
 pub mod places;
 pub mod stitching;
+pub mod ties;
 pub mod told;

@@ -7,6 +7,7 @@ pub mod settings;
 pub mod shrink;
 pub mod smaller;
 pub mod threads;
+pub mod ties;
 
 use crate::generate::to_hex;
 

@@ -167,7 +167,7 @@ fn add_event(draft: &mut Draft, random: &mut Random, event: u8, durations: Durat
 }
 
 /// The same activity with other node numbers, so that arrows run against them.
-fn renumbered(nodes: Vec<Node>, random: &mut Random) -> Activity {
+pub(super) fn renumbered(nodes: Vec<Node>, random: &mut Random) -> Activity {
     let mut number: Vec<usize> = (0..nodes.len()).collect();
     if random.one_in(3) {
         return nodes;

@@ -229,12 +229,28 @@ impl<'a> Driver<'a> {
         }
     }
 
+    /// One step in so many has a fault. Hosts are late or overdue more often where several nodes tie.
+    fn rarity_of_faults(&self, host: Host) -> usize {
+        let window = self.run.window.iter();
+        let times: Vec<u64> = match host {
+            Host::Late => window.filter(|e| !e.started).map(|e| e.time.start).collect(),
+            Host::Overdue => window.filter(|e| e.started).map(|e| e.time.completion).collect(),
+            _ => vec![],
+        };
+        let first = times.iter().min();
+        match times.iter().filter(|time| Some(*time) == first).count() > 1 {
+            true => 2,
+            false => 8,
+        }
+    }
+
     fn step(&mut self, host: Host) {
+        let rarity = self.rarity_of_faults(host);
         match host {
             Host::Random => self.random_step(),
             Host::Exact => self.exact_step(),
             Host::Hasty => self.hasty_step(),
-            _ if self.random.one_in(8) => self.misbehave(host),
+            _ if self.random.one_in(rarity) => self.misbehave(host),
             _ => self.exact_step(),
         }
         if host != Host::Careful && self.random.one_in(4) {

@@ -2,7 +2,7 @@
 
 use super::hosts::{calls, Host, HOSTS};
 use super::layout::Layout;
-use super::openings::opening;
+use super::openings::{opening, tying_opening};
 use super::{damage, plans, templates, Random};
 use crate::plan_file::{encode, Plan, Transition};
 use crate::{drive, verdict};
@@ -108,9 +108,12 @@ pub fn call_list(random: &mut Random) -> Vec<u8> {
     call_list_of(random, host)
 }
 
-/// The same for one kind of host.
+/// The same for one kind of host. Two in three of those that are late or overdue are so where nodes tie.
 pub fn call_list_of(random: &mut Random, host: Host) -> Vec<u8> {
-    let opening = opening(random);
+    let opening = match host {
+        Host::Late | Host::Overdue if !random.one_in(3) => tying_opening(random),
+        _ => opening(random),
+    };
     let most = random.pick(&[20, 60, 60, 120]);
     let calls = calls(random, &opening, host, most);
     let mut input = drive::encode_calls(&opening, &calls);

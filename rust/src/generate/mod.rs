@@ -13,6 +13,7 @@ pub mod plans;
 pub mod questions;
 pub mod random;
 pub mod templates;
+pub mod tying;
 
 pub use random::Random;
 

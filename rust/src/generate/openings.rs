@@ -3,6 +3,7 @@
 use super::activity::Durations;
 use super::damage::damaged_blindly;
 use super::plans::{any_plan, plan, wide_plan, Style};
+use super::tying::tying_plan;
 use super::Random;
 use crate::plan_file::{encode, Plan};
 use crate::run::Opening;
@@ -26,27 +27,44 @@ fn plan_to_open(random: &mut Random) -> Plan {
             let durations = random.pick(&[Durations::Any, Durations::WithZeros]);
             plan(random, Style::small(durations))
         }
-        4..=9 => plan(random, Style::typical(Durations::Tying)),
-        10..=17 => plan(random, Style::pending(Durations::Tying)),
+        4..=8 => plan(random, Style::typical(Durations::Tying)),
+        9 | 10 => tying_plan(random),
+        11..=18 => plan(random, Style::pending(Durations::Tying)),
         _ => plan(random, Style::small(Durations::Tying)),
     }
+}
+
+/// Mostly the largest slack with which the plan opens.
+fn slack(random: &mut Random, plan: &Plan) -> u64 {
+    let shortest = shortest(plan).clamp(2, 1_000_001);
+    match random.below(12) {
+        0 => 1,
+        1..=3 => random.between(1, shortest as usize - 1) as u64,
+        _ => shortest - 1,
+    }
+}
+
+fn psi(random: &mut Random) -> u64 {
+    match random.below(8) {
+        0 => 0,
+        1 => HORIZON,
+        2 => random.below(HORIZON as usize) as u64,
+        _ => 1_000_000,
+    }
+}
+
+/// An opening whose nodes tie: all resources are available at once.
+pub fn tying_opening(random: &mut Random) -> Opening {
+    let plan = tying_plan(random);
+    let (slack, psi) = (slack(random, &plan), psi(random));
+    let availability = random.pick(&[0, 0, 0, 1_500]);
+    Opening { plan: encode(&plan), psi, slack, availabilities: vec![availability; plan.resources as usize] }
 }
 
 /// An opening, now and then with a fault.
 pub fn opening(random: &mut Random) -> Opening {
     let plan = plan_to_open(random);
-    let shortest = shortest(&plan).clamp(2, 1_000_001);
-    let slack = match random.below(12) {
-        0 => 1,
-        1..=3 => random.between(1, shortest as usize - 1) as u64,
-        _ => shortest - 1,
-    };
-    let psi = match random.below(8) {
-        0 => 0,
-        1 => HORIZON,
-        2 => random.below(HORIZON as usize) as u64,
-        _ => 1_000_000,
-    };
+    let (slack, psi) = (slack(random, &plan), psi(random));
     let base = match random.below(10) {
         0 | 1 => HORIZON - random.below(60_000) as u64,
         2 => random.below(100_000) as u64,

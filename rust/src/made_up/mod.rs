@@ -145,8 +145,18 @@ pub fn encode(run: &Run, calls: &[Call]) -> Vec<u8> {
 
 /// This build's answer: the replies, the second given the run that the first handed back.
 pub fn replies(run: &Run, calls: [Call; 2]) -> [Reply; 2] {
-    let (first, after) = run.clone().call(calls[0]);
-    [first, after.call(calls[1]).0]
+    replies_shown(run, calls, |_, _| ())
+}
+
+/// The same; each reply is shown, with the run after it.
+pub fn replies_shown(run: &Run, calls: [Call; 2], mut show: impl FnMut(&Run, Reply)) -> [Reply; 2] {
+    let mut run = run.clone();
+    calls.map(|call| {
+        let (reply, after) = std::mem::take(&mut run).call(call);
+        show(&after, reply);
+        run = after;
+        reply
+    })
 }
 
 /// The same as records.

@@ -1,16 +1,19 @@
 //! Ask, completion and outcome. "Order at a call: 50, kept stop, 51, 42, 41, 52 to 55."
 
 use super::{Call, Entry, Reply, Request, Run, Stop};
-use crate::plan_file::Kind;
+use crate::plan_file::{Kind, MOST_PERIPHERALS};
 use crate::toggles::{broken, Broken};
 
-/// "ties go by position, then node"
-fn tie(entry: &Entry) -> (u64, u64) {
-    let (position, node) = (entry.time.position, entry.time.node as u64);
-    if broken(Broken::TiesByNodeFirst) {
-        return (node, position);
+/// What decides among entries of one time: the least comes first.
+type Tie = [i64; 3];
+
+/// "ties of stop 42 remain by position and node"
+fn by_position(entry: &Entry) -> Tie {
+    let (position, node) = (entry.time.position as i64, entry.time.node as i64);
+    match broken(Broken::TiesByNodeFirst) {
+        true => [0, node, position],
+        false => [0, position, node],
     }
-    (position, node)
 }
 
 impl Run {
@@ -74,11 +77,36 @@ impl Run {
         self.overdue(reading).or(self.late(reading))
     }
 
+    /// "by peripheral number, events after all actions". A made-up entry may name a claim or a release:
+    /// it comes where events do.
+    fn rank(&self, entry: &Entry) -> i64 {
+        match self.plan.activities[entry.time.activity as usize][entry.time.node as usize].kind {
+            Kind::Action { peripheral, .. } if broken(Broken::HighPeripheralsFirst) => -(peripheral as i64),
+            Kind::Action { peripheral, .. } => peripheral as i64,
+            _ if broken(Broken::EventsFirst) => -1,
+            _ => MOST_PERIPHERALS as i64,
+        }
+    }
+
+    /// "Ties in specified start now go by peripheral number, events after all actions, then position,
+    /// then node."
+    fn by_peripheral(&self, entry: &Entry) -> Tie {
+        let (rank, [_, position, node]) = (self.rank(entry), by_position(entry));
+        match broken(Broken::PositionBeforePeripheral) {
+            true => [position, rank, node],
+            false => [rank, position, node],
+        }
+    }
+
     /// 42: "the reading is at or past Ψ + completion of a started, unreported node, naming the
     /// one with the earliest completion".
     fn overdue(&self, reading: u64) -> Option<Stop> {
         let extra = broken(Broken::OverdueOneLater) as u64;
         let over = |e: &&Entry| e.started && reading >= self.clock(e.time.completion) + extra;
+        let tie = |e: &Entry| match broken(Broken::OverdueByPeripheral) {
+            true => self.by_peripheral(e),
+            false => by_position(e),
+        };
         let first = self.window.iter().filter(over).min_by_key(|e| (e.time.completion, tie(e)))?;
         Some(Stop { number: 42, node: Some((first.time.position as u32, first.time.node)) })
     }
@@ -89,20 +117,28 @@ impl Run {
         let extra = broken(Broken::LateAtTheSlack) as u64;
         let slack = if broken(Broken::LateWithoutSlack) { 0 } else { self.slack };
         let late = |e: &&Entry| !e.started && reading + extra > self.clock(e.time.start) + slack;
+        let tie = |e: &Entry| match broken(Broken::LateByPosition) {
+            true => by_position(e),
+            false => self.by_peripheral(e),
+        };
         let first = self.window.iter().filter(late).min_by_key(|e| (e.time.start, tie(e)))?;
         Some(Stop { number: 41, node: Some((first.time.position as u32, first.time.node)) })
     }
 
-    /// "Ask starts the due, unstarted node with the earliest specified start; ties go by
-    /// position, then node."
+    /// The index of "the due, unstarted node with the earliest specified start".
+    fn next_due(&self, reading: u64) -> Option<usize> {
+        let again = broken(Broken::StartsTwice);
+        let due = |e: &Entry| (!e.started || again) && reading >= self.clock(e.time.start);
+        let entries = self.window.iter().enumerate().filter(|(_, e)| due(e));
+        entries.min_by_key(|(_, e)| (e.time.start, self.by_peripheral(e))).map(|(index, _)| index)
+    }
+
+    /// "Ask starts the due, unstarted node with the earliest specified start".
     fn answer_ask(mut self, reading: u64) -> (Reply, Run) {
         self.last_reading = reading;
-        let (psi, again) = (self.psi, broken(Broken::StartsTwice));
-        let due = |e: &&mut Entry| (!e.started || again) && reading >= psi + e.time.start;
-        let next = self.window.iter_mut().filter(due).min_by_key(|e| (e.time.start, tie(e)));
-        if let Some(entry) = next {
-            entry.started = true;
-            let time = entry.time;
+        if let Some(index) = self.next_due(reading) {
+            self.window[index].started = true;
+            let time = self.window[index].time;
             let position = time.position as u32;
             return (Reply::Start { position, activity: time.activity, node: time.node }, self);
         }

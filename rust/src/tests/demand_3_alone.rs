@@ -21,6 +21,11 @@ const LISTS: u64 = 2_000;
 /// processed completion that holds nothing back and a second start above all.
 const NOT_OF_DEMAND_3: &[Broken] = &[
     Broken::TiesByNodeFirst,
+    Broken::HighPeripheralsFirst,
+    Broken::EventsFirst,
+    Broken::PositionBeforePeripheral,
+    Broken::OverdueByPeripheral,
+    Broken::LateByPosition,
     Broken::RefusalMovesReading,
     Broken::LateBeforeOverdue,
     Broken::ReadingBeforeKeptStop,

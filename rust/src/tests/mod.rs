@@ -12,6 +12,7 @@ mod mutations;
 mod places;
 mod runs;
 mod stitching;
+mod ties;
 mod times;
 
 use crate::compare::hits::Hits;

@@ -7,8 +7,9 @@ use crate::check::{demand_3, expected};
 use crate::compare::hits::{wanted_of_runs, Hits};
 use crate::compare::settings::{self, run_cases};
 use crate::compare::smaller::smallest_call_list;
+use crate::compare::ties::{too_few, Ties};
 use crate::compare::Failure;
-use crate::drive::{calls_among, decode, drive, RECORD};
+use crate::drive::{calls_among, decode, drive_shown, RECORD};
 use crate::generate::hosts::{calls, Host, HOSTS};
 use crate::generate::openings::opening;
 use crate::generate::{inputs, Random};
@@ -22,6 +23,7 @@ struct Checked {
     paths: usize,
     /// None if the opening was refused.
     host: Option<HostSide>,
+    ties: Ties,
 }
 
 /// Drives an input and checks its log.
@@ -33,8 +35,8 @@ fn checked(input: &[u8]) -> Result<Option<Checked>, String> {
         Ok(()) => Some(demand_3_holds(&log)?),
         Err(_) => None,
     };
-    drives_alike(input, &log)?;
-    Ok(Some(Checked { log, paths, host }))
+    let ties = drives_alike(input, &log)?;
+    Ok(Some(Checked { log, paths, host, ties }))
 }
 
 /// Demand 3 on the log of an accepted opening; gives what its host kept.
@@ -47,16 +49,18 @@ fn demand_3_holds(log: &Log) -> Result<HostSide, String> {
     }
 }
 
-/// The records of a drive say what the log says, and the rest of the buffer is left alone.
-fn drives_alike(input: &[u8], log: &Log) -> Result<(), String> {
+/// The records of a drive say what the log says, and the rest of the buffer is left alone. Gives the ties
+/// that the calls met.
+fn drives_alike(input: &[u8], log: &Log) -> Result<Ties, String> {
     let mut out = vec![0xC3; (log.calls.len() + 1) * RECORD + 7];
-    let written = drive(input, &mut out);
+    let mut ties = Ties::default();
+    let written = drive_shown(input, &mut out, |run, reply| ties.look(run, reply));
     let told = from_records(input, &out[..written]).ok_or("records say nothing")?;
     let replies = |log: &Log| log.calls.iter().map(|entry| entry.reply).collect::<Vec<_>>();
     let same = told.answer == log.answer && replies(&told) == replies(log);
     let untouched = out[written..].iter().all(|&byte| byte == 0xC3);
     match same && untouched && written == (log.calls.len() + 1) * RECORD {
-        true => Ok(()),
+        true => Ok(ties),
         false => Err("a drive's records differ from the log".into()),
     }
 }
@@ -69,7 +73,7 @@ pub fn call_lists(seed: u64, cases: usize, hits: &mut Hits) -> Result<(), String
         match checked(&input) {
             Ok(Some(checked)) => {
                 count(hits, host, &checked);
-                Ok(())
+                checked.ties.count_of_an_opening(hits).map_err(|what| Failure::new(what, &input))
             }
             Ok(None) => Ok(()),
             Err(what) => {
@@ -123,6 +127,8 @@ fn every_answer_is_the_expected_one_and_demand_3_holds() {
     wanted.push("lists with 3 paths in a call".into());
     judge_hits("call lists", &hits, &wanted);
     host_side::judge_counts(&hits);
+    let few = too_few(&hits, cases);
+    assert!(settings::is_by_hand() || few.is_empty(), "too few ties: {few:?}");
 }
 
 #[test]

@@ -29,8 +29,8 @@ use Rattle.demands.specs.Laws.AfterCalls.{going-stopped, reading-is}
 use Rattle.demands.specs.InLimits.{RunInLimits}
 use Rattle.demands.specs.Conditions.{entryAt, DueAt, FirstOf, IsReport, IsAction, RightKind, Condition, NamedAt, loadingAfter}
 use Rattle.demands.specs.Conditions as Places
-use Rattle.demands.specs.ByLog.{Known, lastReading, Open, Overdue, Late, Earliest, Rises, NotOverdue, Timely, Names, Reports, Refuses, Learns, Ended, Asks, After, Halts, Takes, Answered}
-use Rattle.demands.specs.Laws.ByLogPlaces.{known, nodeOf, IsHeld, of-word, stands-at, at-stands, started-at, at-started, unstarted-at, at-unstarted, overdue-to, overdue-from, late-to, late-from, due-to, due-from, overdue-earliest, overdue-first, late-earliest, late-first, due-earliest, due-first, named-to, named-from, named-first, kind-same, kind-at}
+use Rattle.demands.specs.ByLog.{Known, lastReading, Open, Overdue, Late, Earliest, FirstServed, Rises, NotOverdue, Timely, Names, Reports, Refuses, Learns, Ended, Asks, After, Halts, Takes, Answered}
+use Rattle.demands.specs.Laws.ByLogPlaces.{known, nodeOf, IsHeld, of-word, stands-at, at-stands, started-at, at-started, unstarted-at, at-unstarted, overdue-to, overdue-from, late-to, late-from, due-to, due-from, overdue-earliest, overdue-first, late-served, served-late, due-served, served-due, named-to, named-from, named-first, kind-same, kind-at}
 
 is-stop : (r : Reply) → Stops r → (s : Stop) × (r ≡ Reply.Stopped s)
 is-stop (Reply.Stopped s) h = (s, refl)
@@ -157,7 +157,7 @@ module _ (run : Run) (log : Log) (is : List ℕ) (S C : Ident → ℕ) (availabl
   halts-to c s (Places.Halts.number42 i r f) =
       Halts.number42 (subst (Rises K) (reading-is c) (rises-to (readingOf c) r)) (subst (λ (t : ℕ). Earliest C (Overdue K t) (nodeOf run log is S C available d nf i)) (reading-is c) (overdue-earliest run log is S C available d nf (readingOf c) i f))
   halts-to c s (Places.Halts.number41 i r f) =
-      Halts.number41 (subst (NotOverdue K) (reading-is c) (overdue-none (readingOf c) r)) (subst (λ (t : ℕ). Earliest S (Late K t) (nodeOf run log is S C available d nf i)) (reading-is c) (late-earliest run log is S C available d nf (readingOf c) i f))
+      Halts.number41 (subst (NotOverdue K) (reading-is c) (overdue-none (readingOf c) r)) (subst (λ (t : ℕ). FirstServed K (Late K t) (nodeOf run log is S C available d nf i)) (reading-is c) (late-served run log is S C available d nf lawful path limits (readingOf c) i f))
   halts-to c s (Places.Halts.number43 {t} {p} {n} {o} i e l q) = Halts.number43 e (learns-to t p n o i e l) (loading t p n o i e l Failure.Full .0 q)
   halts-to c s (Places.Halts.number44 {t} {p} {n} {o} i e l q) = Halts.number44 e (learns-to t p n o i e l) (loading t p n o i e l Failure.Beyond .0 q)
 
@@ -167,7 +167,7 @@ module _ (run : Run) (log : Log) (is : List ℕ) (S C : Ident → ℕ) (availabl
       let q = overdue-first run log is S C available d nf (readingOf c) (id p n) (subst (λ (t : ℕ). Earliest C (Overdue K t) (id p n)) (sym (reading-is c)) f) in
       subst (λ (z : Id). Places.Halts run c (Stop.Overdue (z .position) (z .node))) (q .2) (Places.Halts.number42 (q .0) (rises-from (readingOf c) (subst (Rises K) (sym (reading-is c)) r)) (q .1))
   halts-from c s (Halts.number41 {p = p} {n} r f) =
-      let q = late-first run log is S C available d nf (readingOf c) (id p n) (subst (λ (t : ℕ). Earliest S (Late K t) (id p n)) (sym (reading-is c)) f) in
+      let q = served-late run log is S C available d nf lawful path limits (readingOf c) (id p n) (subst (λ (t : ℕ). FirstServed K (Late K t) (id p n)) (sym (reading-is c)) f) in
       subst (λ (z : Id). Places.Halts run c (Stop.Late (z .position) (z .node))) (q .2) (Places.Halts.number41 (q .0) (none-overdue (readingOf c) (subst (NotOverdue K) (sym (reading-is c)) r)) (q .1))
   halts-from c s (Halts.number43 {t} {p} {n} {o} e l q) = let m = learns-from t p n o e l in Places.Halts.number43 (m .0) e (m .1) (loading t p n o (m .0) e (m .1) Failure.Full .1 q)
   halts-from c s (Halts.number44 {t} {p} {n} {o} e l q) = let m = learns-from t p n o e l in Places.Halts.number44 (m .0) e (m .1) (loading t p n o (m .0) e (m .1) Failure.Beyond .1 q)
@@ -187,14 +187,14 @@ module _ (run : Run) (log : Log) (is : List ℕ) (S C : Ident → ℕ) (availabl
   }
 
   asks-to : (c : Call) (r : Reply) → Places.Asks run c r → Asks K c r
-  asks-to c r (Places.Asks.starts {t} i y f) = Asks.starts (timely-to t y) (due-earliest run log is S C available d nf t i f) (of-word run log is S C available d nf i (ap isHeld (f .has .unstarted)) .activity)
+  asks-to c r (Places.Asks.starts {t} i y f) = Asks.starts (timely-to t y) (due-served run log is S C available d nf lawful path limits t i f) (of-word run log is S C available d nf i (ap isHeld (f .has .unstarted)) .activity)
   asks-to c r (Places.Asks.done {t} y e) = Asks.done (timely-to t y) (ended-to e)
   asks-to c r (Places.Asks.waits {t} y n e) = Asks.waits (timely-to t y) (λ x o. let p = due-from run log is S C available d nf t x o in n (p .0) (p .1)) (λ q. e (ended-from q))
 
   asks-from : (c : Call) (r : Reply) → Asks K c r → Places.Asks run c r
-  asks-from c r (Asks.starts {t} {q} {a} {n} y f m) = go (due-first run log is S C available d nf t (id q n) f)
+  asks-from c r (Asks.starts {t} {q} {a} {n} y f m) = go (served-due run log is S C available d nf lawful path limits t (id q n) f)
     where
-      go : (p : (i : ℕ) × FirstOf run (DueAt run t) startsBefore i × (nodeOf run log is S C available d nf i ≡ id q n)) → Places.Asks run (Call.Ask t) (Reply.Start q a n)
+      go : (p : (i : ℕ) × FirstOf run (DueAt run t) (startsBefore (run .plan .nodes)) i × (nodeOf run log is S C available d nf i ≡ id q n)) → Places.Asks run (Call.Ask t) (Reply.Start q a n)
       go p =
           let e : entryAt run (p .0) .activity ≡ a = one-activity (run .plan) is q (entryAt run (p .0) .activity) a (subst (λ (z : ℕ). EmitsAt (run .plan) is z (entryAt run (p .0) .activity)) (ap (λ (z : Id). z .position) (p .2)) (of-word run log is S C available d nf (p .0) (ap isHeld (p .1 .has .unstarted)) .activity)) m in
           subst (λ (z : Id). Places.Asks run (Call.Ask t) (Reply.Start (z .position) a (z .node))) (p .2)

@@ -19,7 +19,7 @@ use Rattle.automaton.specs.Number.{lowest, noWayOut, apartFrom, branchesIn, ser
 use Rattle.times.specs.Times.{readyOf, largestOf, startOf, placedOf, visitOf, roundOf, roundsOf}
 use Rattle.times.specs.Queues.{shiftedOf, processedOf, floorOf, queuedOf}
 use Rattle.times.specs.Engine.{raisedOf, heldOf, leftBy, leftOf, aboveOf, beyondOf, closedOf, emitsOf, timedOf}
-use Rattle.run_window.specs.Window.{isOverdue, isLate, isDue, isNode, before, first, isEmpty, placed, vacancies}
+use Rattle.run_window.specs.Window.{isOverdue, isLate, isDue, isNode, precedes, first, isEmpty, placed, vacancies}
 use Rattle.run_window.specs.Laws.Placed.{freePlace}
 use Rattle.run_path.specs.Path.{entriesFrom, pathFrom}
 use Rattle.judge.specs.Judge.{judgeOf}
@@ -38,6 +38,6 @@ use Rattle.timetable_turns.specs.Timetable.{tableFrom, timetableOf}
 use Rattle.demands.specs.Cases.{theCases, AllHold}
 
 pub cases : AllHold theCases
-unfolding fieldAt number optional optionalBytes byteAt optionalCount numbersThen asksOf kindBy durationAt predsLoop predsAt nodeWith nodeAt belongsAt peripheralsAt outcomesAt eventsAt nodesThen activitiesLoop activitiesAt inputAt outputAt moveWith moveFrom moveAt finalsAt moveCountAt movesLoop movesAt automatonAt sectionsAt endedAt withAutomaton withActivities withEvents withPeripherals planAt readPlan within nodeInLimits slotInLimits nodesInLimits moveInLimits movesInLimits automatonInLimits partsInLimits inLimits isRising slotWritten nodesWritten fileRules timesInLimits instanceInLimits placeInLimits pendingInLimits progressFits progressInLimits entryInLimits windowInLimits every some wordOf passes beforeWords noCycle ruleI ruleII ruleIII ruleIV ruleV ruleVI ruleVII ruleVIII ruleIX ruleX ruleXI faultBy faultOf verdictFrom activitiesVerdict copied all nextFrom chosenFrom lowest noWayOut apartFrom branchesIn serves again falses finalsOf passBack advanced passOn judgeCounts pathVerdict wayVerdict stateVerdict automatonVerdict readyOf largestOf startOf placedOf visitOf roundOf roundsOf shiftedOf processedOf floorOf queuedOf raisedOf heldOf leftBy leftOf aboveOf beyondOf closedOf emitsOf timedOf isOverdue isLate isDue isNode before first isEmpty placed vacancies freePlace entriesFrom pathFrom judgeOf runInLimits load wayOn further anyAbove anyShort shortFrom openPlan openOf asked completed isInstance toldFrom learns timelyBy askOf completionOf outcomeOf callOf digits line rows freeOf tableFrom timetableOf
+unfolding fieldAt number optional optionalBytes byteAt optionalCount numbersThen asksOf kindBy durationAt predsLoop predsAt nodeWith nodeAt belongsAt peripheralsAt outcomesAt eventsAt nodesThen activitiesLoop activitiesAt inputAt outputAt moveWith moveFrom moveAt finalsAt moveCountAt movesLoop movesAt automatonAt sectionsAt endedAt withAutomaton withActivities withEvents withPeripherals planAt readPlan within nodeInLimits slotInLimits nodesInLimits moveInLimits movesInLimits automatonInLimits partsInLimits inLimits isRising slotWritten nodesWritten fileRules timesInLimits instanceInLimits placeInLimits pendingInLimits progressFits progressInLimits entryInLimits windowInLimits every some wordOf passes beforeWords noCycle ruleI ruleII ruleIII ruleIV ruleV ruleVI ruleVII ruleVIII ruleIX ruleX ruleXI faultBy faultOf verdictFrom activitiesVerdict copied all nextFrom chosenFrom lowest noWayOut apartFrom branchesIn serves again falses finalsOf passBack advanced passOn judgeCounts pathVerdict wayVerdict stateVerdict automatonVerdict readyOf largestOf startOf placedOf visitOf roundOf roundsOf shiftedOf processedOf floorOf queuedOf raisedOf heldOf leftBy leftOf aboveOf beyondOf closedOf emitsOf timedOf isOverdue isLate isDue isNode precedes first isEmpty placed vacancies freePlace entriesFrom pathFrom judgeOf runInLimits load wayOn further anyAbove anyShort shortFrom openPlan openOf asked completed isInstance toldFrom learns timelyBy askOf completionOf outcomeOf callOf digits line rows freeOf tableFrom timetableOf
 cases =
     (refl, (refl, (refl, (refl, (refl, (refl, (refl, (refl, (refl, (refl, (refl, (refl, (refl, (refl, (refl, (refl, (refl, tt)))))))))))))))))

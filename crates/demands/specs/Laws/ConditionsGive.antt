@@ -10,8 +10,8 @@ use Rattle.plan.specs.Plan.{outcomesOf}
 use Rattle.plan.specs.declared.Kind.{Kind}
 use Rattle.run_window.specs.declared.Entry.{Entry}
 use Rattle.run_window.specs.declared.Phase.{Phase}
-use Rattle.run_window.specs.Window.{startedOf, isFree, isOverdue, isLate, isDue, isNode, startsBefore, endsBefore}
-use Rattle.run_window.specs.Laws.Order.{starts-order, ends-order}
+use Rattle.run_window.specs.Window.{startedOf, isFree, isOverdue, isLate, isDue, isNode, startsBefore, byStart, endsBefore}
+use Rattle.run_window.specs.Laws.Order.{starts-order, report-order, ends-order}
 use Rattle.run_checks.specs.Order.{timelyBy}
 use Rattle.run.specs.declared.Run.{Run}
 use Rattle.run_checks.specs.declared.Halt.{Halt}
@@ -65,13 +65,13 @@ module _ (run : Run) (t : Clock) (go : Answer) where
   unfolding timelyBy
   timely-overdue i r f = rw (le-ltb (t .0) (run .last .0) (r .rises), first-place run (isOverdue (run .psi) t) (OverdueAt run t) (overdue-places run t) endsBefore ends-order i f)
 
-  timely-late : (i : ℕ) → NotOverdue run t → FirstOf run (LateAt run t) startsBefore i → timely run t go ≡ stops run t (Stop.Late (entryAt run i .position) (entryAt run i .node))
+  timely-late : (i : ℕ) → NotOverdue run t → FirstOf run (LateAt run t) (startsBefore (run .plan .nodes)) i → timely run t go ≡ stops run t (Stop.Late (entryAt run i .position) (entryAt run i .node))
   unfolding timelyBy
   timely-late i h f =
       rw (
         le-ltb (t .0) (run .last .0) (h .rises .rises),
         none-place run (isOverdue (run .psi) t) (OverdueAt run t) (overdue-places run t) endsBefore ends-order (h .none),
-        first-place run (isLate (run .psi) (run .slack) t) (LateAt run t) (late-places run t) startsBefore starts-order i f,
+        first-place run (isLate (run .psi) (run .slack) t) (LateAt run t) (late-places run t) (startsBefore (run .plan .nodes)) (starts-order (run .plan .nodes)) i f,
       )
 
   timely-goes : Timely run t → timely run t go ≡ go
@@ -80,7 +80,7 @@ module _ (run : Run) (t : Clock) (go : Answer) where
       rw (
         le-ltb (t .0) (run .last .0) (h .not-overdue .rises .rises),
         none-place run (isOverdue (run .psi) t) (OverdueAt run t) (overdue-places run t) endsBefore ends-order (h .not-overdue .none),
-        none-place run (isLate (run .psi) (run .slack) t) (LateAt run t) (late-places run t) startsBefore starts-order (h .none),
+        none-place run (isLate (run .psi) (run .slack) t) (LateAt run t) (late-places run t) (startsBefore (run .plan .nodes)) (starts-order (run .plan .nodes)) (h .none),
       )
 
 -- ---- the whole answer: of 42 and 41, and of a timely call
@@ -93,7 +93,7 @@ module _ (run : Run) (c : Call) where
       → callOf run c ≡ stops run (readingOf c) (Stop.Overdue (entryAt run i .position) (entryAt run i .node))
   overdue-call i r f = going-call (r .going) ∙ timely-overdue run (readingOf c) (passed run c) i r f
 
-  pub late-call : (i : ℕ) → NotOverdue run (readingOf c) → FirstOf run (LateAt run (readingOf c)) startsBefore i
+  pub late-call : (i : ℕ) → NotOverdue run (readingOf c) → FirstOf run (LateAt run (readingOf c)) (startsBefore (run .plan .nodes)) i
       → callOf run c ≡ stops run (readingOf c) (Stop.Late (entryAt run i .position) (entryAt run i .node))
   late-call i h f = going-call (h .rises .going) ∙ timely-late run (readingOf c) (passed run c) i h f
 
@@ -107,14 +107,14 @@ at-call run c r h q = ap replyOf (timely-call run c h) ∙ q
 -- ---- ask
 
 module _ (run : Run) (t : Clock) where
-  pub asked-starts : (i : ℕ) → FirstOf run (DueAt run t) startsBefore i
+  pub asked-starts : (i : ℕ) → FirstOf run (DueAt run t) (startsBefore (run .plan .nodes)) i
       → asked run t ≡ answer (Reply.Start (entryAt run i .position) (entryAt run i .activity) (entryAt run i .node)) (heard run t Halt.Going (run .progress) (set (run .window) i (startedOf (entryAt run i))))
   unfolding asked
-  asked-starts i f = rw (first-place run (isDue (run .psi) t) (DueAt run t) (due-places run t) startsBefore starts-order i f)
+  asked-starts i f = rw (first-place run (isDue (run .psi) t) (DueAt run t) (due-places run t) (startsBefore (run .plan .nodes)) (starts-order (run .plan .nodes)) i f)
 
   pub asked-nothing : Nowhere (DueAt run t) → asked run t ≡ answer (cond (isDone run) Reply.Done Reply.Wait) (heard run t Halt.Going (run .progress) (run .window))
   unfolding asked
-  asked-nothing n = rw (none-place run (isDue (run .psi) t) (DueAt run t) (due-places run t) startsBefore starts-order n)
+  asked-nothing n = rw (none-place run (isDue (run .psi) t) (DueAt run t) (due-places run t) (startsBefore (run .plan .nodes)) (starts-order (run .plan .nodes)) n)
 
   pub none-due : Ended run → Nowhere (DueAt run t)
   none-due e i h = true≢false (ap isFree (sym (e .empty i) ∙ h .unstarted))
@@ -133,13 +133,13 @@ module _ (run : Run) (t : Clock) where
 
 module _ (run : Run) (p n : ℕ) (f : ℕ → Entry → Answer) where
   reported-none : Nowhere (NodeAt run p n) → reported run p n f ≡ refuse run Refusal.NoSuchNode
-  reported-none h = rw (none-place run (isNode p n) (NodeAt run p n) (node-places run p n) startsBefore starts-order h)
+  reported-none h = rw (none-place run (isNode p n) (NodeAt run p n) (node-places run p n) byStart report-order h)
 
-  reported-loaded : (i : ℕ) → FirstOf run (NodeAt run p n) startsBefore i → entryAt run i .phase ≡ Phase.Loaded → reported run p n f ≡ refuse run Refusal.NotStarted
-  reported-loaded i h s = rw (first-place run (isNode p n) (NodeAt run p n) (node-places run p n) startsBefore starts-order i h, s)
+  reported-loaded : (i : ℕ) → FirstOf run (NodeAt run p n) byStart i → entryAt run i .phase ≡ Phase.Loaded → reported run p n f ≡ refuse run Refusal.NotStarted
+  reported-loaded i h s = rw (first-place run (isNode p n) (NodeAt run p n) (node-places run p n) byStart report-order i h, s)
 
-  reported-started : (i : ℕ) → FirstOf run (NodeAt run p n) startsBefore i → entryAt run i .phase ≡ Phase.Started → reported run p n f ≡ f i (entryAt run i)
-  reported-started i h s = rw (first-place run (isNode p n) (NodeAt run p n) (node-places run p n) startsBefore starts-order i h, s)
+  reported-started : (i : ℕ) → FirstOf run (NodeAt run p n) byStart i → entryAt run i .phase ≡ Phase.Started → reported run p n f ≡ f i (entryAt run i)
+  reported-started i h s = rw (first-place run (isNode p n) (NodeAt run p n) (node-places run p n) byStart report-order i h, s)
 
 not-node : (run : Run) (c : Call) → IsReport c → Nowhere (NamedAt run c) → passed run c ≡ refuse run Refusal.NoSuchNode
 unfolding completed learns
@@ -147,7 +147,7 @@ not-node run (Call.Ask t) r h = absurd r
 not-node run (Call.Completion t p n) r h = reported-none run p n _ h
 not-node run (Call.Outcome t p n o) r h = reported-none run p n _ h
 
-not-started : (run : Run) (c : Call) (i : ℕ) → FirstOf run (NamedAt run c) startsBefore i → entryAt run i .phase ≡ Phase.Loaded → passed run c ≡ refuse run Refusal.NotStarted
+not-started : (run : Run) (c : Call) (i : ℕ) → FirstOf run (NamedAt run c) byStart i → entryAt run i .phase ≡ Phase.Loaded → passed run c ≡ refuse run Refusal.NotStarted
 unfolding completed learns
 not-started run (Call.Ask t) i h s = absurd (h .has)
 not-started run (Call.Completion t p n) i h s = reported-loaded run p n _ i h s

@@ -11,9 +11,9 @@ use Rattle.plan.specs.Plan.{isFinal, outcomesOf}
 use Rattle.plan.specs.declared.Kind.{Kind}
 use Rattle.run_window.specs.declared.Entry.{Entry}
 use Rattle.run_window.specs.declared.Phase.{Phase}
-use Rattle.run_window.specs.Window.{isHeld, isStarted, isOverdue, isLate, isDue, isNode, startsBefore, endsBefore, isEmpty}
+use Rattle.run_window.specs.Window.{isHeld, isStarted, isOverdue, isLate, isDue, isNode, startsBefore, byStart, endsBefore, isEmpty}
 use Rattle.run_window.specs.Laws.Tests.{started-true}
-use Rattle.run_window.specs.Laws.Order.{starts-order, ends-order}
+use Rattle.run_window.specs.Laws.Order.{starts-order, report-order, ends-order}
 use Rattle.run_window.specs.Laws.Places.{empty-none, none-empty}
 use Rattle.run_checks.specs.Order.{timelyBy}
 use Rattle.run.specs.declared.Run.{Run}
@@ -48,7 +48,7 @@ module _ (run : Run) (c : Call) (go : Answer) (next : Timely run (readingOf c) �
       by-place run (isOverdue (run .psi) (readingOf c)) (OverdueAt run (readingOf c)) (overdue-places run (readingOf c)) endsBefore ends-order (MetBy run c) _ _
       (λ i f. record { condition = Halts.number42 i r f })
       (λ n. let h : NotOverdue run (readingOf c) = record { rises = r; none = n } in
-      by-place run (isLate (run .psi) (run .slack) (readingOf c)) (LateAt run (readingOf c)) (late-places run (readingOf c)) startsBefore starts-order (MetBy run c) _ _
+      by-place run (isLate (run .psi) (run .slack) (readingOf c)) (LateAt run (readingOf c)) (late-places run (readingOf c)) (startsBefore (run .plan .nodes)) (starts-order (run .plan .nodes)) (MetBy run c) _ _
       (λ i f. record { condition = Halts.number41 i h f })
       (λ m. next (record { not-overdue = h; none = m }))))
 
@@ -80,7 +80,7 @@ ended-done run h = rw (h .final) (none-empty (run .window) (λ i e k. true≢fal
 met-asked : (run : Run) (t : Clock) → Timely run t → MetBy run (Call.Ask t) (asked run t)
 unfolding asked
 met-asked run t h =
-    by-place run (isDue (run .psi) t) (DueAt run t) (due-places run t) startsBefore starts-order (MetBy run (Call.Ask t)) _ _
+    by-place run (isDue (run .psi) t) (DueAt run t) (due-places run t) (startsBefore (run .plan .nodes)) (starts-order (run .plan .nodes)) (MetBy run (Call.Ask t)) _ _
     (λ i f. record { condition = Asks.starts i h f })
     (λ n. record {
       condition = by-test (Condition run (Call.Ask t)) (isDone run) Reply.Done Reply.Wait
@@ -94,7 +94,7 @@ module _ (run : Run) (t : Clock) (p n : ℕ) (h : Timely run t) where
   met-completed : MetBy run (Call.Completion t p n) (completed run t p n)
   unfolding completed
   met-completed =
-      by-place run (isNode p n) (NodeAt run p n) (node-places run p n) startsBefore starts-order (MetBy run c) _ _
+      by-place run (isNode p n) (NodeAt run p n) (node-places run p n) byStart report-order (MetBy run c) _ _
       (λ i f. by-test (MetBy run c) (isStarted (entryAt run i .phase)) _ _
       (λ s. by-kind i (record { timely = h; named = f; started = started-true _ s }) (kindOf run (entryAt run i)) refl)
       (λ s. refused run c Refusal.NotStarted (Refuses.number53 i h f (held-loaded _ (f .has .held) s))))
@@ -118,7 +118,7 @@ module _ (run : Run) (t : Clock) (p n : ℕ) (h : Timely run t) where
     met-learns : MetBy run (Call.Outcome t p n o) (learns run t p n o)
     unfolding learns
     met-learns =
-        by-place run (isNode p n) (NodeAt run p n) (node-places run p n) startsBefore starts-order (MetBy run c) _ _
+        by-place run (isNode p n) (NodeAt run p n) (node-places run p n) byStart report-order (MetBy run c) _ _
         (λ i f. by-test (MetBy run c) (isStarted (entryAt run i .phase)) _ _
         (λ s. by-kind i (record { timely = h; named = f; started = started-true _ s }) (kindOf run (entryAt run i)) refl)
         (λ s. refused run c Refusal.NotStarted (Refuses.number53 i h f (held-loaded _ (f .has .held) s))))

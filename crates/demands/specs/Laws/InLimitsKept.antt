@@ -24,9 +24,9 @@ use Rattle.times.specs.Engine.{lastPosition}
 use Rattle.times.specs.Queues.{noInstance, pendingOf, instanceOf}
 use Rattle.times.specs.Limits.{InstanceInLimits}
 use Rattle.times.specs.declared.Progress.{Progress}
-use Rattle.run_window.specs.Window.{vacant, startedOf, isHeld, isStarted, isDue, isNode, startsBefore, placed, vacancies}
+use Rattle.run_window.specs.Window.{vacant, startedOf, isHeld, isStarted, isDue, isNode, startsBefore, byStart, placed, vacancies}
 use Rattle.run_window.specs.Laws.Tests.{due-tells, node-tells}
-use Rattle.run_window.specs.Laws.Order.{starts-order}
+use Rattle.run_window.specs.Laws.Order.{starts-order, report-order}
 use Rattle.run_window.specs.Laws.Firsts.{First, by-first}
 use Rattle.run_window.specs.Places.{Holds}
 use Rattle.run_window.specs.Laws.Placed.{placed-only}
@@ -166,11 +166,11 @@ module _ (run : Run) (r : RunInLimits run) where
   asked-kept : (t : Clock) → AnswerKept (asked run t)
   unfolding asked
   asked-kept t =
-      by-first (isDue (run .psi) t) startsBefore starts-order (run .window) AnswerKept _ _
+      by-first (isDue (run .psi) t) (startsBefore (run .plan .nodes)) (starts-order (run .plan .nodes)) (run .window) AnswerKept _ _
       (λ i e f. record { kept = next t Halt.Going (run .progress) _ tt (r .progress) (λ j x q. started i e f j x (stored-only (run .window) i (startedOf e) j x q)) })
       (λ n. record { kept = next t Halt.Going (run .progress) (run .window) tt (r .progress) (r .window) })
     where
-      started : (i : ℕ) (e : Entry) → First (isDue (run .psi) t) startsBefore (run .window) i e → (j : ℕ) (x : Entry) → ((j ≡ i) × (startedOf e ≡ x)) ⊎ ((j ≡ i → ⊥) × Holds (run .window) j x) → EntryInLimits (run .plan) x
+      started : (i : ℕ) (e : Entry) → First (isDue (run .psi) t) (startsBefore (run .plan .nodes)) (run .window) i e → (j : ℕ) (x : Entry) → ((j ≡ i) × (startedOf e ≡ x)) ⊎ ((j ≡ i → ⊥) × Holds (run .window) j x) → EntryInLimits (run .plan) x
       started i e f j x (inl q) =
           let l = r .window i e (record { entry = f .stands; held = ap isHeld (due-tells (run .psi) t e .0 (f .passes) .0) }) in
           subst (EntryInLimits (run .plan)) (q .1) record { position = l .position; activity = l .activity; node = l .node; start = l .start; end = l .end }
@@ -182,7 +182,7 @@ module _ (run : Run) (r : RunInLimits run) where
   -- a report of a node that stands in the window
   reported-kept : (p n : ℕ) (f : ℕ → Entry → Answer) → ((i : ℕ) (e : Entry) → Holds (run .window) i e → AnswerKept (f i e)) → AnswerKept (reported run p n f)
   reported-kept p n f h =
-      by-first (isNode p n) startsBefore starts-order (run .window) AnswerKept _ _
+      by-first (isNode p n) byStart report-order (run .window) AnswerKept _ _
       (λ i e q. by-test AnswerKept (isStarted (e .phase)) (f i e) (refuse run Refusal.NotStarted) (λ s. h i e (record { entry = q .stands; held = node-tells p n e .0 (q .passes) .0 })) (λ s. record { kept = r })) (λ q. record { kept = r })
 
   completed-by-kept : (t : Clock) (i : ℕ) (k : Kind) → AnswerKept (completedBy run t i k)
@@ -234,7 +234,7 @@ module _ (run : Run) (r : RunInLimits run) where
 
   timely-kept : (t : Clock) (go : Answer) → AnswerKept go → AnswerKept (timely run t go)
   timely-kept t go h =
-      by-timely AnswerKept _ _ _ _ (record { kept = r })
+      by-timely AnswerKept _ _ _ _ _ (record { kept = r })
       (λ i e q. record { kept = next t _ (run .progress) (run .window) (names i e q) (r .progress) (r .window) })
       (λ i e q. record { kept = next t _ (run .progress) (run .window) (names i e q) (r .progress) (r .window) }) h
 

@@ -18,6 +18,7 @@ use Rattle.run_window.specs.Window.{vacant, startedOf, isHeld, isStarted, isOve
 use Rattle.run_window.specs.Places.{Holds}
 use Rattle.run_window.specs.Laws.Tests.{overdue-tells, late-tells, due-tells, node-tells}
 use Rattle.run_window.specs.Laws.Places.{stored-only, cleared-only}
+use Rattle.run_window.specs.Laws.Order.{byService, byTime, service-telling, time-telling}
 use Rattle.run_window.specs.Laws.Content.{same-empty, by-both}
 use Rattle.run_outcomes.specs.Told.{toldOf}
 use Rattle.run_checks.specs.declared.Halt.{Halt}
@@ -87,7 +88,7 @@ module _ (run : Run) (v : List Entry) (c : SameContent (run .window) v) (old : B
   asked-like : (t : Clock) → LikeAnswer (asked run t) (asked other t)
   unfolding asked
   asked-like t =
-      by-both (λ e. e .start .0) (isDue (run .psi) t) (λ e q. ap isHeld (due-tells (run .psi) t e .0 q .0)) LikeAnswer (run .window) v (c .there) (c .back) (c .once .1) _ _ _ _
+      by-both (byService (run .plan .nodes)) (service-telling (run .plan .nodes)) (isDue (run .psi) t) (λ e q. ap isHeld (due-tells (run .psi) t e .0 q .0)) LikeAnswer (run .window) v (c .there) (c .back) (c .once .1) _ _ _ _
       (λ i j e s p q. record { reply = refl; run = started-like t i j e p q })
       (record { reply = ap (λ (b : Bool). cond (isFinal (run .plan .automaton) (run .progress .state) && b) Reply.Done Reply.Wait) (same-empty (run .window) v (c .there) (c .back)); run = unmoved t Halt.Going })
 
@@ -95,7 +96,7 @@ module _ (run : Run) (v : List Entry) (c : SameContent (run .window) v) (old : B
 
   reported-like : (p n : ℕ) (f g : ℕ → Entry → Answer) → ((i j : ℕ) (e : Entry) → Holds (run .window) i e → Holds v j e → LikeAnswer (f i e) (g j e)) → LikeAnswer (reported run p n f) (reported other p n g)
   reported-like p n f g h =
-      by-both (λ e. e .start .0) (isNode p n) (λ e q. node-tells p n e .0 q .0) LikeAnswer (run .window) v (c .there) (c .back) (c .once .1) _ _ _ _
+      by-both (byTime (λ e. e .start .0)) (time-telling (λ e. e .start .0)) (isNode p n) (λ e q. node-tells p n e .0 q .0) LikeAnswer (run .window) v (c .there) (c .back) (c .once .1) _ _ _ _
       (λ i j e s a b. by-same LikeAnswer (isStarted (e .phase)) (f i e) (refuse run Refusal.NotStarted) (g j e) (refuse other Refusal.NotStarted) (λ x. h i j e a b) (λ x. same (Reply.Refused Refusal.NotStarted)))
       (same (Reply.Refused Refusal.NoSuchNode))
 
@@ -143,9 +144,9 @@ module _ (run : Run) (v : List Entry) (c : SameContent (run .window) v) (old : B
   unfolding timelyBy
   timely-like t go on h =
       by-same LikeAnswer (isBelow (momentOf run t)) _ _ _ _ (λ b. same (Reply.Refused Refusal.ReadingBelow)) λ b.
-      by-both (λ e. e .end .0) (isOverdue (run .psi) t) (λ e q. ap isHeld (overdue-tells (run .psi) t e .0 q .0)) LikeAnswer (run .window) v (c .there) (c .back) (c .once .1) _ _ _ _
+      by-both (byTime (λ e. e .end .0)) (time-telling (λ e. e .end .0)) (isOverdue (run .psi) t) (λ e q. ap isHeld (overdue-tells (run .psi) t e .0 q .0)) LikeAnswer (run .window) v (c .there) (c .back) (c .once .1) _ _ _ _
       (λ i j e s p q. record { reply = refl; run = unmoved t (Halt.Stopped (Stop.Overdue (e .position) (e .node))) })
-      (by-both (λ e. e .start .0) (isLate (run .psi) (run .slack) t) (λ e q. ap isHeld (late-tells (run .psi) t e (run .slack) .0 q .0)) LikeAnswer (run .window) v (c .there) (c .back) (c .once .1) _ _ _ _
+      (by-both (byService (run .plan .nodes)) (service-telling (run .plan .nodes)) (isLate (run .psi) (run .slack) t) (λ e q. ap isHeld (late-tells (run .psi) t e (run .slack) .0 q .0)) LikeAnswer (run .window) v (c .there) (c .back) (c .once .1) _ _ _ _
       (λ i j e s p q. record { reply = refl; run = unmoved t (Halt.Stopped (Stop.Late (e .position) (e .node))) }) h)
 
   called-like : (t : Clock) (go on : Answer) → LikeAnswer go on → LikeAnswer (called run t go) (called other t on)

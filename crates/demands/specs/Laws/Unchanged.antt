@@ -15,7 +15,7 @@ use Rattle.plan.specs.declared.Kind.{Kind}
 use Rattle.plan.specs.declared.Plan.{Plan}
 use Rattle.plan.specs.declared.Verdict.{Verdict}
 use Rattle.run_window.specs.declared.Entry.{Entry}
-use Rattle.run_window.specs.Window.{first, isStarted, startsBefore, isDue, isNode}
+use Rattle.run_window.specs.Window.{first, isStarted, startsBefore, byStart, isDue, isNode}
 use Rattle.run_checks.specs.Laws.Checks.{by-timely}
 use Rattle.run.specs.declared.Run.{Run}
 use Rattle.run_checks.specs.declared.Halt.{Halt}
@@ -65,11 +65,11 @@ right-done run next false = tt
 right-asked : (run : Run) (t : Clock) → RightOf run (asked run t)
 unfolding asked
 right-asked run t =
-    by-found (RightOf run) (first (isDue (run .psi) t) startsBefore 0 (run .window)) _ _ (λ i e. record { right = tt }) (record { right = right-done run _ (isDone run) })
+    by-found (RightOf run) (first (isDue (run .psi) t) (startsBefore (run .plan .nodes)) 0 (run .window)) _ _ (λ i e. record { right = tt }) (record { right = right-done run _ (isDone run) })
 
 right-reported : (run : Run) (p n : ℕ) (f : ℕ → Entry → Answer) → ((i : ℕ) (e : Entry) → RightOf run (f i e)) → RightOf run (reported run p n f)
 right-reported run p n f h =
-    by-found (RightOf run) (first (isNode p n) startsBefore 0 (run .window)) _ _
+    by-found (RightOf run) (first (isNode p n) byStart 0 (run .window)) _ _
     (λ i e. by-cond (RightOf run) (isStarted (e .phase)) (f i e) (refuse run Refusal.NotStarted) (h i e) (record { right = refl })) (record { right = refl })
 
 right-completed-by : (run : Run) (t : Clock) (i : ℕ) (k : Kind) → RightOf run (completedBy run t i k)
@@ -103,7 +103,7 @@ unfolding learns
 right-learns run t p n o = right-reported run p n _ (λ i e. right-learns-by run t i e o (kindOf run e))
 
 right-timely : (run : Run) (t : Clock) (go : Answer) → RightOf run go → RightOf run (timely run t go)
-right-timely run t go h = by-timely (RightOf run) _ _ _ _ (record { right = refl }) (λ i e q. record { right = refl }) (λ i e q. record { right = refl }) h
+right-timely run t go h = by-timely (RightOf run) _ _ _ _ _ (record { right = refl }) (λ i e q. record { right = refl }) (λ i e q. record { right = refl }) h
 
 right-called : (run : Run) (t : Clock) (go : Answer) → RightOf run go → RightOf run (called run t go)
 right-called run t go h =

@@ -12,7 +12,7 @@ use Rattle.plan.specs.declared.Kind.{Kind}
 use Rattle.automaton.specs.Next.{nextOf}
 use Rattle.automaton.specs.declared.Next.{Next}
 use Rattle.run_window.specs.declared.Entry.{Entry}
-use Rattle.run_window.specs.Window.{vacancies, first, isStarted, startsBefore, isDue, isNode}
+use Rattle.run_window.specs.Window.{vacancies, first, isStarted, startsBefore, byStart, isDue, isNode}
 use Rattle.run_path.specs.Path.{Path, pathFrom, longestPath}
 use Rattle.run_outcomes.specs.Way.{wayOn}
 use Rattle.run_outcomes.specs.Told.{toldOf}
@@ -75,11 +75,11 @@ right-done t next false e = e
 right-asked : (run : Run) (t : Clock) → RightOf t (asked run t)
 unfolding asked
 right-asked run t =
-    by-found (RightOf t) (first (isDue (run .psi) t) startsBefore 0 (run .window)) _ _ (λ i e. record { right = (refl, refl) }) (record { right = right-done t _ (isDone run) (refl, refl) })
+    by-found (RightOf t) (first (isDue (run .psi) t) (startsBefore (run .plan .nodes)) 0 (run .window)) _ _ (λ i e. record { right = (refl, refl) }) (record { right = right-done t _ (isDone run) (refl, refl) })
 
 right-reported : (run : Run) (t : Clock) (p n : ℕ) (f : ℕ → Entry → Answer) → ((i : ℕ) (e : Entry) → RightOf t (f i e)) → RightOf t (reported run p n f)
 right-reported run t p n f h =
-    by-found (RightOf t) (first (isNode p n) startsBefore 0 (run .window)) _ _
+    by-found (RightOf t) (first (isNode p n) byStart 0 (run .window)) _ _
     (λ i e. by-cond (RightOf t) (isStarted (e .phase)) (f i e) (refuse run Refusal.NotStarted) (h i e) (record { right = tt })) (record { right = tt })
 
 right-completed-by : (run : Run) (t : Clock) (i : ℕ) (k : Kind) → RightOf t (completedBy run t i k)
@@ -113,7 +113,7 @@ unfolding learns
 right-learns run t p n o = right-reported run t p n _ (λ i e. right-learns-by run t i e o (kindOf run e))
 
 right-timely : (run : Run) (t : Clock) (go : Answer) → RightOf t go → RightOf t (timely run t go)
-right-timely run t go h = by-timely (RightOf t) _ _ _ _ (record { right = tt }) (λ i e q. record { right = (refl, refl) }) (λ i e q. record { right = (refl, refl) }) h
+right-timely run t go h = by-timely (RightOf t) _ _ _ _ _ (record { right = tt }) (λ i e q. record { right = (refl, refl) }) (λ i e q. record { right = (refl, refl) }) h
 
 right-called : (run : Run) (t : Clock) (go : Answer) → run .halt ≡ Halt.Going → RightOf t go → RightOf t (called run t go)
 right-called run t go g h =

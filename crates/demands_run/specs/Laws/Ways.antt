@@ -14,9 +14,9 @@ use Rattle.plan.specs.Plan.{outcomesOf, isFinal}
 use Rattle.plan.specs.declared.Kind.{Kind}
 use Rattle.plan.specs.declared.Plan.{Plan}
 use Rattle.times.specs.declared.Progress.{Progress}
-use Rattle.run_window.specs.Window.{vacant, isFree, isHeld, isStarted, startedOf, isOverdue, isLate, isDue, isNode, startsBefore, endsBefore, isEmpty}
+use Rattle.run_window.specs.Window.{vacant, isFree, isHeld, isStarted, startedOf, isOverdue, isLate, isDue, isNode, startsBefore, byStart, endsBefore, isEmpty}
 use Rattle.run_window.specs.Laws.Tests.{overdue-tells, overdue-false, due-tells, due-false, late-tells, late-false, node-tells, started-true, unfree-held}
-use Rattle.run_window.specs.Laws.Order.{starts-order, ends-order}
+use Rattle.run_window.specs.Laws.Order.{starts-order, report-order, ends-order}
 use Rattle.run_window.specs.Laws.Firsts.{First, NonePass, by-first}
 use Rattle.run_window.specs.Places.{Holds}
 use Rattle.run_window.specs.declared.Entry.{Entry}
@@ -137,7 +137,7 @@ module _ (p : Plan) (psi : Clock) (slack : ℕ) (given : Accepted p psi slack) (
     timely-way c t rd h go k =
         by-test (Goes c) (ltb (t .0) (last .0)) _ _ (λ b. refuse c Refusal.ReadingBelow h (λ e. below e)) λ b.
         by-first (isOverdue psi t) endsBefore ends-order w (Goes c) _ _ (λ i e f. overdue i e f) λ on-time.
-        by-first (isLate psi slack t) startsBefore starts-order w (Goes c) _ _ (λ i e f. late (ltb-false _ _ b) i e f) λ not-late.
+        by-first (isLate psi slack t) (startsBefore (p .nodes)) (starts-order (p .nodes)) w (Goes c) _ _ (λ i e f. late (ltb-false _ _ b) i e f) λ not-late.
         k record {
           rises = ltb-false _ _ b;
           not-overdue = λ i e q s. overdue-false psi t e (none-at (isOverdue psi t) on-time i e q) (started-true (e .phase) s);
@@ -159,7 +159,7 @@ module _ (p : Plan) (psi : Clock) (slack : ℕ) (given : Accepted p psi slack) (
               stays-good c (Reply.Stopped (Stop.Overdue (e .position) (e .node))) (inl (λ a. a .0)) w t (Halt.Stopped (Stop.Overdue (e .position) (e .node))) (good .entries) (good .long) (late-passes p psi slack given e (held .held) (entry-of i e held)) (λ s x z. absurd (subst FailedHalt (sym z) x)),
             )
 
-        late : last .0 ≤ t .0 → (i : ℕ) (e : Entry) → First (isLate psi slack t) startsBefore w i e → Goes c (Calls.stops run t (Stop.Late (e .position) (e .node)))
+        late : last .0 ≤ t .0 → (i : ℕ) (e : Entry) → First (isLate psi slack t) (startsBefore (p .nodes)) w i e → Goes c (Calls.stops run t (Stop.Late (e .position) (e .node)))
         late rise i e f =
             let q = late-tells psi t e slack .0 (f .passes) in
             let held : Holds w i e = record { entry = f .stands; held = ap isHeld (q .0) } in (
@@ -185,12 +185,12 @@ module _ (p : Plan) (psi : Clock) (slack : ℕ) (given : Accepted p psi slack) (
     ask-way : (t : Clock) → halt ≡ Halt.Going → Calm t → Goes (Call.Ask t) (asked run t)
     unfolding asked
     ask-way t h k =
-        by-first (isDue psi t) startsBefore starts-order w (Goes (Call.Ask t)) _ _ (λ i e f. start i e f) λ none-due.
+        by-first (isDue psi t) (startsBefore (p .nodes)) (starts-order (p .nodes)) w (Goes (Call.Ask t)) _ _ (λ i e f. start i e f) λ none-due.
         by-test (λ (r : Reply). Goes (Call.Ask t) (answer r (heard run t Halt.Going g w))) (isDone run) Reply.Done Reply.Wait
         (λ b. (is, idles (turns t w h) k tt (not-due none-due) (done b) (λ j x. (λ z. z, λ z. z)), stays-good (Call.Ask t) Reply.Done (inl (λ a. a)) w t Halt.Going (good .entries) (good .long) refl (λ s x z. absurd (not-going s (sym z)))))
         (λ b. (is, idles (turns t w h) k tt (not-due none-due) (wait b) (λ j x. (λ z. z, λ z. z)), stays-good (Call.Ask t) Reply.Wait (inl (λ a. a)) w t Halt.Going (good .entries) (good .long) refl (λ s x z. absurd (not-going s (sym z)))))
       where
-        start : (i : ℕ) (e : Entry) → First (isDue psi t) startsBefore w i e → Goes (Call.Ask t) (answer (Reply.Start (e .position) (e .activity) (e .node)) (heard run t Halt.Going g (set w i (startedOf e))))
+        start : (i : ℕ) (e : Entry) → First (isDue psi t) (startsBefore (p .nodes)) w i e → Goes (Call.Ask t) (answer (Reply.Start (e .position) (e .activity) (e .node)) (heard run t Halt.Going g (set w i (startedOf e))))
         start i e f =
             let q = due-tells psi t e .0 (f .passes) in
             let held : Holds w i e = record { entry = f .stands; held = ap isHeld (q .0) } in (
@@ -221,7 +221,7 @@ module _ (p : Plan) (psi : Clock) (slack : ℕ) (given : Accepted p psi slack) (
     report-way : (c : ℕ → ℕ → Call) (position node : ℕ) (f : ℕ → Entry → Answer) → halt ≡ Halt.Going
         → ((i : ℕ) (e : Entry) → Holds w i e → isStarted (e .phase) ≡ true → Goes (c (e .position) (e .node)) (f i e)) → Goes (c position node) (reported run position node f)
     report-way c position node f h k =
-        by-first (isNode position node) startsBefore starts-order w (Goes (c position node)) _ _
+        by-first (isNode position node) byStart report-order w (Goes (c position node)) _ _
         (λ i e q. by-test (Goes (c position node)) (isStarted (e .phase)) _ _ (λ s. go i e q s) (λ s. refuse (c position node) Refusal.NotStarted h (λ z. unstarted z)))
         (λ n. refuse (c position node) Refusal.NoSuchNode h (λ z. missing z))
       where
@@ -231,7 +231,7 @@ module _ (p : Plan) (psi : Clock) (slack : ℕ) (given : Accepted p psi slack) (
         missing : Refusal.NoSuchNode ≡ Refusal.OutOfLimits → ⊥
         missing e = let z : _≡_ {A = ℕ} 0 1 = cc in omega arith
 
-        go : (i : ℕ) (e : Entry) → First (isNode position node) startsBefore w i e → isStarted (e .phase) ≡ true → Goes (c position node) (f i e)
+        go : (i : ℕ) (e : Entry) → First (isNode position node) byStart w i e → isStarted (e .phase) ≡ true → Goes (c position node) (f i e)
         go i e q s =
             let t = node-tells position node e .0 (q .passes) in
             subst (λ (n : ℕ). Goes (c position n) (f i e)) (t .2) (subst (λ (n : ℕ). Goes (c n (e .node)) (f i e)) (t .1) (k i e (record { entry = q .stands; held = t .0 }) s))

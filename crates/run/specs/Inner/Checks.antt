@@ -20,4 +20,4 @@ storedInLimits run =
 -- what the checks say, and the first of what the call looks for
 unfoldable pub checkOf : Run → Clock → Sought → Check
 checkOf run t sought =
-    calledBy (runInLimits run) (run .halt) (momentOf run t) (run .window) Check.Objects (Check.Goes (firstOf sought (run .window)))
+    calledBy (runInLimits run) (run .halt) (momentOf run t) (run .plan .nodes) (run .window) Check.Objects (Check.Goes (firstOf (run .plan .nodes) sought (run .window)))

@@ -2,7 +2,7 @@
 use mathlib.Core.Path.{_≡_}
 use mathlib.Core.Bool.{true, cond, _&&_}
 use mathlib.Core.List.{List}
-use Prim.Native.Nat.{ℕ, _+_, _*_, _<_}
+use Prim.Native.Nat.{ℕ, _<_}
 use lib.Dec.{ltb}
 use lib.ListN.{getD, set}
 use Rattle.time.specs.declared.Clock.{Clock}
@@ -11,7 +11,7 @@ use Rattle.plan.specs.declared.Kind.{Kind}
 use Rattle.run_window.specs.declared.Entry.{Entry}
 use Rattle.run_window.specs.declared.Found.{Found}
 use Rattle.run_window.specs.declared.Sought.{Sought}
-use Rattle.run_window.specs.Window.{vacant, startedOf, onFound, isEmpty}
+use Rattle.run_window.specs.Window.{vacant, startedOf, nodePlace, onFound, isEmpty}
 use Rattle.run_checks.specs.declared.Halt.{Halt}
 use Rattle.run_checks.specs.declared.Refusal.{Refusal}
 use Rattle.run_checks.specs.declared.Objection.{Objection}
@@ -43,7 +43,7 @@ foundBy (Check.Objects o) = Found.Nothing
 -- where its node stands among the nodes of the plan
 abbrev pub placeOf : Found → ℕ
 placeOf Found.Nothing = 0
-placeOf (Found.At i e) = 64 * e .activity + e .node
+placeOf (Found.At i e) = nodePlace e
 
 -- how many outcomes the event of a node has
 abbrev pub outcomesFor : List ℕ → Kind → ℕ

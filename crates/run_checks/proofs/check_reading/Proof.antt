@@ -12,7 +12,7 @@ unfolding timelyBy
 returns c = rw (lt-ltb _ _ (c .if1 .taken))
 
 look-requires : tie.Need-look-requires
-look-requires c κs = let p = c .before .before .before .before .pre in (p .0 .0, p .0 .1, p .1, p .0 .2)
+look-requires c κs = let p = c .before .before .before .before .pre in (p .0 .0, p .0 .1, p .1, p .0 .2, p .0 .3)
 
 returns-2 : tie.Need-returns-2
 unfolding timelyBy

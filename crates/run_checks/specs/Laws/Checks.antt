@@ -5,6 +5,7 @@ use mathlib.Core.List.{List}
 use Prim.Native.Nat.{ℕ}
 use native.Mathlib.Omega.{arith}
 use Rattle.basis.specs.Laws.Bools.{by-test}
+use Rattle.plan.specs.declared.Node.{Node}
 use Rattle.run_window.specs.declared.Entry.{Entry}
 use Rattle.run_window.specs.declared.Found.{Found}
 use Rattle.run_window.specs.Window.{isHeld, isStarted, isOverdue, isLate, startsBefore, endsBefore}
@@ -35,12 +36,12 @@ module _ {A : Type 0} (f : Objection → A) (go : A) (found : Found) where
   reading-said false Found.Nothing (Found.At i e) = refl
   reading-said false Found.Nothing Found.Nothing = refl
 
-  called-said : (limits : Bool) (halt : Halt) (m : Moment) (w : List Entry)
-      → calledBy limits halt m w f go ≡ onCheck (calledBy limits halt m w Check.Objects (Check.Goes found)) f go
+  called-said : (limits : Bool) (halt : Halt) (m : Moment) (nodes : List Node) (w : List Entry)
+      → calledBy limits halt m nodes w f go ≡ onCheck (calledBy limits halt m nodes w Check.Objects (Check.Goes found)) f go
   unfolding timelyBy
-  called-said false halt m w = refl
-  called-said true (Halt.Stopped s) m w = refl
-  called-said true Halt.Going m w = reading-said (isBelow m) (firstOverdue m w) (firstLate m w)
+  called-said false halt m nodes w = refl
+  called-said true (Halt.Stopped s) m nodes w = refl
+  called-said true Halt.Going m nodes w = reading-said (isBelow m) (firstOverdue m w) (firstLate m nodes w)
 
 -- what is known where they object to nothing: neither 50 nor a kept stop, and what was found
 pub record Passed (within : Bool) (halt : Halt) (first : Found) (k : Found) : Type 0 where
@@ -58,15 +59,15 @@ abbrev foundBy : Check → Found
 foundBy (Check.Goes found) = found
 foundBy (Check.Objects o) = Found.Nothing
 
-module _ (limits : Bool) (halt : Halt) (m : Moment) (w : List Entry) (found : Found) (check : Check) (said : check ≡ calledBy limits halt m w Check.Objects (Check.Goes found)) where
+module _ (limits : Bool) (halt : Halt) (m : Moment) (nodes : List Node) (w : List Entry) (found : Found) (check : Check) (said : check ≡ calledBy limits halt m nodes w Check.Objects (Check.Goes found)) where
   module _ {A : Type 0} (f : Objection → A) (go : A) where
-    given : calledBy limits halt m w f go ≡ onCheck check f go
-    given = called-said f go found limits halt m w ∙ ap (λ (c : Check). onCheck c f go) (sym said)
+    given : calledBy limits halt m nodes w f go ≡ onCheck check f go
+    given = called-said f go found limits halt m nodes w ∙ ap (λ (c : Check). onCheck c f go) (sym said)
 
-    pub called-goes : (k : Found) → check ≡ Check.Goes k → calledBy limits halt m w f go ≡ go
+    pub called-goes : (k : Found) → check ≡ Check.Goes k → calledBy limits halt m nodes w f go ≡ go
     called-goes k q = given ∙ ap (λ (c : Check). onCheck c f go) q
 
-    pub called-objects : (o : Objection) → check ≡ Check.Objects o → calledBy limits halt m w f go ≡ f o
+    pub called-objects : (o : Objection) → check ≡ Check.Objects o → calledBy limits halt m nodes w f go ≡ f o
     called-objects o q = given ∙ ap (λ (c : Check). onCheck c f go) q
 
 reading-passed : (below : Bool) (overdue late found k : Found) → readingThen below overdue late Check.Objects (Check.Goes found) ≡ Check.Goes k → k ≡ found
@@ -75,14 +76,14 @@ reading-passed false (Found.At i e) late found k q = objects (Objection.Stops (S
 reading-passed false Found.Nothing (Found.At i e) found k q = objects (Objection.Stops (Stop.Late (e .position) (e .node))) k q
 reading-passed false Found.Nothing Found.Nothing found k q = ap foundBy (sym q)
 
-pub passed : (limits : Bool) (halt : Halt) (m : Moment) (w : List Entry) (found k : Found) → calledBy limits halt m w Check.Objects (Check.Goes found) ≡ Check.Goes k → Passed limits halt found k
+pub passed : (limits : Bool) (halt : Halt) (m : Moment) (nodes : List Node) (w : List Entry) (found k : Found) → calledBy limits halt m nodes w Check.Objects (Check.Goes found) ≡ Check.Goes k → Passed limits halt found k
 unfolding timelyBy
-passed false halt m w found k q = objects (Objection.Refuses Refusal.OutOfLimits) k q
-passed true (Halt.Stopped s) m w found k q = objects (Objection.Keeps s) k q
-passed true Halt.Going m w found k q = record {
+passed false halt m nodes w found k q = objects (Objection.Refuses Refusal.OutOfLimits) k q
+passed true (Halt.Stopped s) m nodes w found k q = objects (Objection.Keeps s) k q
+passed true Halt.Going m nodes w found k q = record {
   limits = refl;
   going = refl;
-  found = reading-passed (isBelow m) (firstOverdue m w) (firstLate m w) found k q;
+  found = reading-passed (isBelow m) (firstOverdue m w) (firstLate m nodes w) found k q;
 }
 
 -- ---- what a report names
@@ -103,16 +104,16 @@ module _ {A : Type 0} (f : ℕ → Entry → A) (g : Refusal → A) where
 -- ---- by cases
 
 -- of 51, 42 and 41; each stop names a node that stands in the window
-pub by-timely : {A : Type 0} (P : A → Type 0) (m : Moment) (w : List Entry) (f : Objection → A) (go : A)
+pub by-timely : {A : Type 0} (P : A → Type 0) (m : Moment) (nodes : List Node) (w : List Entry) (f : Objection → A) (go : A)
     → P (f (Objection.Refuses Refusal.ReadingBelow))
     → ((i : ℕ) (e : Entry) → Holds w i e → P (f (Objection.Stops (Stop.Overdue (e .position) (e .node)))))
     → ((i : ℕ) (e : Entry) → Holds w i e → P (f (Objection.Stops (Stop.Late (e .position) (e .node)))))
     → P go
-    → P (timelyBy m w f go)
+    → P (timelyBy m nodes w f go)
 unfolding timelyBy
-by-timely P m w f go below overdue late rest =
+by-timely P m nodes w f go below overdue late rest =
     by-test P (isBelow m) _ _ (λ b. below) λ b.
     by-first (isOverdue (m .psi) (m .t)) endsBefore ends-order w P _ _
     (λ i e q. overdue i e (record { entry = q .stands; held = ap isHeld (overdue-tells (m .psi) (m .t) e .0 (q .passes) .0) })) λ n.
-    by-first (isLate (m .psi) (m .slack) (m .t)) startsBefore starts-order w P _ _
+    by-first (isLate (m .psi) (m .slack) (m .t)) (startsBefore nodes) (starts-order nodes) w P _ _
     (λ i e q. late i e (record { entry = q .stands; held = ap isHeld (late-tells (m .psi) (m .t) e (m .slack) .0 (q .passes) .0) })) (λ n. rest)

@@ -2,13 +2,15 @@
 use mathlib.Core.Bool.{Bool, cond, _||_}
 use mathlib.Core.List.{List}
 use Prim.Native.Nat.{ℕ, _≤_}
+use Rattle.plan.specs.declared.Node.{Node}
 use Rattle.time.specs.Time.{horizon}
 use Rattle.time.specs.declared.Clock.{Clock}
 use Rattle.run_window.specs.declared.Entry.{Entry}
 use Rattle.run_window.specs.declared.Found.{Found}
 use Rattle.run_window.specs.declared.Sought.{Sought}
 use Rattle.run_window.specs.declared.Seen.{Seen}
-use Rattle.run_window.specs.Window.{isOverdue, isLate, isDue, isNode, before, better, first}
+use Rattle.run_window.specs.declared.Ranked.{Ranked}
+use Rattle.run_window.specs.Window.{isOverdue, isLate, isDue, isNode, served, rankAt, endsBefore, byStart, onFound, first}
 
 abbrev pub isSought : Sought → Entry → Bool
 isSought (Sought.Overdue psi t) = isOverdue psi t
@@ -16,34 +18,52 @@ isSought (Sought.Late psi slack t) = isLate psi slack t
 isSought (Sought.Due psi t) = isDue psi t
 isSought (Sought.Node position node) = isNode position node
 
--- "the earliest completion", for 42; "the earliest specified start", for ask and 41
-abbrev pub timeOf : Sought → Entry → ℕ
-timeOf (Sought.Overdue psi t) = λ e. e .end .0
-timeOf (Sought.Late psi slack t) = λ e. e .start .0
-timeOf (Sought.Due psi t) = λ e. e .start .0
-timeOf (Sought.Node position node) = λ e. e .start .0
+-- of two entries with the ranks x and y
+abbrev pub goesBy : Sought → ℕ → ℕ → Entry → Entry → Bool
+goesBy (Sought.Overdue psi t) x y = endsBefore
+goesBy (Sought.Late psi slack t) x y = served x y
+goesBy (Sought.Due psi t) x y = served x y
+goesBy (Sought.Node position node) x y = byStart
 
-abbrev pub sooner : Sought → Entry → Entry → Bool
-sooner sought a b = before (timeOf sought a) (timeOf sought b) a b
+abbrev pub sooner : List Node → Sought → Entry → Entry → Bool
+sooner nodes sought a b = goesBy sought (rankAt nodes a) (rankAt nodes b) a b
 
 -- of the places that hold what is sought, the first in the order of ties
-abbrev pub firstOf : Sought → List Entry → Found
-firstOf sought w = first (isSought sought) (sooner sought) 0 w
+abbrev pub firstOf : List Node → Sought → List Entry → Found
+firstOf nodes sought w = first (isSought sought) (sooner nodes sought) 0 w
+
+-- ---- with its rank, so that the node of each place is read once
+
+abbrev pub ranked : Found → ℕ → Ranked
+ranked found r = record { found = found; rank = r }
+
+-- what was found; 0 where nothing was
+abbrev pub rankedOf : List Node → Found → Ranked
+rankedOf nodes Found.Nothing = ranked Found.Nothing 0
+rankedOf nodes (Found.At i e) = ranked (Found.At i e) (rankAt nodes e)
+
+-- entry e of rank r at place i, unless what was found behind it goes before it
+abbrev pub betterBy : Sought → ℕ → Entry → ℕ → Ranked → Ranked
+betterBy sought i e r rest = onFound (rest .found) (λ j f. cond (goesBy sought (rest .rank) r f e) rest (ranked (Found.At i e) r)) (ranked (Found.At i e) r)
 
 -- of place i with entry e and of what was found behind it
-abbrev pub kept : Sought → ℕ → Entry → Found → Found
-kept sought i e rest = cond (isSought sought e) (better (sooner sought) i e rest) rest
+abbrev pub keptBy : Sought → ℕ → Entry → ℕ → Ranked → Ranked
+keptBy sought i e r rest = cond (isSought sought e) (betterBy sought i e r rest) rest
+
+-- ---- what a call finds in the window
 
 -- whether entry e is overdue, late, or what is sought
 abbrev pub isNoticed : Clock → ℕ → Clock → Sought → Entry → Bool
 isNoticed psi slack t sought e = isOverdue psi t e || (isLate psi slack t e || isSought sought e)
 
--- what a call finds in the window
-abbrev pub seenOf : Clock → ℕ → Clock → Sought → List Entry → Seen
-seenOf psi slack t sought w = record {
-  overdue = firstOf (Sought.Overdue psi t) w;
-  late = firstOf (Sought.Late psi slack t) w;
-  sought = firstOf sought w;
+abbrev pub seenBy : Ranked → Ranked → Ranked → Seen
+seenBy overdue late best = record { overdue = overdue .found; late = late .found; sought = best .found }
+
+abbrev pub seenOf : List Node → Clock → ℕ → Clock → Sought → List Entry → Seen
+seenOf nodes psi slack t sought w = record {
+  overdue = firstOf nodes (Sought.Overdue psi t) w;
+  late = firstOf nodes (Sought.Late psi slack t) w;
+  sought = firstOf nodes sought w;
 }
 
 -- the times that are added to what a place stores lie within the horizon, so that every sum fits

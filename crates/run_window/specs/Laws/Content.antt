@@ -10,10 +10,10 @@ use Rattle.basis.specs.Inner.Tells.{Tells}
 use Rattle.basis.specs.Laws.Tells.{tells, tells-iff, tells-same}
 use Rattle.run_window.specs.declared.Entry.{Entry}
 use Rattle.run_window.specs.declared.Found.{Found}
-use Rattle.run_window.specs.Window.{vacant, isFree, isHeld, isEmpty, before, onFound, first, placed, vacancies}
+use Rattle.run_window.specs.Window.{vacant, isFree, isHeld, isEmpty, precedes, onFound, first, placed, vacancies}
 use Rattle.run_window.specs.Places.{Holds}
 use Rattle.run_window.specs.Laws.Tests.{free-or-held, unfree-held}
-use Rattle.run_window.specs.Laws.Order.{Order, time-order, not-before, at-most-both}
+use Rattle.run_window.specs.Laws.Order.{Order, numbers-order, neither-before, Telling}
 use Rattle.run_window.specs.Laws.Firsts.{First, NonePass, first-found, first-nothing}
 use Rattle.run_window.specs.Laws.Places.{SameNode, Once, holds-within, holds-suc, stored-here, stored-kept, stored-only, empty-none, none-empty, cleared-vacancies}
 use Rattle.run_window.specs.Laws.Placed.{freePlace, vacancies-length, vacant-first, vacant-past, placed-kept, placed-only, placed-new}
@@ -121,18 +121,16 @@ placed-within w v es there room i e h = ⊎-elim old (λ t. new (t .0 .number) (
 
 -- ---- the first that passes a test
 
-module _ (time : Entry → ℕ) (p : Entry → Bool) (held : (e : Entry) → p e ≡ true → isHeld (e .phase) ≡ true) where
+module _ (numbers : Entry → List ℕ) (telling : Telling numbers) (p : Entry → Bool) (held : (e : Entry) → p e ≡ true → isHeld (e .phase) ≡ true) where
   abbrev goes : Entry → Entry → Bool
-  goes a b = before (time a) (time b) a b
+  goes a b = precedes (numbers a) (numbers b)
 
   order : Order goes
-  order = time-order time
+  order = numbers-order numbers
 
   -- of two that go before neither the other, both are of one node
   ties : (e f : Entry) → goes e f ≡ false → goes f e ≡ false → SameNode e f
-  ties e f a b =
-      let r = at-most-both (time f) (time e) f e (not-before (time e) (time f) e f a) (not-before (time f) (time e) f e b) in
-      (sym (r .1), sym (r .2))
+  ties e f a b = telling e f (neither-before (numbers e) (numbers f) a b)
 
   first-holds : (w : List Entry) (i : ℕ) (e : Entry) → First p goes w i e → Holds w i e
   first-holds w i e f = record { entry = f .stands; held = held e (f .passes) }

@@ -1,77 +1,112 @@
--- The order of ties is an order: "ties go by position, then node" after the time, and of two that go before neither the other
--- both have the same time, position and node.
-use mathlib.Core.Path.{_≡_, sym}
-use mathlib.Core.Bool.{Bool, true, false}
+-- The order of ties is an order, by whatever numbers it goes; of two that go before neither the other both have the same numbers.
+use mathlib.Core.Path.{_≡_, refl, sym, _∙_, ap, ap₂}
+use mathlib.Core.Bool.{Bool, true, false, true≢false}
+use mathlib.Core.List.{List, [], _∷_}
+use mathlib.Core.Logic.{_⊎_, inl, inr, ⊎-elim}
 use Prim.Native.Nat.{ℕ, _≤_, _<_}
 use native.Mathlib.Omega.{arith}
-use lib.Dec.{eqb}
-use borrow.Author.Tests.{ltb-true, ltb-false, le-ltb, eqb-true, eqb-false, eq-eqb, ne-eqb}
+use native.Mathlib.Nat.{eq-or-lt-of-le}
+use lib.Dec.{eqb, ltb}
+use lib.ListN.{getD}
+use borrow.Author.Tests.{ltb-true, ltb-false, lt-ltb, le-ltb, eqb-true, eqb-false, eq-eqb, ne-eqb}
 use Rattle.basis.specs.Laws.Bools.{by-test}
+use Rattle.plan.specs.declared.Node.{Node}
 use Rattle.run_window.specs.declared.Entry.{Entry}
-use Rattle.run_window.specs.Window.{before, startsBefore, endsBefore}
+use Rattle.run_window.specs.Window.{precedes, identityOf, rankAt, startsBefore, endsBefore, byStart}
+use Rattle.run_window.specs.Places.{SameNode}
 
--- entry a with the time x stands at or before entry b with the time y: by time, then position, then node
-pub data AtMost (x y : ℕ) (a b : Entry) : Type 0 where
-  earlier : x < y → AtMost x y a b
-  position : x ≡ y → a .position < b .position → AtMost x y a b
-  node : x ≡ y → a .position ≡ b .position → a .node ≤ b .node → AtMost x y a b
+-- ---- lists of numbers
 
-pub at-most-trans : (x y z : ℕ) (a b c : Entry) → AtMost x y a b → AtMost y z b c → AtMost x z a c
-at-most-trans x y z a b c (earlier p) (earlier q) = earlier (omega arith)
-at-most-trans x y z a b c (earlier p) (position e q) = earlier (omega arith)
-at-most-trans x y z a b c (earlier p) (node e f q) = earlier (omega arith)
-at-most-trans x y z a b c (position d p) (earlier q) = earlier (omega arith)
-at-most-trans x y z a b c (position d p) (position e q) = position (omega arith) (omega arith)
-at-most-trans x y z a b c (position d p) (node e f q) = position (omega arith) (omega arith)
-at-most-trans x y z a b c (node d e p) (earlier q) = earlier (omega arith)
-at-most-trans x y z a b c (node d e p) (position f q) = position (omega arith) (omega arith)
-at-most-trans x y z a b c (node d e p) (node f g q) = node (omega arith) (omega arith) (omega arith)
+-- xs goes before ys, or is the same: by the first number in which they differ
+pub data AtMost : List ℕ → List ℕ → Type 0 where
+  ends : {ys : List ℕ} → AtMost [] ys
+  lower : {x y : ℕ} {xs ys : List ℕ} → x < y → AtMost (x ∷ xs) (y ∷ ys)
+  same : {x y : ℕ} {xs ys : List ℕ} → x ≡ y → AtMost xs ys → AtMost (x ∷ xs) (y ∷ ys)
 
--- ---- what `before` tells
+at-most-trans : (xs ys zs : List ℕ) → AtMost xs ys → AtMost ys zs → AtMost xs zs
+at-most-trans [] ys zs p q = ends
+at-most-trans (x ∷ xs) (y ∷ ys) (z ∷ zs) (lower p) (lower q) = lower (let l : x < z = omega arith in l)
+at-most-trans (x ∷ xs) (y ∷ ys) (z ∷ zs) (lower p) (same e q) = lower (let l : x < z = omega arith in l)
+at-most-trans (x ∷ xs) (y ∷ ys) (z ∷ zs) (same d p) (lower q) = lower (let l : x < z = omega arith in l)
+at-most-trans (x ∷ xs) (y ∷ ys) (z ∷ zs) (same d p) (same e q) = same (d ∙ e) (at-most-trans xs ys zs p q)
 
-module _ (x y : ℕ) (a b : Entry) where
-  -- it is false exactly where the second stands at or before the first
-  pub not-before : before x y a b ≡ false → AtMost y x b a
-  unfolding before
-  not-before =
-      by-test (λ (t : Bool). t ≡ false → AtMost y x b a) (eqb x y) _ _
-      (λ e. by-test (λ (t : Bool). t ≡ false → AtMost y x b a) (eqb (a .position) (b .position)) _ _
-      (λ f q. node (sym (eqb-true x y e)) (sym (eqb-true _ _ f)) (ltb-false _ _ q))
-      (λ f q. position (sym (eqb-true x y e)) (below (b .position) (a .position) (ltb-false _ _ q) (eqb-false _ _ f))))
-      (λ e q. earlier (below y x (ltb-false _ _ q) (eqb-false _ _ e)))
-    where
-      below : (m n : ℕ) → m ≤ n → (n ≡ m → ⊥) → m < n
-      below m n l d = omega arith
+at-most-itself : (xs : List ℕ) → AtMost xs xs
+at-most-itself [] = ends
+at-most-itself (x ∷ xs) = same refl (at-most-itself xs)
 
-  pub at-most-not : AtMost y x b a → before x y a b ≡ false
-  unfolding before
-  at-most-not (earlier p) = rw (ne-eqb x y (λ e. omega arith)) (le-ltb x y (omega arith))
-  at-most-not (position e p) = rw (eq-eqb x y (sym e), ne-eqb (a .position) (b .position) (λ f. omega arith)) (le-ltb (a .position) (b .position) (omega arith))
-  at-most-not (node e f p) = rw (eq-eqb x y (sym e), eq-eqb (a .position) (b .position) (sym f)) (le-ltb (a .node) (b .node) p)
+-- of lists of one number
+pub at-most-number : {x y : ℕ} → x ≤ y → AtMost (x ∷ []) (y ∷ [])
+at-most-number l = ⊎-elim (λ e. same e ends) lower (eq-or-lt-of-le l)
 
-  pub before-at-most : before x y a b ≡ true → AtMost x y a b
-  unfolding before
-  before-at-most =
-      by-test (λ (t : Bool). t ≡ true → AtMost x y a b) (eqb x y) _ _
-      (λ e. by-test (λ (t : Bool). t ≡ true → AtMost x y a b) (eqb (a .position) (b .position)) _ _
-      (λ f q. node (eqb-true x y e) (eqb-true _ _ f) (weaken (a .node) (b .node) (ltb-true _ _ q)))
-      (λ f q. position (eqb-true x y e) (ltb-true _ _ q)))
-      (λ e q. earlier (ltb-true _ _ q))
-    where
-      weaken : (m n : ℕ) → m < n → m ≤ n
-      weaken m n l = omega arith
+-- each at or before the other
+at-most-both : (xs ys : List ℕ) → AtMost xs ys → AtMost ys xs → xs ≡ ys
+at-most-both [] [] ends ends = refl
+at-most-both (x ∷ xs) (y ∷ ys) (lower p) (lower q) = absurd (omega arith)
+at-most-both (x ∷ xs) (y ∷ ys) (lower p) (same e q) = absurd (omega arith)
+at-most-both (x ∷ xs) (y ∷ ys) (same d p) (lower q) = absurd (omega arith)
+at-most-both (x ∷ xs) (y ∷ ys) (same d p) (same e q) = ap₂ _∷_ d (at-most-both xs ys p q)
 
-  -- each at or before the other: the same time, position and node
-  pub at-most-both : AtMost x y a b → AtMost y x b a → (x ≡ y) × (a .position ≡ b .position) × (a .node ≡ b .node)
-  at-most-both (earlier p) (earlier q) = absurd (omega arith)
-  at-most-both (earlier p) (position e q) = absurd (omega arith)
-  at-most-both (earlier p) (node e f q) = absurd (omega arith)
-  at-most-both (position d p) (earlier q) = absurd (omega arith)
-  at-most-both (position d p) (position e q) = absurd (omega arith)
-  at-most-both (position d p) (node e f q) = absurd (omega arith)
-  at-most-both (node d e p) (earlier q) = absurd (omega arith)
-  at-most-both (node d e p) (position f q) = absurd (omega arith)
-  at-most-both (node d e p) (node f g q) = (d, e, omega arith)
+-- it is false exactly where the second stands at or before the first
+pub not-before : (xs ys : List ℕ) → precedes xs ys ≡ false → AtMost ys xs
+unfolding precedes
+not-before [] [] q = ends
+not-before [] (y ∷ ys) q = absurd (true≢false q)
+not-before (x ∷ xs) [] q = ends
+not-before (x ∷ xs) (y ∷ ys) q =
+    by-test (λ (t : Bool). t ≡ false → AtMost (y ∷ ys) (x ∷ xs)) (eqb x y) (precedes xs ys) (ltb x y)
+    (λ e r. same (sym (eqb-true x y e)) (not-before xs ys r))
+    (λ e r. lower (below y x (ltb-false x y r) (eqb-false x y e)))
+    q
+  where
+    below : (m n : ℕ) → m ≤ n → (n ≡ m → ⊥) → m < n
+    below m n l d = omega arith
+
+pub at-most-not : (xs ys : List ℕ) → AtMost ys xs → precedes xs ys ≡ false
+unfolding precedes
+at-most-not [] [] p = refl
+at-most-not (x ∷ xs) [] p = refl
+at-most-not (x ∷ xs) (y ∷ ys) (lower p) = rw (ne-eqb x y (λ e. omega arith)) (le-ltb x y (omega arith))
+at-most-not (x ∷ xs) (y ∷ ys) (same e p) = rw (eq-eqb x y (sym e)) (at-most-not xs ys p)
+
+before-at-most : (xs ys : List ℕ) → precedes xs ys ≡ true → AtMost xs ys
+unfolding precedes
+before-at-most [] ys q = ends
+before-at-most (x ∷ xs) [] q = absurd (true≢false (sym q))
+before-at-most (x ∷ xs) (y ∷ ys) q =
+    by-test (λ (t : Bool). t ≡ true → AtMost (x ∷ xs) (y ∷ ys)) (eqb x y) (precedes xs ys) (ltb x y)
+    (λ e r. same (eqb-true x y e) (before-at-most xs ys r))
+    (λ e r. lower (ltb-true x y r))
+    q
+
+-- it goes by the first number, and where that is the same by the rest
+module _ (x y : ℕ) (xs ys : List ℕ) where
+  pub precedes-lower : x < y → precedes (x ∷ xs) (y ∷ ys) ≡ true
+  unfolding precedes
+  precedes-lower l = rw (ne-eqb x y (λ e. omega arith)) (lt-ltb x y l)
+
+  pub precedes-same : x ≡ y → precedes xs ys ≡ true → precedes (x ∷ xs) (y ∷ ys) ≡ true
+  unfolding precedes
+  precedes-same e q = rw (eq-eqb x y e) q
+
+  pub precedes-either : precedes (x ∷ xs) (y ∷ ys) ≡ true → (x < y) ⊎ ((x ≡ y) × (precedes xs ys ≡ true))
+  unfolding precedes
+  precedes-either q =
+      by-test (λ (t : Bool). t ≡ true → (x < y) ⊎ ((x ≡ y) × (precedes xs ys ≡ true))) (eqb x y) (precedes xs ys) (ltb x y)
+      (λ e r. inr (eqb-true x y e, r))
+      (λ e r. inl (ltb-true x y r))
+      q
+
+-- lists of one number
+pub one-number : (x y : ℕ) → precedes (x ∷ []) (y ∷ []) ≡ ltb x y
+unfolding precedes
+one-number x y = by-test (λ (t : Bool). t ≡ ltb x y) (eqb x y) false (ltb x y) (λ e. sym (le-ltb x y (let q = eqb-true x y e in omega arith))) (λ e. refl)
+
+pub not-itself : (xs : List ℕ) → precedes xs xs ≡ false
+not-itself xs = at-most-not xs xs (at-most-itself xs)
+
+-- two that go before neither the other are the same
+pub neither-before : (xs ys : List ℕ) → precedes xs ys ≡ false → precedes ys xs ≡ false → xs ≡ ys
+neither-before xs ys p q = at-most-both xs ys (not-before ys xs q) (not-before xs ys p)
 
 -- ---- an order, as the search for the first needs it
 
@@ -79,15 +114,37 @@ pub record Order (goes : Entry → Entry → Bool) : Type 0 where
   pub one-way : (a b : Entry) → goes a b ≡ true → goes b a ≡ false
   pub onward : (a b c : Entry) → goes a b ≡ false → goes b c ≡ false → goes a c ≡ false
 
--- by any time of an entry
-pub time-order : (time : Entry → ℕ) → Order (λ a b. before (time a) (time b) a b)
-time-order time = record {
-  one-way = λ a b q. at-most-not (time b) (time a) b a (before-at-most (time a) (time b) a b q);
-  onward = λ a b c p q. at-most-not (time a) (time c) a c (at-most-trans (time c) (time b) (time a) c b a (not-before (time b) (time c) b c q) (not-before (time a) (time b) a b p));
+-- by any numbers of an entry
+pub numbers-order : (numbers : Entry → List ℕ) → Order (λ a b. precedes (numbers a) (numbers b))
+numbers-order numbers = record {
+  one-way = λ a b q. at-most-not (numbers b) (numbers a) (before-at-most (numbers a) (numbers b) q);
+  onward = λ a b c p q. at-most-not (numbers a) (numbers c) (at-most-trans (numbers c) (numbers b) (numbers a) (not-before (numbers b) (numbers c) q) (not-before (numbers a) (numbers b) p));
 }
 
-pub starts-order : Order startsBefore
-starts-order = time-order (λ e. e .start .0)
+-- for ask and 41, for 42, and for a report
+abbrev pub byService : List Node → Entry → List ℕ
+byService nodes e = e .start .0 ∷ (rankAt nodes e ∷ identityOf e)
+
+abbrev pub byTime : (Entry → ℕ) → Entry → List ℕ
+byTime time e = time e ∷ identityOf e
+
+pub starts-order : (nodes : List Node) → Order (startsBefore nodes)
+starts-order nodes = numbers-order (byService nodes)
 
 pub ends-order : Order endsBefore
-ends-order = time-order (λ e. e .end .0)
+ends-order = numbers-order (byTime (λ e. e .end .0))
+
+pub report-order : Order byStart
+report-order = numbers-order (byTime (λ e. e .start .0))
+
+-- ---- by whichever of them, entries with the same numbers are of one node
+
+-- the numbers of an entry with its position and node among them
+abbrev pub Telling : (Entry → List ℕ) → Type 0
+Telling numbers = (a b : Entry) → numbers a ≡ numbers b → SameNode a b
+
+pub service-telling : (nodes : List Node) → Telling (byService nodes)
+service-telling nodes a b q = (ap (λ (l : List ℕ). getD l 2 0) q, ap (λ (l : List ℕ). getD l 3 0) q)
+
+pub time-telling : (time : Entry → ℕ) → Telling (byTime time)
+time-telling time a b q = (ap (λ (l : List ℕ). getD l 1 0) q, ap (λ (l : List ℕ). getD l 2 0) q)

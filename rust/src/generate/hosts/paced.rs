@@ -50,7 +50,8 @@ impl Driver<'_> {
     }
 
     fn slip(&mut self, host: Host) -> Option<Slip> {
-        if !self.random.one_in(8) {
+        let rarity = self.rarity_of_faults(host);
+        if !self.random.one_in(rarity) {
             return None;
         }
         match host {

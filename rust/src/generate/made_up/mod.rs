@@ -23,6 +23,9 @@ use std::sync::Arc;
 /// past it (1). Where the run has no such value, nothing is pushed.
 pub type Push = (&'static str, fn(&mut Random, &mut Run, u8) -> Option<()>);
 
+/// How many entries of a made-up window may be changed to tie.
+const TIED: usize = 12;
+
 /// The last number that names one of so many, or the one past it.
 fn last(count: usize, past: u8) -> Option<u8> {
     (count as u8).checked_sub(1)?.checked_add(past)
@@ -124,6 +127,33 @@ fn with_a_twin(random: &mut Random, mut run: Run) -> Run {
     run
 }
 
+/// Some entries start or complete with another one, started or not, or name another node of their activity, a
+/// claim or a release as well.
+fn with_ties(random: &mut Random, run: Run) -> Run {
+    if run.window.is_empty() {
+        return run;
+    }
+    let mut tied = run.clone();
+    let other = random.pick(&run.window).time;
+    for entry in tied.window.iter_mut().take(TIED) {
+        if random.one_in(2) {
+            entry.time.start = other.start;
+        }
+        if random.one_in(2) {
+            entry.time.completion = other.completion;
+        }
+        entry.started = random.one_in(3);
+        if random.one_in(4) {
+            let nodes = run.plan.activities.get(entry.time.activity as usize).map_or(1, Vec::len);
+            entry.time.node = random.below(nodes) as u8;
+        }
+    }
+    match is_told(&tied) {
+        true => tied,
+        false => run,
+    }
+}
+
 /// A made-up run: up to two values stand at a limit, and at most one is one past it.
 pub fn run(random: &mut Random) -> Run {
     let mut run = run_of_a_host(random);
@@ -132,6 +162,9 @@ pub fn run(random: &mut Random) -> Run {
     }
     if random.one_in(3) {
         run.stop = None;
+    }
+    if random.one_in(3) {
+        run = with_ties(random, run);
     }
     if random.one_in(8) {
         run = with_a_twin(random, run);

@@ -5,7 +5,7 @@ use Rattle.run.proofs.effects.place_of.Statement.{statement}
 use Rattle.run.proofs.effects.place_of.Tie as tie
 
 returns-2 : tie.Need-returns-2
-returns-2 c = rw (c .u8-to-usize2 .ensures, c .before .u8-to-usize .ensures, sym (c .before .before .before .before .before .found-by .ensures), c .before .before .before .found .given .1)
+returns-2 c = rw (c .node-place .ensures, sym (c .before .before .before .before .found-by .ensures), c .before .before .found .given .1)
 
 pub place-of-spec : {M : Type 1} → statement M
 place-of-spec =
@@ -15,8 +15,5 @@ place-of-spec =
     (λ c. search needs)
     (λ c. search needs)
     (λ c κs. search needs)
-    (λ c. search needs)
-    (λ c κs. search needs)
-    (λ c. search needs)
     (λ c. search needs)
     returns-2)

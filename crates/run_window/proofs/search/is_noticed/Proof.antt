@@ -1,8 +1,8 @@
 -- `is_noticed` tells whether an entry is overdue, late, or what is sought.
 use mathlib.Core.Path.{sym, _∙_}
 use borrow.Author.Needs.{needs}
-use Rattle.run_window.proofs.is_noticed.Statement.{statement}
-use Rattle.run_window.proofs.is_noticed.Tie as tie
+use Rattle.run_window.proofs.search.is_noticed.Statement.{statement}
+use Rattle.run_window.proofs.search.is_noticed.Tie as tie
 
 returns : tie.Need-returns
 returns c = rw (sym (c .before .is-overdue .ensures) ∙ c .if1 .taken)

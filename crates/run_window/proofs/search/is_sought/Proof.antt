@@ -2,8 +2,8 @@
 use mathlib.Core.Path.{subst}
 use Rattle.run_window.specs.Inner.Search.{SoughtInTime}
 use borrow.Author.Needs.{needs}
-use Rattle.run_window.proofs.is_sought.Statement.{statement}
-use Rattle.run_window.proofs.is_sought.Tie as tie
+use Rattle.run_window.proofs.search.is_sought.Statement.{statement}
+use Rattle.run_window.proofs.search.is_sought.Tie as tie
 
 is-overdue-requires : tie.Need-is-overdue-requires
 is-overdue-requires c κs = let p = c .before .before .before .pre in let q = subst SoughtInTime (c .before .sought .given .1) (p .0) in (q, p .1)

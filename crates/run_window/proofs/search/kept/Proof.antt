@@ -1,8 +1,8 @@
 -- `kept` keeps the entry at a place where it is sought, unless what was found behind it goes before it.
 use mathlib.Core.Path.{sym, _∙_}
 use borrow.Author.Needs.{needs}
-use Rattle.run_window.proofs.kept.Statement.{statement}
-use Rattle.run_window.proofs.kept.Tie as tie
+use Rattle.run_window.proofs.search.kept.Statement.{statement}
+use Rattle.run_window.proofs.search.kept.Tie as tie
 
 returns : tie.Need-returns
 returns c = rw (sym (c .before .before .is-sought .ensures) ∙ c .before .if1 .taken) (c .better .ensures)
