@@ -55,6 +55,12 @@ pub struct Ranked {
     pub rank: u64,
 }
 
+// What a call finds where no start ties, so that no rank decides.
+pub enum Scan {
+    Tied,
+    Untied(Seen),
+}
+
 // What is looked for in the window.
 pub enum Sought {
     // Ψ and the reading

@@ -3,6 +3,7 @@
 use crate::Entry;
 use crate::Found;
 use crate::Ranked;
+use crate::Scan;
 use crate::Seen;
 use crate::Sought;
 use crate::WINDOW;
@@ -20,7 +21,7 @@ ghost use Prim.Native.Nat.{_≤_};
 ghost use Rattle.time.specs.Time.{horizon};
 ghost use Rattle.run_window.specs.Window.{before, rank, served};
 ghost use Rattle.run_window.specs.Inner.Times.{InTime, AllInTime, AllNamed};
-ghost use Rattle.run_window.specs.Inner.Search.{isSought, SoughtInTime, isNoticed, goesBy, betterBy, keptBy, seenBy, seenOf};
+ghost use Rattle.run_window.specs.Inner.Search.{isSought, SoughtInTime, isNoticed, goesBy, betterBy, keptBy, isTied, eitherTied, seenBy, seenOf, Scanned};
 
 // Of two entries with the numbers x and y, whether the first goes before the second: by number, then position, then node.
 fn before(x: u64, y: u64, a: Entry, b: Entry) -> bool
@@ -142,9 +143,73 @@ fn seen(overdue: Ranked, late: Ranked, best: Ranked) -> Seen
     }
 }
 
-// Of those that are overdue, of those that are late and of what is sought, the first in the order of ties; of two like places
-// the lower one. No call within the loop takes the nodes: it would copy them.
-pub fn look(
+// Whether an entry that is sought has the same start as what was found behind it.
+fn ties(sought: Sought, e: Entry, rest: Ranked) -> bool
+    requires { ⌜ SoughtInTime sought × InTime e ⌝ }
+    ensures { λ r. ⌜ r ≡ isTied sought e rest ⌝ }
+{
+    let found = rest.found;
+    match found {
+        Found::Nothing => false,
+        Found::At(_, f) => {
+            if f.start.0 == e.start.0 {
+                return is_sought(sought, e);
+            }
+            false
+        }
+    }
+}
+
+// Whether it does so among those that are late, or among what is sought.
+fn ties_either(
+    psi: Clock,
+    slack: u64,
+    t: Clock,
+    sought: Sought,
+    e: Entry,
+    late: Ranked,
+    best: Ranked,
+) -> bool
+    requires { ⌜ (psi .0 ≤ horizon) × (slack ≤ horizon) × SoughtInTime sought × InTime e ⌝ }
+    ensures { λ r. ⌜ r ≡ eitherTied psi slack t sought e late best ⌝ }
+{
+    if ties(Sought::Late(psi, slack, t), e, late) {
+        return true;
+    }
+    ties(sought, e, best)
+}
+
+// What a call finds, as long as no start ties.
+fn scan(window: [Entry; WINDOW], psi: Clock, slack: u64, t: Clock, sought: Sought) -> Scan
+    requires { ⌜ (psi .0 ≤ horizon) × (slack ≤ horizon) × SoughtInTime sought × AllInTime window ⌝ }
+    ensures { λ r. ⌜ Scanned psi slack t sought window r ⌝ }
+{
+    let none = Ranked {
+        found: Found::Nothing,
+        rank: 0,
+    };
+    let mut overdue = none;
+    let mut late = none;
+    let mut best = none;
+    let mut i: usize = WINDOW;
+    while 0 < i {
+        i -= 1;
+        let e = window[i];
+        if !is_noticed(psi, slack, t, sought, e) {
+            continue;
+        }
+        if ties_either(psi, slack, t, sought, e, late, best) {
+            return Scan::Tied;
+        }
+        overdue = kept(Sought::Overdue(psi, t), i, e, 0, overdue);
+        late = kept(Sought::Late(psi, slack, t), i, e, 0, late);
+        best = kept(sought, i, e, 0, best);
+    }
+    Scan::Untied(seen(overdue, late, best))
+}
+
+// What a call finds, by the rank of each node. No call within the loop takes the nodes: it would copy them.
+fn look_by_rank(
     window: [Entry; WINDOW],
     nodes: [Node; NODES],
     psi: Clock,
@@ -178,4 +243,24 @@ pub fn look(
         best = kept(sought, i, e, r, best);
     }
     seen(overdue, late, best)
+}
+
+// Of those that are overdue, of those that are late and of what is sought, the first in the order of ties; of two like places
+// the lower one. The nodes are looked at, and copied, only where two starts are equal.
+pub fn look(
+    window: [Entry; WINDOW],
+    nodes: [Node; NODES],
+    psi: Clock,
+    slack: u64,
+    t: Clock,
+    sought: Sought,
+) -> Seen
+    requires { ⌜ (psi .0 ≤ horizon) × (slack ≤ horizon) × SoughtInTime sought × AllInTime window × AllNamed window ⌝ }
+    ensures { λ r. ⌜ r ≡ seenOf nodes psi slack t sought window ⌝ }
+{
+    let scanned = scan(window, psi, slack, t, sought);
+    match scanned {
+        Scan::Untied(seen) => seen,
+        Scan::Tied => look_by_rank(window, nodes, psi, slack, t, sought),
+    }
 }

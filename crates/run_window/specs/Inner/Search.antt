@@ -1,7 +1,9 @@
 -- What a call looks for in the window, and the first place that holds it: one definition for all of them.
-use mathlib.Core.Bool.{Bool, cond, _||_}
+use mathlib.Core.Path.{_≡_}
+use mathlib.Core.Bool.{Bool, false, cond, _||_}
 use mathlib.Core.List.{List}
 use Prim.Native.Nat.{ℕ, _≤_}
+use lib.Dec.{eqb}
 use Rattle.plan.specs.declared.Node.{Node}
 use Rattle.time.specs.Time.{horizon}
 use Rattle.time.specs.declared.Clock.{Clock}
@@ -10,6 +12,7 @@ use Rattle.run_window.specs.declared.Found.{Found}
 use Rattle.run_window.specs.declared.Sought.{Sought}
 use Rattle.run_window.specs.declared.Seen.{Seen}
 use Rattle.run_window.specs.declared.Ranked.{Ranked}
+use Rattle.run_window.specs.declared.Scan.{Scan}
 use Rattle.run_window.specs.Window.{isOverdue, isLate, isDue, isNode, served, rankAt, endsBefore, byStart, onFound, first}
 
 abbrev pub isSought : Sought → Entry → Bool
@@ -50,6 +53,14 @@ betterBy sought i e r rest = onFound (rest .found) (λ j f. cond (goesBy sought 
 abbrev pub keptBy : Sought → ℕ → Entry → ℕ → Ranked → Ranked
 keptBy sought i e r rest = cond (isSought sought e) (betterBy sought i e r rest) rest
 
+-- whether entry e, where it is sought, has the same start as what was found behind it
+abbrev pub isTied : Sought → Entry → Ranked → Bool
+isTied sought e rest = onFound (rest .found) (λ j f. cond (eqb (f .start .0) (e .start .0)) (isSought sought e) false) false
+
+-- among those that are late, or among what is sought
+abbrev pub eitherTied : Clock → ℕ → Clock → Sought → Entry → Ranked → Ranked → Bool
+eitherTied psi slack t sought e late best = isTied (Sought.Late psi slack t) e late || isTied sought e best
+
 -- ---- what a call finds in the window
 
 -- whether entry e is overdue, late, or what is sought
@@ -65,6 +76,11 @@ seenOf nodes psi slack t sought w = record {
   late = firstOf nodes (Sought.Late psi slack t) w;
   sought = firstOf nodes sought w;
 }
+
+-- where no start ties it is found whatever the nodes are
+abbrev pub Scanned : Clock → ℕ → Clock → Sought → List Entry → Scan → Type 0
+Scanned psi slack t sought w Scan.Tied = Unit {0}
+Scanned psi slack t sought w (Scan.Untied seen) = (nodes : List Node) → seen ≡ seenOf nodes psi slack t sought w
 
 -- the times that are added to what a place stores lie within the horizon, so that every sum fits
 abbrev pub SoughtInTime : Sought → Type 0
