@@ -51,7 +51,7 @@ fn missing_outcome(plan: &Plan, state: u8) -> bool {
     if broken(Broken::OneWayOutIsComplete) && ways.len() < 2 {
         return false;
     }
-    let Some(event) = plan.automaton.awaited_event(state) else { return false };
+    let Some(event) = plan.automaton.processed_event(state) else { return false };
     (0..plan.events[event as usize]).any(|outcome| !ways.iter().any(|t| t.input == Some((event, outcome))))
 }
 

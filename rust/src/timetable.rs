@@ -81,8 +81,13 @@ impl<'a> Table<'a> {
     }
 
     fn next(&mut self) -> Next {
-        let ways = self.plan.automaton.ways_out(self.state);
-        let Some(event) = self.plan.automaton.awaited_event(self.state) else {
+        let automaton = &self.plan.automaton;
+        let ways = automaton.ways_out(self.state);
+        let awaited = match broken(Broken::ByteForAMarker) {
+            true => automaton.processed_event(self.state),
+            false => automaton.awaited_event(self.state),
+        };
+        let Some(event) = awaited else {
             return ways.first().map_or(Next::End, |&way| Next::Take(way));
         };
         let Some(&outcome) = self.outcomes.get(self.read) else { return Next::Waits(event) };

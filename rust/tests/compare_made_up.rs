@@ -4,6 +4,7 @@
 #![cfg(feature = "rattle_made_up")]
 
 use jidlekuvo_reference::compare::hits::{name, Hits};
+use jidlekuvo_reference::compare::markers::{self, too_few, OF_MADE_UP};
 use jidlekuvo_reference::compare::threads::in_threads;
 use jidlekuvo_reference::compare::ties::{wanted_of_made_up, Ties};
 use jidlekuvo_reference::compare::{rattle, settings, Failure};
@@ -71,8 +72,7 @@ fn wanted() -> Vec<String> {
 #[test]
 fn made_up_runs_agree() {
     let case = |random: &mut Random, hits: &mut Hits| {
-        let run = generate::run(random);
-        let calls = generate::calls(random, &run);
+        let (run, calls) = generate::case(random);
         let bytes = bytes_of(random, &run, calls);
         let mut ties = Ties::of(&run);
         let replies = replies_shown(&run, calls, |run, reply| ties.look(run, reply));
@@ -81,6 +81,7 @@ fn made_up_runs_agree() {
         }
         count(&run, replies, hits);
         ties.count(hits);
+        markers::count(&markers::of_calls(&run, calls), hits);
         let room = if random.one_in(50) { random.below(ANSWER) } else { ANSWER + random.below(6) };
         let (wanted, written) = (ours(&run, calls, room), theirs(&bytes, room));
         match wanted == written {
@@ -95,6 +96,8 @@ fn made_up_runs_agree() {
     hits.print(&format!("{cases} made-up runs agree"));
     let missing = hits.missing(&wanted());
     assert!(settings::is_by_hand() || missing.is_empty(), "never hit: {missing:?}");
+    let few = too_few(&hits, OF_MADE_UP, cases, 2_000);
+    assert!(settings::is_by_hand() || few.is_empty(), "too few: {few:?}");
 }
 
 /// Why `replies-by-content` asks that no node of the window has a position that is still to come: of two

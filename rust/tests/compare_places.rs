@@ -76,6 +76,7 @@ fn places_agree() {
         places::KEPT_OVER_43,
         places::KEPT_OVER_44,
         places::LOADED_BEFORE,
+        places::MARKER_LEFT,
         SEVERAL_PATHS,
     ];
     let missing = hits.missing(&wanted.map(String::from));

@@ -5,6 +5,7 @@
 
 use jidlekuvo_reference::check::{demand_3, log};
 use jidlekuvo_reference::compare::hits::{wanted_of_runs, Hits};
+use jidlekuvo_reference::compare::markers::{self, OF_LISTS};
 use jidlekuvo_reference::compare::smaller::smallest_call_list;
 use jidlekuvo_reference::compare::threads::in_threads;
 use jidlekuvo_reference::compare::ties::{too_few, Ties};
@@ -77,11 +78,13 @@ fn demand_3_holds(input: &[u8], records: &[u8], hits: &mut Hits) -> Result<(), F
     let Some(log) = log::from_records(input, records) else { return Ok(()) };
     hits.log(&log);
     if log.answer.is_err() || log.calls.len() > 60 {
+        markers::count(&markers::of_refusal(&log), hits);
         return Ok(());
     }
     let plan = judge(&log.opening.plan).map_err(|_| Failure::new("opened a refused plan", input))?;
     let judged = demand_3::judged(&plan, &log);
     hits.host_side(&log, judged.host);
+    markers::count(&markers::of_log(&plan, &log, &judged), hits);
     match judged.breaches.first() {
         Some(breach) => Err(Failure::new(breach.told(), input)),
         None => Ok(()),
@@ -101,6 +104,6 @@ fn call_lists_agree() {
     hits.print(&format!("{cases} call lists agree"));
     let missing = hits.missing(&wanted_of_runs());
     assert!(settings::is_by_hand() || missing.is_empty(), "never hit: {missing:?}");
-    let few = too_few(&hits, cases);
-    assert!(settings::is_by_hand() || few.is_empty(), "too few ties: {few:?}");
+    let few = [too_few(&hits, cases), markers::too_few(&hits, OF_LISTS, cases, 250)].concat();
+    assert!(settings::is_by_hand() || few.is_empty(), "too few: {few:?}");
 }

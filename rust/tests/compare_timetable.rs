@@ -5,11 +5,13 @@
 #![cfg(feature = "rattle_timetable")]
 
 use jidlekuvo_reference::compare::hits::Hits;
+use jidlekuvo_reference::compare::markers::{self, too_few, OF_TIMETABLES};
 use jidlekuvo_reference::compare::smaller::smallest_timetable;
 use jidlekuvo_reference::compare::threads::in_threads;
 use jidlekuvo_reference::compare::{rattle, settings, Failure};
 use jidlekuvo_reference::generate::{inputs, plan_t, Random};
-use jidlekuvo_reference::timetable::timetable;
+use jidlekuvo_reference::plan_file::{read, Plan};
+use jidlekuvo_reference::timetable::{split, timetable, HEADER};
 
 /// What no byte of a text is.
 const UNTOUCHED: u8 = 0xA5;
@@ -71,6 +73,12 @@ fn input_of_t(outcomes: &[u8]) -> Vec<u8> {
     [&(plan.len() as u16).to_le_bytes()[..], &plan, outcomes].concat()
 }
 
+/// The plan and the outcomes of an input whose text is a table.
+fn accepted<'a>(input: &'a [u8], text: &str) -> Option<(Plan, &'a [u8])> {
+    let (bytes, outcomes) = split(input).ok().filter(|_| text.starts_with(HEADER))?;
+    Some((read(bytes).ok()?, outcomes))
+}
+
 #[test]
 fn timetables_agree() {
     let case = |random: &mut Random, hits: &mut Hits| {
@@ -82,6 +90,9 @@ fn timetables_agree() {
         if text.lines().count() > 1_000 {
             hits.hit("more than 1,000 lines");
         }
+        if let Some((plan, outcomes)) = accepted(&input, &text) {
+            markers::count(&markers::of_timetable(&plan, outcomes), hits);
+        }
         compared(&input, &text)
     };
     let cases = settings::cases(20_000);
@@ -89,6 +100,8 @@ fn timetables_agree() {
     hits.print(&format!("{cases} timetables agree"));
     let missing = hits.missing(&["end", "waits", "refused", "more than 1,000 lines"].map(String::from));
     assert!(settings::is_by_hand() || missing.is_empty(), "never hit: {missing:?}");
+    let few = too_few(&hits, OF_TIMETABLES, cases, 200);
+    assert!(settings::is_by_hand() || few.is_empty(), "too few: {few:?}");
 }
 
 #[test]

@@ -26,6 +26,12 @@ toggles! {
     TraceMilliseconds: "the trace gives durations in milliseconds",
     HeldOneEarly: "the line of an outcome stands where the event starts",
     OutcomeByOtherEvent: "an outcome's name is looked up in event 0",
+    WalkWaitsAtMarkers: "a walk by outcomes waits at a marker",
+    OneWayOutIsComplete: "a missing outcome is looked for where a state waits only",
+    PathEndsAtMarkers: "the first path ends at a marker",
+    ChainWithoutProcessed: "the chain to a 44 goes over no event that is processed",
+    ChainByNewest: "the chain to a 44 goes over the newest pending instance",
+    MarkersHoldNothing: "the picture has no line for a marker",
 }
 
 #[cfg(test)]

@@ -13,4 +13,5 @@ pub mod Halts
 pub mod Later
 pub mod Lowest
 pub mod States
+pub mod Ways
 pub mod Works

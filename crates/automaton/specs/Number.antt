@@ -19,7 +19,7 @@ use Rattle.automaton.specs.declared.Chosen.{Chosen}
 use Rattle.automaton.specs.declared.Explored.{Explored}
 use Rattle.automaton.specs.Tests.{at, all}
 use Rattle.automaton.specs.Rules.{takes, emits}
-use Rattle.automaton.specs.Next.{nextOf, chosenOf}
+use Rattle.automaton.specs.Next.{firstOf, chosenOf}
 
 -- ---- 21 to 24: tests of one state
 
@@ -35,7 +35,7 @@ isEnded (Next.Waits e) = false
 
 -- 21: a final state has no way out
 unfoldable pub noWayOut : Automaton → ℕ → Bool
-noWayOut a s = cond (isFinal a s) (isEnded (nextOf a s)) true
+noWayOut a s = cond (isFinal a s) (isEnded (firstOf a s)) true
 
 -- two inputs process the same event with different outcomes
 abbrev pub apart : Input → Input → Bool
@@ -68,7 +68,7 @@ servesNext a outcomes s (Next.Waits e) = all (outcomes e) (λ q. isMove (chosenO
 
 -- 23: a state that processes an event has a transition for each outcome of it
 unfoldable pub serves : Automaton → (ℕ → ℕ) → ℕ → Bool
-serves a outcomes s = servesNext a outcomes s (nextOf a s)
+serves a outcomes s = servesNext a outcomes s (firstOf a s)
 
 -- ---- passes over all transitions, until one changes nothing
 

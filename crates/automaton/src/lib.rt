@@ -1,7 +1,7 @@
 // What a state of the automaton does next. Document 01's rules on the automaton, and the verdict on it, are in specs/.
 ghost use mathlib.Core.Path.{_≡_};
 ghost use Prim.Native.Nat.{_≤_};
-ghost use Rattle.automaton.specs.Next.{onInput, nextOf, carries, chosenOf};
+ghost use Rattle.automaton.specs.Next.{onInput, firstOf, nextOf, carries, chosenOf};
 use basis::u16_to_usize;
 use plan::Automaton;
 use plan::Input;
@@ -10,7 +10,7 @@ use plan::Input;
 pub enum Next {
     // nothing leaves it
     Ended,
-    // the transition that is taken without an event
+    // the transition that is taken without an outcome
     Goes(u16),
     // the event that is awaited
     Waits(u8),
@@ -37,10 +37,10 @@ fn on_input(input: Input, i: u16) -> Next
     }
 }
 
-// By the first transition, in file order, that leaves the state.
-pub fn next_of(a: Automaton, s: u8) -> Next
+// What the first way out says, in file order.
+pub fn first_of(a: Automaton, s: u8) -> Next
     requires { ⌜ a .count ≤ 256 ⌝ }
-    ensures { λ r. ⌜ r ≡ nextOf a s ⌝ }
+    ensures { λ r. ⌜ r ≡ firstOf a s ⌝ }
 {
     let count = u16_to_usize(a.count);
     let mut i: usize = 0;
@@ -51,6 +51,34 @@ pub fn next_of(a: Automaton, s: u8) -> Next
             return on_input(input, i as u16);
         }
         i += 1;
+    }
+    Next::Ended
+}
+
+// "only a state with more than one way out is a waiting state": the first way out is kept until a second is met.
+pub fn next_of(a: Automaton, s: u8) -> Next
+    requires { ⌜ a .count ≤ 256 ⌝ }
+    ensures { λ r. ⌜ r ≡ nextOf a s ⌝ }
+{
+    let count = u16_to_usize(a.count);
+    let mut first = count;
+    let mut i: usize = 0;
+    while i < count {
+        let here = i;
+        let t = a.moves[i];
+        i += 1;
+        if t.from != s {
+            continue;
+        }
+        if first < count {
+            let t = a.moves[first];
+            let input = t.input;
+            return on_input(input, first as u16);
+        }
+        first = here;
+    }
+    if first < count {
+        return Next::Goes(first as u16);
     }
     Next::Ended
 }

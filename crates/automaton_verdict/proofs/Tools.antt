@@ -16,8 +16,8 @@ use Rattle.plan.specs.declared.Verdict.{Verdict}
 use Rattle.plan.specs.Plan.{pastMove}
 use Rattle.automaton.specs.Tests.{all}
 use Rattle.automaton.specs.declared.Next.{Next}
-use Rattle.automaton.specs.Next.{nextOf}
-use Rattle.automaton.specs.Laws.States.{NextIs, waits, next-is}
+use Rattle.automaton.specs.Next.{firstOf}
+use Rattle.automaton.specs.Laws.Ways.{FirstIs, waits, first-is}
 use Rattle.automaton.specs.Number.{lowest, noWayOut, apart, apartFrom, branchesIn, branches, serves, orElse, stateVerdict}
 use Rattle.automaton.specs.Laws.Tests.{all-true}
 use Rattle.automaton.specs.Inner.Counts.{InputOk, InRange}
@@ -73,10 +73,10 @@ all-stops f q n l e = go (all n f) refl
 
 -- ---- the awaited event is one of the events 0 to 15
 
-pub awaited-low : (a : Automaton) → InRange a → (s e : ℕ) → nextOf a s ≡ Next.Waits e → e < 16
-awaited-low a ok s e h = go (subst (NextIs a s) h (next-is a s))
+pub awaited-low : (a : Automaton) → InRange a → (s e : ℕ) → firstOf a s ≡ Next.Waits e → e < 16
+awaited-low a ok s e h = go (subst (FirstIs a s) h (first-is a s))
   where
-    go : NextIs a s (Next.Waits e) → e < 16
+    go : FirstIs a s (Next.Waits e) → e < 16
     go (waits o x) = subst InputOk (x .input) (ok .moves (x .index) (x .leaves .low) .input)
 
 -- ---- the lowest state at fault, or what comes after

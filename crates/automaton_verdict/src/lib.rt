@@ -42,7 +42,7 @@ fn no_way_out(a: Automaton, s: u8) -> bool
     if !is_final(a.finals, u8_to_usize(s)) {
         return true;
     }
-    is_ended(automaton::next_of(a, s))
+    is_ended(automaton::first_of(a, s))
 }
 
 fn lowest_way_out(a: Automaton) -> usize
@@ -164,7 +164,7 @@ fn serves(a: Automaton, outcomes: [u8; 16], s: u8) -> bool
     requires { ⌜ InRange a ⌝ }
     ensures { λ r. ⌜ r ≡ serves a (at outcomes) s ⌝ }
 {
-    let n = automaton::next_of(a, s);
+    let n = automaton::first_of(a, s);
     match n {
         Next::Ended => true,
         Next::Goes(_) => true,

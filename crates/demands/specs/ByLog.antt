@@ -157,7 +157,7 @@ pub data Asks (k : Known) : Call → Reply → Type 0 where
   -- "otherwise wait when nothing is due"
   waits : {t : Clock} → Timely k (t .0) → ((x : Id) → Due k (t .0) x → ⊥) → (Ended k → ⊥) → Asks k (Call.Ask t) Reply.Wait
 
--- ---- loading after the outcome of c ends with f: the report counts
+-- ---- loading after the outcome of c ends with f: the report counts. No state awaits a marker, so nothing is loaded after its report
 
 abbrev pub After : Known → Call → Failure → Type 0
 After k c f = (v : List ℕ) × Loads (k .plan) (k .available) (said c Reply.Taken ∷ k .log) (k .word) v f

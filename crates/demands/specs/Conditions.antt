@@ -126,6 +126,11 @@ pub record Learns (run : Run) (t : Clock) (p n o i e : ℕ) : Type 0 where
   pub event : kindOf run (entryAt run i) ≡ Kind.Event e
   pub has : o < outcomesOf (run .plan) e
 
+-- an event with more than one outcome: its report is stored, and may load paths
+pub record Decides (run : Run) (t : Clock) (p n o i e : ℕ) : Type 0 where
+  pub learns : Learns run t p n o i e
+  pub several : 1 < outcomesOf (run .plan) e
+
 -- how loading after that outcome ends: a run made up by the host has no word, so it is quoted here. Of an opened run ByLog says
 -- it over the word and the log, of any run Laws/LoadingFails path by path
 abbrev pub loadingAfter : Run → Clock → ℕ → ℕ → ℕ → Failure
@@ -160,8 +165,8 @@ pub data Halts (run : Run) : Call → Stop → Type 0 where
   number41 : {c : Call} (i : ℕ) → NotOverdue run (readingOf c) → FirstOf run (LateAt run (readingOf c)) (startsBefore (run .plan .nodes)) i
       → Halts run c (Stop.Late (entryAt run i .position) (entryAt run i .node))
   -- "if loading after it fails the answer is stopped"
-  number43 : {t : Clock} {p n o : ℕ} (i e : ℕ) → Learns run t p n o i e → loadingAfter run t o i e ≡ Failure.Full → Halts run (Call.Outcome t p n o) Stop.Full
-  number44 : {t : Clock} {p n o : ℕ} (i e : ℕ) → Learns run t p n o i e → loadingAfter run t o i e ≡ Failure.Beyond → Halts run (Call.Outcome t p n o) Stop.Beyond
+  number43 : {t : Clock} {p n o : ℕ} (i e : ℕ) → Decides run t p n o i e → loadingAfter run t o i e ≡ Failure.Full → Halts run (Call.Outcome t p n o) Stop.Full
+  number44 : {t : Clock} {p n o : ℕ} (i e : ℕ) → Decides run t p n o i e → loadingAfter run t o i e ≡ Failure.Beyond → Halts run (Call.Outcome t p n o) Stop.Beyond
 
 -- ---- ask
 
@@ -183,7 +188,9 @@ pub data Asks (run : Run) : Call → Reply → Type 0 where
 
 pub data Takes (run : Run) : Call → Type 0 where
   completion : {t : Clock} {p n : ℕ} (i : ℕ) → Reports run (Call.Completion t p n) i → IsAction (kindOf run (entryAt run i)) → Takes run (Call.Completion t p n)
-  outcome : {t : Clock} {p n o : ℕ} (i e : ℕ) → Learns run t p n o i e → loadingAfter run t o i e ≡ Failure.None → Takes run (Call.Outcome t p n o)
+  outcome : {t : Clock} {p n o : ℕ} (i e : ℕ) → Decides run t p n o i e → loadingAfter run t o i e ≡ Failure.None → Takes run (Call.Outcome t p n o)
+  -- a marker's "report closes the node and is not queued"
+  marker : {t : Clock} {p n o : ℕ} (i e : ℕ) → Learns run t p n o i e → outcomesOf (run .plan) e ≡ 1 → Takes run (Call.Outcome t p n o)
 
 -- ---- each reply occurs in its condition and in no other
 

@@ -39,6 +39,7 @@ pub mod Demand3Holds
 pub mod FirstFaultsHold
 pub mod InLimitsIff
 pub mod InLimitsKept
+pub mod MarkersHold
 pub mod OpeningsHold
 pub mod PlacesHold
 pub mod Repeated

@@ -11,6 +11,8 @@ pub mod Demand3
 pub mod Stitching
 -- Request (b): which node is served first
 pub mod Served
+-- Request (d): waiting states, and the report of a marker
+pub mod Markers
 -- Request (h): places of the window
 pub mod Places
 pub mod RepliesByContent

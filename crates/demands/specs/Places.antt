@@ -32,7 +32,7 @@ use Rattle.demands_log.specs.Log.{Id, id, Log, Fails, Reports}
 use Rattle.demands_log.specs.Drive.{drive}
 use Rattle.demands.specs.Accepted.{Bytes}
 use Rattle.demands.specs.Demand3.{drivenBy}
-use Rattle.demands.specs.Conditions.{entryAt, NodeAt, Learns}
+use Rattle.demands.specs.Conditions.{entryAt, NodeAt, Decides}
 use Rattle.demands.specs.Conditions as Conditions
 
 -- ---- "A node keeps its place from its loading to its report"
@@ -104,7 +104,7 @@ pub data OneByOne : Run → List Entry → Type 0 where
 -- failed loading the places of paths loaded before stay.
 abbrev pub StatementOutcomePlaces : Type 0
 StatementOutcomePlaces =
-    (run : Run) (t : Clock) (p n o i e : ℕ) → Learns run t p n o i e
+    (run : Run) (t : Clock) (p n o i e : ℕ) → Decides run t p n o i e
     → OneByOne (cleared run t i (toldOf (run .progress) e (entryAt run i) o)) (callOf run (Call.Outcome t p n o) .run .window)
 
 -- the path that an opening loads

@@ -27,16 +27,17 @@ use Rattle.timetable_lines.specs.Lines.{header, refused}
 use Rattle.judge.specs.Judge.{accepted, judgeOf}
 use Rattle.timetable_turns.specs.Timetable.{tableOf, timetableOf}
 use Rattle.demands.specs.Accepted.{Bytes}
+use Rattle.demands.specs.Markers.{Alone, Several}
 use Rattle.demands_theory.specs.Loading.{Beyond, Within}
 
 -- ---- the word of the outcomes
 
 -- after the transitions `is`, n outcomes being read: transition t follows, and then m are
 pub data Steps (p : Plan) (os is : List ℕ) (n : ℕ) : ℕ → ℕ → Type 0 where
-  -- it needs no event
-  goes : {t : ℕ} → Leaves (p .automaton) (stateAfter p is) t → move (p .automaton) t .input ≡ Input.Nothing → Steps p os is n t n
-  -- it is that of the next outcome
-  hears : {t : ℕ} (e : ℕ) → Leaves (p .automaton) (stateAfter p is) t → n < length os → move (p .automaton) t .input ≡ Input.Outcome e (getD os n 0) → Steps p os is n t (n + 1)
+  -- it is the only way out: "timetable reads no outcome byte for it", whatever it processes
+  goes : {t : ℕ} → Leaves (p .automaton) (stateAfter p is) t → Alone (p .automaton) (stateAfter p is) t → Steps p os is n t n
+  -- of several it is that of the next outcome
+  hears : {t : ℕ} (e : ℕ) → Leaves (p .automaton) (stateAfter p is) t → Several (p .automaton) (stateAfter p is) → n < length os → move (p .automaton) t .input ≡ Input.Outcome e (getD os n 0) → Steps p os is n t (n + 1)
 
 pub data Walk (p : Plan) (os : List ℕ) : List ℕ → ℕ → Type 0 where
   none : Walk p os [] 0
@@ -72,10 +73,10 @@ pub data Closes (p : Plan) (os is : List ℕ) (n : ℕ) (E : Ident → ℕ) : Li
   ended : {free : List ℕ} → isFinal (p .automaton) (stateAfter p is) ≡ true → Frees p is E free
       → Closes p os is n E (free ++ line (wordEnd ∷ decimal (stateAfter p is) ∷ []))
   -- "If outcomes run out, free is printed and the last line is waits, state, event"
-  waits : {free : List ℕ} {e o : ℕ} → Processes (p .automaton) (stateAfter p is) e o → n ≡ length os → Frees p is E free
+  waits : {free : List ℕ} {e o : ℕ} → Processes (p .automaton) (stateAfter p is) e o → Several (p .automaton) (stateAfter p is) → n ≡ length os → Frees p is E free
       → Closes p os is n E (free ++ line (wordWaits ∷ decimal (stateAfter p is) ∷ decimal e ∷ []))
   -- "55 for an outcome the event lacks, place = its index"
-  lacks : {e o : ℕ} → Processes (p .automaton) (stateAfter p is) e o → n < length os → outcomesOf p e ≤ getD os n 0 → Closes p os is n E (refused 55 n)
+  lacks : {e o : ℕ} → Processes (p .automaton) (stateAfter p is) e o → Several (p .automaton) (stateAfter p is) → n < length os → outcomesOf p e ≤ getD os n 0 → Closes p os is n E (refused 55 n)
   -- "44, place = the position, whose rows are left out"
   exceeds : {t m : ℕ} → Steps p os is n t m → Beyond p (λ r. 0) (t ∷ is) → Closes p os is n E (refused 44 (size (wordOf p is)))
 

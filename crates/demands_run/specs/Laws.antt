@@ -19,7 +19,10 @@ pub mod Further
 pub mod OneLoading
 pub mod Kinds
 pub mod Telling
+pub mod Apart
 pub mod Informed
+pub mod EventAt
+pub mod Marked
 pub mod Learn
 pub mod Words
 pub mod Works

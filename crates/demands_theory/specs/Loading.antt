@@ -39,12 +39,12 @@ Within p available us = (vs : List ℕ) → Tail vs us → Beyond p available vs
 
 -- ---- paths
 
--- vs goes on from us by transitions that process nothing
+-- vs goes on from us by transitions that await nothing
 pub data Silently (p : Plan) (us : List ℕ) : List ℕ → Type 0 where
   stays : Silently p us us
   goes-on : {vs : List ℕ} {t : ℕ} → Silently p us vs → nextAfter p vs ≡ Next.Goes t → Silently p us (t ∷ vs)
 
--- vs is on the next path after us: the log takes a transition, and then others follow that process nothing
+-- vs is on the next path after us: the log takes a transition, and then others follow that await nothing
 pub record Onward (p : Plan) (log : Log) (us vs : List ℕ) : Type 0 where
   pub first : ℕ
   pub taken : Takes p log (first ∷ us)

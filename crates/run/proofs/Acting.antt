@@ -20,7 +20,7 @@ use Rattle.plan.specs.declared.Node.{Node}
 use Rattle.run_window.specs.declared.Entry.{Entry}
 use Rattle.run_window.specs.declared.Found.{Found}
 use Rattle.run_window.specs.declared.Sought.{Sought}
-use Rattle.run_window.specs.Window.{isStarted, startedOf, onFound}
+use Rattle.run_window.specs.Window.{vacant, isStarted, startedOf, onFound}
 use Rattle.run_window.specs.Places.{Holds}
 use Rattle.run_window.specs.Inner.Search.{isSought, sooner, firstOf, SoughtInTime}
 use Rattle.run_window.specs.Laws.Sought.{sought-held, sought-order}
@@ -36,9 +36,9 @@ use Rattle.run.specs.declared.Answer.{Answer}
 use Rattle.run.specs.declared.Call.{Call}
 use Rattle.run.specs.declared.Effect.{Effect}
 use Rattle.run.specs.Limits.{runInLimits}
-use Rattle.run.specs.Calls.{answer, refuse, heard, objected, isDone, asked, kindOf, completedBy, completed, learnsBy, learns, called, askOf, completionOf, outcomeOf, callOf, readingOf}
+use Rattle.run.specs.Calls.{answer, refuse, heard, objected, isDone, asked, kindOf, completedBy, completed, isMarker, hears, learnsBy, learns, called, askOf, completionOf, outcomeOf, callOf, readingOf}
 use Rattle.run.specs.Inner.Checks.{checkOf}
-use Rattle.run.specs.Inner.Effects.{soughtBy, foundBy, placeOf, outcomesFor, kindFound, checkedOf, refusing, completesBy, learnsAs, startsBy, effectOn, effectFor, effectBy, effectOf, acted, Passes, Named}
+use Rattle.run.specs.Inner.Effects.{soughtBy, foundBy, placeOf, outcomesFor, kindFound, checkedOf, refusing, completesBy, hearsAs, learnsAs, startsBy, effectOn, effectFor, effectBy, effectOf, acted, Passes, Named}
 use Rattle.run.proofs.Checking.{goes, answer-goes, answer-objects, timed, named-held}
 
 -- ---- kinds that are no event
@@ -91,11 +91,16 @@ module _ (run : Run) (t : Clock) where
   acted-completes i (Kind.Release r) = refl
   acted-completes i (Kind.Event e) = refl
 
+  acted-hears : (i : ℕ) (x : Entry) (e o : ℕ) → acted run t (hearsAs i x e o (outcomesOf (run .plan) e)) ≡ hears run t i x e o
+  acted-hears i x e o = acted-cond (isMarker (run .plan) e) (Effect.Stores i vacant Reply.Taken) (Effect.Learns i x e o)
+
   acted-learns : (i : ℕ) (x : Entry) (o : ℕ) (k : Kind) → acted run t (learnsAs i x o (outcomesFor (run .plan .outcomes) k) k) ≡ learnsBy run t i x o k
   acted-learns i x o (Kind.Action a y) = refl
   acted-learns i x o (Kind.Claim r) = refl
   acted-learns i x o (Kind.Release r) = refl
-  acted-learns i x o (Kind.Event e) = acted-cond (ltb o (outcomesOf (run .plan) e)) (Effect.Learns i x e o) (refusing Refusal.OutcomeLacking)
+  acted-learns i x o (Kind.Event e) =
+      acted-cond (ltb o (outcomesOf (run .plan) e)) (hearsAs i x e o (outcomesOf (run .plan) e)) (refusing Refusal.OutcomeLacking)
+      ∙ ap (λ (a : Answer). cond (ltb o (outcomesOf (run .plan) e)) a (refuse run Refusal.OutcomeLacking)) (acted-hears i x e o)
 
 -- ---- the answer to a call
 
@@ -162,7 +167,10 @@ module _ (run : Run) (long : length (run .window) ≡ 512) where
   named-learns i x o (Kind.Action a y) l n p = tt
   named-learns i x o (Kind.Claim r) l n p = tt
   named-learns i x o (Kind.Release r) l n p = tt
-  named-learns i x o (Kind.Event e) l n p = by-test (Named run) (ltb o (outcomesOf (run .plan) e)) (Effect.Learns i x e o) (refusing Refusal.OutcomeLacking) (λ b. (l, n, ltb-true o (outcomesOf (run .plan) e) b, p)) (λ b. tt)
+  named-learns i x o (Kind.Event e) l n p =
+      by-test (Named run) (ltb o (outcomesOf (run .plan) e)) (hearsAs i x e o (outcomesOf (run .plan) e)) (refusing Refusal.OutcomeLacking)
+      (λ b. by-test (Named run) (isMarker (run .plan) e) (Effect.Stores i vacant Reply.Taken) (Effect.Learns i x e o) (λ k. (l, p)) (λ k. (l, n, ltb-true o (outcomesOf (run .plan) e) b, p)))
+      (λ b. tt)
 
   module _ (p : Passes run) where
     named-call : (c : Call) (found : Found) → found ≡ firstOf (run .plan .nodes) (soughtBy (run .psi) c) (run .window)

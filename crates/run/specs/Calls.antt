@@ -2,12 +2,13 @@
 use mathlib.Core.Bool.{Bool, cond, _&&_}
 use mathlib.Core.List.{List}
 use Prim.Native.Nat.{ℕ}
-use lib.Dec.{ltb}
+use lib.Dec.{ltb, eqb}
 use lib.ListN.{set}
 use Rattle.time.specs.declared.Clock.{Clock}
 use Rattle.plan.specs.Plan.{isFinal, outcomesOf}
 use Rattle.plan.specs.Limits.{nodeAt}
 use Rattle.plan.specs.declared.Kind.{Kind}
+use Rattle.plan.specs.declared.Plan.{Plan}
 use Rattle.times.specs.declared.Progress.{Progress}
 use Rattle.run_window.specs.declared.Entry.{Entry}
 use Rattle.run_checks.specs.declared.Stop.{Stop}
@@ -96,15 +97,22 @@ afterLoading Failure.Beyond run = answer (Reply.Stopped Stop.Beyond) (haltedBy r
 abbrev pub learnt : Run → Answer
 learnt run = afterLoading (further mostPending run .failure) (further mostPending run .run)
 
+-- "Customers use one-outcome events as markers"
+abbrev pub isMarker : Plan → ℕ → Bool
+isMarker p e = eqb (outcomesOf p e) 1
+
+-- outcome o, which event e has; of a marker, "Its report closes the node and is not queued."
+abbrev pub hears : Run → Clock → ℕ → Entry → ℕ → ℕ → Answer
+hears run t i x e o =
+    cond (isMarker (run .plan) e) (answer Reply.Taken (cleared run t i (run .progress)))
+    (learnt (cleared run t i (toldOf (run .progress) e x o)))
+
 -- 54 outcome of an action; 55 outcome the event lacks
 abbrev pub learnsBy : Run → Clock → ℕ → Entry → ℕ → Kind → Answer
 learnsBy run t i x o (Kind.Action a y) = refuse run Refusal.OtherKind
 learnsBy run t i x o (Kind.Claim r) = refuse run Refusal.OtherKind
 learnsBy run t i x o (Kind.Release r) = refuse run Refusal.OtherKind
-learnsBy run t i x o (Kind.Event e) =
-    cond (ltb o (outcomesOf (run .plan) e))
-    (learnt (cleared run t i (toldOf (run .progress) e x o)))
-    (refuse run Refusal.OutcomeLacking)
+learnsBy run t i x o (Kind.Event e) = cond (ltb o (outcomesOf (run .plan) e)) (hears run t i x e o) (refuse run Refusal.OutcomeLacking)
 
 unfoldable pub learns : Run → Clock → ℕ → ℕ → ℕ → Answer
 learns run t position node o = reported run position node (λ i e. learnsBy run t i e o (kindOf run e))

@@ -17,7 +17,7 @@ use time::Clock;
 ghost use mathlib.Core.Path.{_≡_};
 ghost use Rattle.run_checks.specs.Laws.Checks.{onReport};
 ghost use Rattle.run.specs.Calls.{readingOf};
-ghost use Rattle.run.specs.Inner.Effects.{soughtBy, foundBy, placeOf, outcomesFor, refusing, completesBy, learnsAs, startsBy, effectFor, effectOn, effectOf};
+ghost use Rattle.run.specs.Inner.Effects.{soughtBy, foundBy, placeOf, outcomesFor, refusing, completesBy, hearsAs, learnsAs, startsBy, effectFor, effectOn, effectOf};
 
 // ---- what the checks are given and what they found
 
@@ -99,6 +99,16 @@ fn completes(i: usize, kind: Kind) -> Effect
     }
 }
 
+// An outcome that the event has; of a marker, "Its report closes the node and is not queued."
+fn hears(i: usize, x: Entry, e: u8, o: u8, most: u8) -> Effect
+    ensures { λ r. ⌜ r ≡ hearsAs i x e o most ⌝ }
+{
+    if most == 1 {
+        return Effect::Stores(i, run_window::vacant(), Reply::Taken);
+    }
+    Effect::Learns(i, x, e, o)
+}
+
 // 54: "outcome of an action"; 55: "outcome the event lacks".
 fn learns(i: usize, x: Entry, o: u8, kind: Kind, most: u8) -> Effect
     ensures { λ r. ⌜ r ≡ learnsAs i x o most kind ⌝ }
@@ -107,7 +117,7 @@ fn learns(i: usize, x: Entry, o: u8, kind: Kind, most: u8) -> Effect
         return refusing(Refusal::OtherKind);
     };
     if o < most {
-        return Effect::Learns(i, x, e, o);
+        return hears(i, x, e, o, most);
     }
     refusing(Refusal::OutcomeLacking)
 }

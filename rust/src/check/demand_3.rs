@@ -5,7 +5,7 @@ use super::claims::{Breach, Claim};
 use super::host::{HostSide, StartedNode};
 use super::log::{Answered, Log};
 use super::told::{Identity, Told};
-use crate::plan_file::{Kind, Plan};
+use crate::plan_file::{Kind, Plan, Transition};
 use crate::run::{Reply, Request};
 use crate::specified_times::combined::Member;
 use crate::specified_times::NodeTime;
@@ -17,6 +17,13 @@ pub struct Judged {
     pub breaches: Vec<Breach>,
     /// The host's side over the whole list.
     pub host: HostSide,
+    /// The word at the end of the log, and its actions and events.
+    pub word: Vec<Transition>,
+    pub executed: Vec<NodeTime>,
+    /// How many transitions were loaded after the opening and after each call.
+    pub loaded: Vec<usize>,
+    /// Reported nodes with the index of the call.
+    pub reported: BTreeMap<Identity, usize>,
 }
 
 struct Reader<'a> {
@@ -47,12 +54,22 @@ pub fn judged(plan: &Plan, log: &Log) -> Judged {
     };
     reader.word_grows();
     reader.window_is_what_is_unreported(&log.window);
+    let mut loaded = vec![reader.told.word.len()];
     for (index, entry) in log.calls.iter().enumerate() {
         reader.call = Some(index);
         reader.read(index, entry);
+        let has_grown = !reader.loading_failed;
+        loaded.push(if has_grown { reader.told.word.len() } else { loaded[index] });
     }
     reader.no_stop_if_the_host_keeps_its_side();
-    Judged { host: reader.host_side(&log.calls), breaches: reader.breaches }
+    Judged {
+        host: reader.host_side(&log.calls),
+        breaches: reader.breaches,
+        word: reader.told.word,
+        executed: reader.executed,
+        loaded,
+        reported: reader.reported,
+    }
 }
 
 /// Checks every claim on a log whose opening was accepted.

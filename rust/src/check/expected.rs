@@ -166,9 +166,18 @@ impl<'a> Expected<'a> {
             _ => {}
         }
         self.reported.insert(named);
-        if let Some(outcome) = outcome {
-            self.told.hear(named, outcome);
+        match (kind, outcome) {
+            // "Its report closes the node and is not queued."
+            (Kind::Event(event), Some(_)) if self.told.plan.is_marker(event) => Reply::Taken,
+            (Kind::Event(_), Some(outcome)) => self.queue(named, outcome),
+            _ => Reply::Taken,
         }
+    }
+
+    /// The next path is loaded where its outcome is told, "and further ones while their outcomes are
+    /// already reported".
+    fn queue(&mut self, named: Identity, outcome: u8) -> Reply {
+        self.told.hear(named, outcome);
         let mut paths = 0;
         while self.told.waits() && self.told.next().is_some() {
             if let Err(number) = self.load_path() {

@@ -4,6 +4,7 @@
 //! included." Any build's records will do.
 
 use crate::drive::{decode, Part, RECORD};
+use crate::plan_file::{read, Kind, Plan};
 use crate::run::{Call, Request, Run};
 use std::collections::{BTreeMap, BTreeSet};
 
@@ -15,6 +16,7 @@ pub const REFUSED: &str = "512 after a refused opening";
 pub const KEPT_OVER_43: &str = "places kept over a failed loading (43)";
 pub const KEPT_OVER_44: &str = "places kept over a failed loading (44)";
 pub const LOADED_BEFORE: &str = "a path loaded before one that fails";
+pub const MARKER_LEFT: &str = "nothing comes with a marker's report";
 
 type Identity = (u32, u8);
 
@@ -40,6 +42,9 @@ struct Places {
     told: BTreeMap<Identity, usize>,
     /// The places that reported nodes left.
     left: BTreeSet<usize>,
+    plan: Plan,
+    /// The activities with which nodes were started.
+    started: BTreeMap<Identity, u8>,
     has_stopped: bool,
     seen: Vec<&'static str>,
 }
@@ -52,7 +57,17 @@ fn accepted(record: &[u8], had_stopped: bool) -> (bool, Option<u8>) {
 }
 
 impl Places {
+    fn is_marker(&self, node: Identity) -> bool {
+        let nodes = self.started.get(&node).and_then(|&a| self.plan.activities.get(a as usize));
+        let kind = nodes.and_then(|nodes| nodes.get(node.1 as usize)).map(|node| node.kind);
+        matches!(kind, Some(Kind::Event(event)) if self.plan.is_marker(event))
+    }
+
     fn call(&mut self, call: Call, record: &[u8]) {
+        if record[0] == 1 {
+            let position = u32::from_le_bytes(record[4..8].try_into().expect("four bytes"));
+            self.started.insert((position, record[2]), record[1]);
+        }
         let (counts, failed) = accepted(record, self.has_stopped);
         let refused = self.step.refused;
         self.step = match call.request {
@@ -60,7 +75,9 @@ impl Places {
                 Step { reported: Some((position, node)), loads: false, failed, refused }
             }
             Request::Outcome { position, node, .. } if counts => {
-                Step { reported: Some((position, node)), loads: true, failed, refused }
+                let is_marker = self.is_marker((position, node));
+                self.seen.extend(is_marker.then_some(MARKER_LEFT));
+                Step { reported: Some((position, node)), loads: !is_marker, failed, refused }
             }
             _ => Step { refused, ..Step::default() },
         };
@@ -119,11 +136,12 @@ fn seen(step: Step, some_kept: bool, fresh: &[usize], left: &BTreeSet<usize>) ->
 
 /// What the records of such a list show, or where they break the rule.
 pub fn check(input: &[u8], records: &[u8]) -> Result<Vec<&'static str>, String> {
-    let Some((_, parts)) = decode(input) else { return Ok(vec![]) };
+    let Some((opening, parts)) = decode(input) else { return Ok(vec![]) };
     let mut records = records.chunks_exact(RECORD);
     let is_open = records.next().is_some_and(|record| record[0] == 0);
     let step = Step { loads: is_open, refused: !is_open, ..Step::default() };
-    let mut places = Places { step, ..Places::default() };
+    let plan = read(&opening.plan).unwrap_or_default();
+    let mut places = Places { step, plan, ..Places::default() };
     for (part, record) in parts.into_iter().zip(records) {
         match part {
             Part::Place { position, node } => places.question((position, node), record)?,

@@ -39,7 +39,7 @@ impl<'a> Told<'a> {
     }
 
     pub fn waits(&self) -> bool {
-        self.plan.automaton.awaited_event(self.state).is_some()
+        self.plan.automaton.ways_out(self.state).len() > 1
     }
 
     pub fn has_ended(&self) -> bool {
@@ -56,13 +56,12 @@ impl<'a> Told<'a> {
     /// The transition with which the word goes on, if it does.
     pub fn next(&self) -> Option<Transition> {
         let ways = self.plan.automaton.ways_out(self.state);
-        match self.plan.automaton.awaited_event(self.state) {
-            None => ways.first().copied(),
-            Some(event) => {
-                let outcome = self.outcome_of_oldest(event)?;
-                ways.into_iter().find(|t| t.input == Some((event, outcome)))
-            }
+        if let [only] = ways[..] {
+            return Some(only);
         }
+        let (event, _) = ways.first()?.input?;
+        let outcome = self.outcome_of_oldest(event)?;
+        ways.into_iter().find(|t| t.input == Some((event, outcome)))
     }
 
     /// The word grown by its next transition.

@@ -9,6 +9,7 @@ pub use settled::{settled_calls, Settled, SETTLED_HOSTS};
 use super::Random;
 use crate::plan_file::Kind;
 use crate::run::{Call, Entry, Opening, Reply, Request, Run};
+use crate::specified_times::NodeTime;
 
 #[derive(Clone, Copy, Debug, PartialEq, Eq)]
 pub enum Host {
@@ -101,6 +102,14 @@ impl<'a> Driver<'a> {
         self.run.window().into_iter().filter(|entry| entry.started).collect()
     }
 
+    /// An event that is started: 54 and 55 are about these.
+    fn started_event(&mut self) -> Option<Entry> {
+        let kind = |time: NodeTime| self.run.plan.activities[time.activity as usize][time.node as usize].kind;
+        let is_event = |entry: &Entry| matches!(kind(entry.time), Kind::Event(_));
+        let started: Vec<Entry> = self.started().into_iter().filter(is_event).collect();
+        (!started.is_empty()).then(|| self.random.pick(&started))
+    }
+
     /// The earliest start still to come and the earliest completion still unreported, on the clock.
     fn moments(&self) -> (Option<u64>, Option<(u64, Entry)>) {
         let window = self.run.window();
@@ -182,10 +191,13 @@ impl<'a> Driver<'a> {
             let node = self.random.pick(&[0, 1, 2, 63, 64, 255]);
             return Request::Outcome { position, node, outcome: self.random.below(9) as u8 };
         }
-        let entry = self.random.pick(&window);
+        let (entry, most) = match self.started_event() {
+            Some(event) if self.random.one_in(2) => (event, 2),
+            _ => (self.random.pick(&window), 5),
+        };
         let report = self.report_of(&entry);
         let (position, node) = (entry.time.position as u32, entry.time.node);
-        match self.random.below(5) {
+        match self.random.below(most) {
             0 => Request::Completion { position, node },
             1 => Request::Outcome { position, node, outcome: self.random.pick(&[0, 1, 7, 8, 255]) },
             2 => Request::Completion { position: position + 1, node: node ^ 1 },

@@ -2,7 +2,8 @@
 
 use super::hosts::{calls, Host, HOSTS};
 use super::layout::Layout;
-use super::openings::{opening, tying_opening};
+use super::markers::marker_plan;
+use super::openings::{marker_opening, opening, tying_opening};
 use super::{damage, plans, templates, Random};
 use crate::plan_file::{encode, Plan, Transition};
 use crate::{drive, verdict};
@@ -75,7 +76,7 @@ pub fn outcomes(random: &mut Random, plan: &Plan, most: usize) -> Vec<u8> {
             true => random.pick(&ways),
             false => random.pick(&cycles),
         };
-        if let Some((_, outcome)) = way.input {
+        if let Some((_, outcome)) = way.input.filter(|_| ways.len() > 1) {
             outcomes.push(if random.one_in(bad_in) { random.next() as u8 % 9 } else { outcome });
         }
         state = way.to;
@@ -85,9 +86,10 @@ pub fn outcomes(random: &mut Random, plan: &Plan, most: usize) -> Vec<u8> {
 
 /// An input of *timetable*: mostly a good plan with outcomes, otherwise damaged or cut.
 pub fn timetable(random: &mut Random, most: usize) -> Vec<u8> {
-    let plan = match random.one_in(6) {
-        true => plan_file(random),
-        false => encode(&plans::any_plan(random)),
+    let plan = match random.below(12) {
+        0 | 1 => plan_file(random),
+        2 => encode(&marker_plan(random)),
+        _ => encode(&plans::any_plan(random)),
     };
     let outcomes = match verdict::judge(&plan) {
         Ok(plan) => outcomes(random, &plan, most),
@@ -108,10 +110,13 @@ pub fn call_list(random: &mut Random) -> Vec<u8> {
     call_list_of(random, host)
 }
 
-/// The same for one kind of host. Two in three of those that are late or overdue are so where nodes tie.
+/// The same for one kind of host. Two in three of those that are late or overdue are so where nodes tie; half
+/// of the others that are overdue, and one in three whose reports are nonsense, meet markers.
 pub fn call_list_of(random: &mut Random, host: Host) -> Vec<u8> {
     let opening = match host {
         Host::Late | Host::Overdue if !random.one_in(3) => tying_opening(random),
+        Host::Overdue if random.one_in(2) => marker_opening(random),
+        Host::Nonsense if random.one_in(3) => marker_opening(random),
         _ => opening(random),
     };
     let most = random.pick(&[20, 60, 60, 120]);

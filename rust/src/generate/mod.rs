@@ -7,6 +7,7 @@ pub mod hosts;
 pub mod inputs;
 pub mod layout;
 pub mod made_up;
+pub mod markers;
 pub mod openings;
 pub mod pairs;
 pub mod plans;

@@ -2,6 +2,7 @@
 
 use super::activity::Durations;
 use super::damage::damaged_blindly;
+use super::markers::{long_plan, marker_plan};
 use super::plans::{any_plan, plan, wide_plan, Style};
 use super::tying::tying_plan;
 use super::Random;
@@ -29,6 +30,8 @@ fn plan_to_open(random: &mut Random) -> Plan {
         }
         4..=8 => plan(random, Style::typical(Durations::Tying)),
         9 | 10 => tying_plan(random),
+        19 | 20 => marker_plan(random),
+        21 => long_plan(random),
         11..=18 => plan(random, Style::pending(Durations::Tying)),
         _ => plan(random, Style::small(Durations::Tying)),
     }
@@ -53,12 +56,33 @@ fn psi(random: &mut Random) -> u64 {
     }
 }
 
-/// An opening whose nodes tie: all resources are available at once.
+/// An opening whose nodes tie.
 pub fn tying_opening(random: &mut Random) -> Opening {
     let plan = tying_plan(random);
+    soon(random, plan)
+}
+
+/// An opening of a plan with markers.
+pub fn marker_opening(random: &mut Random) -> Opening {
+    let plan = marker_plan(random);
+    let mut opening = soon(random, plan);
+    if random.one_in(4) {
+        move_one_away(random, &mut opening.availabilities);
+    }
+    opening
+}
+
+/// All resources are available at once.
+fn soon(random: &mut Random, plan: Plan) -> Opening {
     let (slack, psi) = (slack(random, &plan), psi(random));
     let availability = random.pick(&[0, 0, 0, 1_500]);
     Opening { plan: encode(&plan), psi, slack, availabilities: vec![availability; plan.resources as usize] }
+}
+
+/// One resource far away from the others: a later path may need it, and 44 comes within the steps of a
+/// careful host.
+fn move_one_away(random: &mut Random, availabilities: &mut [u64]) {
+    availabilities[random.below(availabilities.len())] = HORIZON - random.pick(&[0, 3_000, 20_000]);
 }
 
 /// An opening, now and then with a fault.
@@ -73,11 +97,8 @@ pub fn opening(random: &mut Random) -> Opening {
     let spread = random.pick(&[1, 1, 1, 3_000]);
     let near = |random: &mut Random| (base + random.below(spread) as u64).min(HORIZON);
     let mut availabilities: Vec<u64> = (0..plan.resources).map(|_| near(random)).collect();
-    // One resource far away from the others: a later path may need it, and 44 comes within the
-    // steps of a careful host.
     if plan.resources > 1 && random.one_in(4) {
-        let far = random.below(plan.resources as usize);
-        availabilities[far] = HORIZON - random.pick(&[0, 3_000, 20_000]);
+        move_one_away(random, &mut availabilities);
     }
     let mut opening = Opening { plan: encode(&plan), psi, slack, availabilities };
     while random.one_in(12) {

@@ -197,6 +197,11 @@ pub fn longest_readable_plan() -> Plan {
     plan
 }
 
+/// Both outcomes of event 0 lead on alike, to the next state.
+fn decided(from: u8, activity: Option<u8>) -> impl Iterator<Item = Transition> {
+    (0..2).map(move |outcome| Transition { from, to: from + 1, input: Some((0, outcome)), activity })
+}
+
 /// A plan whose first path has one event and `first` further nodes that stay in the window while
 /// the event is awaited, and whose second path has `second` nodes.
 pub fn wide_plan(first: usize, second: usize) -> Plan {
@@ -204,7 +209,7 @@ pub fn wide_plan(first: usize, second: usize) -> Plan {
     let mut plan = Plan {
         resources: 2,
         peripherals: vec![0, 1],
-        events: vec![1],
+        events: vec![2],
         activities: vec![dense_activity(0, &[(Kind::Event(0), 2_000)])],
         ..Plan::default()
     };
@@ -221,7 +226,7 @@ pub fn wide_plan(first: usize, second: usize) -> Plan {
             state += 1;
         }
         if peripheral == 1 {
-            transitions.push(Transition { from: state, to: state + 1, input: Some((0, 0)), activity: None });
+            transitions.extend(decided(state, None));
             state += 1;
         }
     }
@@ -236,14 +241,15 @@ pub fn loading_plan(sizes: &[usize]) -> Plan {
     let mut plan = Plan {
         resources: 1,
         peripherals: vec![0],
-        events: vec![1],
+        events: vec![2],
         activities: vec![dense_activity(0, &[(Kind::Event(0), 2_000)])],
         ..Plan::default()
     };
     plan.activities.extend(sizes.iter().map(|&size| dense_activity(0, &vec![action; size])));
     let last = plan.activities.len() as u8;
-    let mut transitions: Vec<Transition> = (0..last).map(|a| plain(a, a + 1, Some(a))).collect();
-    transitions[1].input = Some((0, 0));
+    let mut transitions = vec![plain(0, 1, Some(0))];
+    transitions.extend(decided(1, Some(1)));
+    transitions.extend((2..last).map(|a| plain(a, a + 1, Some(a))));
     plan.automaton = Automaton { states: last + 1, initial: 0, finals: 1 << last, transitions };
     plan
 }

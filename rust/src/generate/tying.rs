@@ -88,7 +88,7 @@ fn ways(random: &mut Random, plan: &Plan) -> Vec<(Option<u8>, Option<u8>)> {
 }
 
 /// A state for each way; all outcomes of an event lead on alike.
-fn automaton(plan: &Plan, ways: &[(Option<u8>, Option<u8>)]) -> Automaton {
+pub(super) fn in_a_row(plan: &Plan, ways: &[(Option<u8>, Option<u8>)]) -> Automaton {
     let mut transitions = vec![];
     for (from, &(event, activity)) in (0u8..).zip(ways) {
         let way = |input| Transition { from, to: from + 1, input, activity };
@@ -119,6 +119,6 @@ pub fn tying_plan(random: &mut Random) -> Plan {
         plan.activities.push(activity);
     }
     let ways = ways(random, &plan);
-    plan.automaton = automaton(&plan, &ways);
+    plan.automaton = in_a_row(&plan, &ways);
     plan
 }

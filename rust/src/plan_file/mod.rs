@@ -77,9 +77,17 @@ impl Automaton {
         self.transitions.iter().copied().filter(|t| t.from == state).collect()
     }
 
-    /// "A waiting state is any state whose transitions carry an event."
-    pub fn awaited_event(&self, state: u8) -> Option<u8> {
+    /// The event that a state processes, whether it waits for it or not.
+    pub fn processed_event(&self, state: u8) -> Option<u8> {
         self.ways_out(state).iter().find_map(|t| t.input.map(|(event, _)| event))
+    }
+
+    /// "only a state with more than one way out is a waiting state"
+    pub fn awaited_event(&self, state: u8) -> Option<u8> {
+        match self.ways_out(state)[..] {
+            [first, _, ..] => first.input.map(|(event, _)| event),
+            _ => None,
+        }
     }
 }
 
@@ -93,4 +101,11 @@ pub struct Plan {
     pub events: Vec<u8>,
     pub activities: Vec<Activity>,
     pub automaton: Automaton,
+}
+
+impl Plan {
+    /// "Customers use one-outcome events as markers".
+    pub fn is_marker(&self, event: u8) -> bool {
+        self.events[event as usize] == 1
+    }
 }

@@ -77,10 +77,18 @@ impl Run {
         self.overdue(reading).or(self.late(reading))
     }
 
+    fn kind_of(&self, entry: &Entry) -> Kind {
+        self.plan.activities[entry.time.activity as usize][entry.time.node as usize].kind
+    }
+
+    fn is_of_a_marker(&self, entry: &Entry) -> bool {
+        matches!(self.kind_of(entry), Kind::Event(event) if self.plan.is_marker(event))
+    }
+
     /// "by peripheral number, events after all actions". A made-up entry may name a claim or a release:
     /// it comes where events do.
     fn rank(&self, entry: &Entry) -> i64 {
-        match self.plan.activities[entry.time.activity as usize][entry.time.node as usize].kind {
+        match self.kind_of(entry) {
             Kind::Action { peripheral, .. } if broken(Broken::HighPeripheralsFirst) => -(peripheral as i64),
             Kind::Action { peripheral, .. } => peripheral as i64,
             _ if broken(Broken::EventsFirst) => -1,
@@ -102,7 +110,9 @@ impl Run {
     /// one with the earliest completion".
     fn overdue(&self, reading: u64) -> Option<Stop> {
         let extra = broken(Broken::OverdueOneLater) as u64;
-        let over = |e: &&Entry| e.started && reading >= self.clock(e.time.completion) + extra;
+        let passed_over = |e: &Entry| broken(Broken::MarkersNeverOverdue) && self.is_of_a_marker(e);
+        let over =
+            |e: &&Entry| e.started && reading >= self.clock(e.time.completion) + extra && !passed_over(e);
         let tie = |e: &Entry| match broken(Broken::OverdueByPeripheral) {
             true => self.by_peripheral(e),
             false => by_position(e),
@@ -144,7 +154,8 @@ impl Run {
         }
         // "It says done if the path ended in a final state and the window is empty, otherwise
         // wait when nothing is due."
-        let ended = self.plan.automaton.is_final(self.state) && self.window.is_empty();
+        let closed = |e: &Entry| broken(Broken::DoneBeforeMarkers) && self.is_of_a_marker(e);
+        let ended = self.plan.automaton.is_final(self.state) && self.window.iter().all(closed);
         match ended && !broken(Broken::WaitInsteadOfDone) {
             true => (Reply::Done, self),
             false => (Reply::Wait, self),
@@ -157,10 +168,10 @@ impl Run {
             return self.refused(52, reading);
         };
         let entry = self.window[index];
-        let kind = self.plan.activities[entry.time.activity as usize][node as usize].kind;
+        let kind = self.kind_of(&entry);
         // A made-up entry may name a claim or a release, which neither report fits.
         let fits = matches!((kind, outcome), (Kind::Action { .. }, None) | (Kind::Event(_), Some(_)));
-        let mismatch = !fits;
+        let mismatch = !fits && !(broken(Broken::MarkerCompletionTaken) && self.is_of_a_marker(&entry));
         if broken(Broken::KindBeforeStarted) && mismatch {
             return self.refused(54, reading);
         }
@@ -171,9 +182,7 @@ impl Run {
             return self.refused(54, reading);
         }
         match (kind, outcome) {
-            (Kind::Event(event), Some(outcome)) if outcome >= self.plan.events[event as usize] => {
-                self.refused(55, reading)
-            }
+            (Kind::Event(event), Some(outcome)) if self.lacks(event, outcome) => self.refused(55, reading),
             (Kind::Event(event), Some(outcome)) => self.accept_report(reading, index, Some((event, outcome))),
             _ => self.accept_report(reading, index, None),
         }
@@ -194,10 +203,7 @@ impl Run {
             self.window.iter_mut().filter(|e| e.place > entry.place).for_each(|e| e.place -= 1);
         }
         let loading = match told {
-            Some((event, outcome)) => {
-                self.keep_outcome(event, (entry.time.position, entry.time.node), outcome);
-                self.load_decided_paths()
-            }
+            Some((event, outcome)) => self.queue((entry.time.position, entry.time.node), event, outcome),
             None => Ok(()),
         };
         if broken(Broken::ReportedStillCounts) {
@@ -206,6 +212,24 @@ impl Run {
         match loading {
             Ok(()) => (Reply::Taken, self),
             Err(number) => before.unwrap_or(self).stopped(Stop { number, node: None }, reading),
+        }
+    }
+
+    fn lacks(&self, event: u8, outcome: u8) -> bool {
+        let is_any = broken(Broken::MarkerLacksNothing) && self.plan.is_marker(event);
+        outcome >= self.plan.events[event as usize] && !is_any
+    }
+
+    /// What follows an outcome. Of a marker nothing does: "Its report closes the node and is not
+    /// queued."
+    fn queue(&mut self, node: (u64, u8), event: u8, outcome: u8) -> Result<(), u8> {
+        let is_marker = self.plan.is_marker(event) && !broken(Broken::WaitsAtMarkers);
+        if !is_marker || broken(Broken::MarkerKept) {
+            self.keep_outcome(event, node, outcome);
+        }
+        match is_marker && !broken(Broken::MarkerLoads) {
+            true => Ok(()),
+            false => self.load_decided_paths(),
         }
     }
 

@@ -9,10 +9,22 @@ use crate::toggles::{broken, Broken};
 use crate::{HORIZON, LAST_POSITION};
 
 impl Run {
+    /// The event that the run's state waits for.
+    fn awaited_event(&self) -> Option<u8> {
+        let automaton = &self.plan.automaton;
+        if broken(Broken::WaitsAtMarkers) {
+            return automaton.processed_event(self.state);
+        }
+        if broken(Broken::WaitsByOutcomes) {
+            return automaton.processed_event(self.state).filter(|&event| !self.plan.is_marker(event));
+        }
+        automaton.awaited_event(self.state)
+    }
+
     /// At a waiting state the transition of the outcome reported for the event's oldest
     /// unprocessed instance, if it is reported.
     fn decided_transition(&self) -> Option<Transition> {
-        let event = self.plan.automaton.awaited_event(self.state)?;
+        let event = self.awaited_event()?;
         let mut oldest = self.moment.oldest(event)?;
         if broken(Broken::NewestOutcomeFirst) {
             let told = |i: &&Instance| self.outcomes.contains_key(&(i.position, i.node));
@@ -23,10 +35,17 @@ impl Run {
         ways.into_iter().find(|t| t.input == Some((event, outcome)))
     }
 
-    /// The only transition of a state that does not wait.
-    fn plain_transition(&self) -> Option<Transition> {
-        let ways = self.plan.automaton.ways_out(self.state);
-        ways.into_iter().find(|t| t.input.is_none())
+    /// The only transition of a state that does not wait, whatever it processes.
+    fn only_transition(&self) -> Option<Transition> {
+        if self.awaited_event().is_some() {
+            return None;
+        }
+        let way = self.plan.automaton.ways_out(self.state).first().copied()?;
+        let lacks = |(event, _)| self.moment.oldest(event).is_none();
+        match broken(Broken::EndsWithoutPending) && way.input.is_some_and(lacks) {
+            true => None,
+            false => Some(way),
+        }
     }
 
     /// Takes one transition, whatever its times are; its nodes go onto the path. Gives the largest
@@ -62,13 +81,13 @@ impl Run {
     pub(super) fn load_path(&mut self, first: Option<Transition>) -> Result<(), u8> {
         let mut loaded = self.clone();
         let mut path = Vec::new();
-        let mut next = first.or_else(|| loaded.plain_transition());
+        let mut next = first.or_else(|| loaded.only_transition());
         let mut too_far = false;
         for _ in 0..Run::LONGEST_PATH + broken(Broken::EndlessOneLonger) as u64 {
             let Some(way) = next else { break };
             too_far |= loaded.next_position > LAST_POSITION;
             too_far |= loaded.take(&way, &mut path) > HORIZON;
-            next = loaded.plain_transition();
+            next = loaded.only_transition();
         }
         // "44 a completion or availability of the next path above 10^15, or a position above
         // 1,000,000,000; then 43 the window would pass 512", each over the whole path.

@@ -29,7 +29,7 @@ impl Run {
             plan: Arc::new(plan),
             ..Run::zeros()
         };
-        // "the first path never needs an outcome"
+        // The initial state never waits: what it processed would not be pending (25).
         run.load_path(None).map_err(|number| Fault::new(number, 0))?;
         Ok(run)
     }

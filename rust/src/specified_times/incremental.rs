@@ -176,7 +176,8 @@ fn left_out(plan: &Plan, instance: &Instance, way: &Transition, resource: u8) ->
     if broken(Broken::OnlyTheSensedResource) {
         return !sensed();
     }
-    if broken(Broken::NothingRaised) {
+    let is_marker = || way.input.is_some_and(|(event, _)| plan.is_marker(event));
+    if broken(Broken::NothingRaised) || broken(Broken::MarkerRaisesNothing) && is_marker() {
         return true;
     }
     match way.activity {

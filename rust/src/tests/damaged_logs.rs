@@ -1,29 +1,19 @@
 //! The check of demand 3 by itself: correct logs in which one thing is damaged, so that exactly one
 //! claim breaks. The check must refuse each for that claim and for no other.
 
+mod sound;
+
 use crate::check::claims::Claim;
 use crate::check::demand_3;
-use crate::check::log::{record, Answered, Log};
-use crate::check::told::Told;
+use crate::check::log::Log;
 use crate::compare::hits::Hits;
 use crate::compare::settings::{self, run_cases};
 use crate::compare::Failure;
-use crate::drive::{calls_among, decode};
 use crate::generate::{inputs, Random};
 use crate::plan_file::{Kind, Plan};
 use crate::run::{Reply, Request, Stop};
-use crate::specified_times::{Combined, NodeTime};
-use crate::verdict::judge;
+use sound::{one_of, reports, Sound};
 use std::collections::BTreeSet;
-
-/// A correct log of an accepted opening, with what its word says.
-struct Sound {
-    plan: Plan,
-    log: Log,
-    combined: Combined,
-    times: Vec<NodeTime>,
-    host_kept_its_side: bool,
-}
 
 /// Damages a log in one place; None if the log has no such place.
 type Damage = fn(&mut Random, &Sound) -> Option<Log>;
@@ -33,90 +23,17 @@ const DAMAGES: &[(&str, Claim, Damage)] = &[
     ("a start one microsecond early", Claim::NotEarly, started_early),
     ("a start after the slack", Claim::NotLate, started_late),
     ("a report moved behind a start that needs it", Claim::AfterReports, reported_late),
+    ("a marker's report moved behind a start that needs it", Claim::AfterReports, marker_reported_late),
     ("a start of a node the word does not have", Claim::OfTheWord, invented),
     ("a start with another activity", Claim::OfItsActivity, another_activity),
     ("a start in answer to a report", Claim::StartedByAnAsk, started_by_a_report),
     ("a done too early", Claim::Done, done_too_early),
     ("a wait where done is due", Claim::Done, done_left_out),
+    ("a done without a marker's report", Claim::Done, marker_left_out),
     ("41 or 42 although the host kept its side", Claim::HostSide, unearned_stop),
     ("a 50 in the list", Claim::Never50, number_50),
     ("an entry too few, too many or wrong in the window", Claim::Window, other_window),
 ];
-
-impl Sound {
-    fn of(input: &[u8]) -> Result<Option<Sound>, String> {
-        let Some((opening, parts)) = decode(input) else { return Ok(None) };
-        let log = record(&opening, &calls_among(&parts))?;
-        let (Ok(()), Ok(plan)) = (log.answer, judge(&opening.plan)) else { return Ok(None) };
-        let judged = demand_3::judged(&plan, &log);
-        if let Some(breach) = judged.breaches.first() {
-            return Err(breach.told());
-        }
-        let mut told = Told::nothing(&plan);
-        for entry in log.calls.iter().filter(|entry| entry.reply == Reply::Taken) {
-            if let Request::Outcome { position, node, outcome } = entry.call.request {
-                told.hear((position as u64, node), outcome);
-            }
-        }
-        told.grow_all();
-        let (combined, times) = (told.combined.clone(), told.executed(&opening.availabilities));
-        let host_kept_its_side = judged.host.is_kept();
-        Ok(Some(Sound { plan, log, combined, times, host_kept_its_side }))
-    }
-
-    /// The calls answered start, with the times of what they started.
-    fn starts(&self) -> Vec<(usize, NodeTime)> {
-        let started = |(index, entry): (usize, &Answered)| match entry.reply {
-            Reply::Start { position, node, .. } => {
-                let is_it = |n: &&NodeTime| (n.position, n.node) == (position as u64, node);
-                self.times.iter().find(is_it).map(|time| (index, *time))
-            }
-            _ => None,
-        };
-        self.log.calls.iter().enumerate().filter_map(started).collect()
-    }
-
-    fn start(&self, random: &mut Random) -> Option<(usize, NodeTime)> {
-        one_of(random, &self.starts())
-    }
-
-    /// The calls whose answer meets a condition.
-    fn answered(&self, wanted: impl Fn(Reply) -> bool) -> Vec<usize> {
-        (0..self.log.calls.len()).filter(|&index| wanted(self.log.calls[index].reply)).collect()
-    }
-
-    /// A log of other calls, without windows: those say what the undamaged calls did.
-    fn with(&self, calls: Vec<Answered>) -> Log {
-        let calls = calls.into_iter().map(|entry| Answered { window: None, ..entry }).collect();
-        Log { window: None, calls, ..self.log.clone() }
-    }
-
-    /// The log up to a call, which is changed.
-    fn up_to(&self, index: usize, change: impl FnOnce(&mut Answered)) -> Log {
-        let mut calls = self.log.calls[..=index].to_vec();
-        change(&mut calls[index]);
-        self.with(calls)
-    }
-
-    /// What the window held before a call.
-    fn window_before(&self, index: usize) -> &[NodeTime] {
-        let window = match index {
-            0 => &self.log.window,
-            _ => &self.log.calls[index - 1].window,
-        };
-        window.as_deref().unwrap_or(&[])
-    }
-
-    fn is_before(&self, earlier: NodeTime, later: NodeTime) -> bool {
-        let member = |n: NodeTime| self.combined.find(n.position, n.node);
-        let (Some(earlier), Some(later)) = (member(earlier), member(later)) else { return false };
-        self.combined.all_before(later)[earlier]
-    }
-}
-
-fn one_of<T: Copy>(random: &mut Random, from: &[T]) -> Option<T> {
-    (!from.is_empty()).then(|| random.pick(from))
-}
 
 fn started_twice(random: &mut Random, sound: &Sound) -> Option<Log> {
     let (index, _) = sound.start(random)?;
@@ -145,10 +62,22 @@ fn started_late(random: &mut Random, sound: &Sound) -> Option<Log> {
 fn reported_late(random: &mut Random, sound: &Sound) -> Option<Log> {
     let (start, time) = sound.start(random)?;
     let (report, reported) = one_of(random, &reports(sound, start))?;
+    sound.is_before(reported, time).then(|| moved_behind(sound, report, start))?
+}
+
+fn marker_reported_late(random: &mut Random, sound: &Sound) -> Option<Log> {
+    let (start, time) = sound.start(random)?;
+    let mut markers = reports(sound, start);
+    markers.retain(|(_, reported)| sound.is_marker(reported) && sound.is_before(*reported, time));
+    let (report, _) = one_of(random, &markers)?;
+    moved_behind(sound, report, start)
+}
+
+fn moved_behind(sound: &Sound, report: usize, start: usize) -> Option<Log> {
     let loaded = sound.window_before(report);
     let starts = sound.starts();
-    let between = starts.iter().filter(|(index, _)| (report..=start).contains(index));
-    if !sound.is_before(reported, time) || !between.clone().all(|(_, time)| loaded.contains(time)) {
+    let mut between = starts.iter().filter(|(index, _)| (report..=start).contains(index));
+    if !between.all(|(_, time)| loaded.contains(time)) {
         return None;
     }
     let mut calls = sound.log.calls[..=start].to_vec();
@@ -156,19 +85,6 @@ fn reported_late(random: &mut Random, sound: &Sound) -> Option<Log> {
     moved.call.reading = calls[start - 1].call.reading;
     calls.push(moved);
     Some(sound.with(calls))
-}
-
-/// The accepted reports before a call, with the times of what they report.
-fn reports(sound: &Sound, before: usize) -> Vec<(usize, NodeTime)> {
-    let reported = |index: &usize| match sound.log.calls[*index].call.request {
-        Request::Completion { position, node } | Request::Outcome { position, node, .. } => {
-            let is_it = |n: &&NodeTime| (n.position, n.node) == (position as u64, node);
-            sound.times.iter().find(is_it).map(|time| (*index, *time))
-        }
-        Request::Ask => None,
-    };
-    let taken = sound.answered(|reply| reply == Reply::Taken);
-    taken.iter().filter(|index| **index < before).filter_map(reported).collect()
 }
 
 /// A claim or release of the activity, a node it does not have, or a position the word does not have.
@@ -212,6 +128,20 @@ fn done_too_early(random: &mut Random, sound: &Sound) -> Option<Log> {
 fn done_left_out(random: &mut Random, sound: &Sound) -> Option<Log> {
     let index = one_of(random, &sound.answered(|reply| reply == Reply::Done))?;
     Some(sound.up_to(index, |entry| entry.reply = Reply::Wait))
+}
+
+/// A marker's report goes that no start depends on.
+fn marker_left_out(random: &mut Random, sound: &Sound) -> Option<Log> {
+    let done = *sound.answered(|reply| reply == Reply::Done).first()?;
+    let starts = sound.starts();
+    let mut markers = reports(sound, done);
+    markers.retain(|(_, time)| {
+        sound.is_marker(time) && !starts.iter().any(|(_, later)| sound.is_before(*time, *later))
+    });
+    let (report, _) = one_of(random, &markers)?;
+    let mut calls = sound.log.calls.clone();
+    calls.remove(report);
+    Some(sound.with(calls))
 }
 
 /// A host that keeps its side over a list keeps it over every beginning of the list.

@@ -12,13 +12,13 @@ use crate::verdict::judge;
 use std::panic::{catch_unwind, AssertUnwindSafe};
 
 const SEED: u64 = 78_000_000;
-const LISTS: u64 = 2_000;
+const LISTS: u64 = 1_500;
 
 /// What demand 3 does not speak of: which of several due nodes comes first, which number a refusal or
-/// a stop has, plans that should not have opened but run well, and what is left after a failed
-/// loading. The expected answer to each call notices these. Everything else demand 3 must
-/// notice by itself, on a log of calls and answers alone: 33 left out, 41 without the slack, a
-/// processed completion that holds nothing back and a second start above all.
+/// a stop has, plans that should not have opened but run well, what is left after a failed loading, and
+/// how early a path is loaded, which the window alone tells. The expected answer to each call notices
+/// these. Everything else demand 3 must notice by itself, on a log of calls and answers alone: 33 left
+/// out, 41 without the slack, a processed completion that holds nothing back and a second start above all.
 const NOT_OF_DEMAND_3: &[Broken] = &[
     Broken::TiesByNodeFirst,
     Broken::HighPeripheralsFirst,
@@ -32,6 +32,9 @@ const NOT_OF_DEMAND_3: &[Broken] = &[
     Broken::SlackOfUsedActivities,
     Broken::ReportedStillCounts,
     Broken::FailedReportForgotten,
+    Broken::WaitsAtMarkers,
+    Broken::MarkerCompletionTaken,
+    Broken::MarkerLacksNothing,
     Broken::KindBeforeStarted,
 ];
 

@@ -23,6 +23,7 @@ fn word(plan: &Plan, outcomes: &[u8]) -> (Vec<Transition>, End) {
             return (word, End::Final(state));
         }
         let way = match ways[0].input {
+            _ if ways.len() == 1 => ways[0],
             None => ways[0],
             Some((event, _)) if read == outcomes.len() => return (word, End::Waits(state, event)),
             Some((event, _)) => {

@@ -133,9 +133,9 @@ fn awaiting(transitions: Vec<Transition>) -> Run {
 
 /// A path that turns for ever is ended after 64 transitions, the first one included, and counts.
 fn endless_paths() -> Result<(), String> {
-    let first = Transition { from: 1, to: 0, input: Some((0, 1)), activity: None };
+    let on = |outcome| Transition { from: 1, to: 0, input: Some((0, outcome)), activity: None };
     for activity in [None, Some(0), Some(1)] {
-        let run = awaiting(vec![first, plain(0, 0, activity)]);
+        let run = awaiting(vec![on(0), on(1), plain(0, 0, activity)]);
         let (reply, after) = run.outcome(10, 0, 4, 1);
         let of_one = activity
             .map_or(0, |a| after.plan.activities[a as usize].iter().filter(|n| n.is_executed()).count());

@@ -8,6 +8,8 @@ mod files;
 mod graph_timetable;
 mod host_side;
 mod made_up;
+mod made_up_markers;
+mod markers;
 mod mutations;
 mod places;
 mod runs;
@@ -30,6 +32,8 @@ pub const CHECKS: &[(&str, Check)] = &[
     ("opening order", |_, _, _| cases::opening_order()),
     ("large plans", |_, _, _| cases::large_plans()),
     ("made-up runs", |_, _, _| made_up::made_up_runs()),
+    ("markers", |_, _, _| markers::markers()),
+    ("markers in made-up runs", |_, _, _| made_up_markers::made_up_markers()),
     ("accepted plans", files::accepted_plans),
     ("damaged fields", files::damaged_fields),
     ("faulty activities", files::faulty_activities),

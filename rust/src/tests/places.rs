@@ -50,8 +50,14 @@ pub fn places_kept(seed: u64, cases: usize, hits: &mut Hits) -> Result<(), Strin
 fn nodes_keep_their_places() {
     let mut hits = Hits::default();
     places_kept(settings::seed(), settings::cases(2_000), &mut hits).unwrap_or_else(|what| panic!("{what}"));
-    let wanted =
-        [places::USED_AGAIN, places::SEVERAL_GAPS, places::ABSENT, places::REFUSED, places::KEPT_OVER_44];
+    let wanted = [
+        places::USED_AGAIN,
+        places::SEVERAL_GAPS,
+        places::ABSENT,
+        places::REFUSED,
+        places::KEPT_OVER_44,
+        places::MARKER_LEFT,
+    ];
     judge_hits("places", &hits, &wanted.map(String::from));
 }
 

@@ -5,6 +5,7 @@ use crate::check::host::HostSide;
 use crate::check::log::{from_records, record, Log};
 use crate::check::{demand_3, expected};
 use crate::compare::hits::{wanted_of_runs, Hits};
+use crate::compare::markers::{self, Kinds, OF_LISTS};
 use crate::compare::settings::{self, run_cases};
 use crate::compare::smaller::smallest_call_list;
 use crate::compare::ties::{too_few, Ties};
@@ -24,6 +25,7 @@ struct Checked {
     /// None if the opening was refused.
     host: Option<HostSide>,
     ties: Ties,
+    markers: Kinds,
 }
 
 /// Drives an input and checks its log.
@@ -31,21 +33,21 @@ fn checked(input: &[u8]) -> Result<Option<Checked>, String> {
     let Some((opening, parts)) = decode(input) else { return Ok(None) };
     let log = record(&opening, &calls_among(&parts))?;
     let paths = expected::check(&log)?;
-    let host = match log.answer {
-        Ok(()) => Some(demand_3_holds(&log)?),
-        Err(_) => None,
+    let (host, markers) = match log.answer {
+        Ok(()) => demand_3_holds(&log).map(|(host, markers)| (Some(host), markers))?,
+        Err(_) => (None, markers::of_refusal(&log)),
     };
     let ties = drives_alike(input, &log)?;
-    Ok(Some(Checked { log, paths, host, ties }))
+    Ok(Some(Checked { log, paths, host, ties, markers }))
 }
 
-/// Demand 3 on the log of an accepted opening; gives what its host kept.
-fn demand_3_holds(log: &Log) -> Result<HostSide, String> {
+/// Demand 3 on the log of an accepted opening; gives what its host kept, and what it shows of markers.
+fn demand_3_holds(log: &Log) -> Result<(HostSide, Kinds), String> {
     let plan = judge(&log.opening.plan).map_err(|fault| format!("opened, but {fault:?}"))?;
     let judged = demand_3::judged(&plan, log);
     match judged.breaches.first() {
         Some(breach) => Err(breach.told()),
-        None => Ok(judged.host),
+        None => Ok((judged.host, markers::of_log(&plan, log, &judged))),
     }
 }
 
@@ -87,6 +89,7 @@ pub fn call_lists(seed: u64, cases: usize, hits: &mut Hits) -> Result<(), String
 
 fn count(hits: &mut Hits, host: Host, checked: &Checked) {
     hits.log(&checked.log);
+    markers::count(&checked.markers, hits);
     if checked.paths > 0 {
         hits.hit(format!("lists with {} paths in a call", checked.paths));
     }
@@ -127,8 +130,8 @@ fn every_answer_is_the_expected_one_and_demand_3_holds() {
     wanted.push("lists with 3 paths in a call".into());
     judge_hits("call lists", &hits, &wanted);
     host_side::judge_counts(&hits);
-    let few = too_few(&hits, cases);
-    assert!(settings::is_by_hand() || few.is_empty(), "too few ties: {few:?}");
+    let few = [too_few(&hits, cases), markers::too_few(&hits, OF_LISTS, cases, 250)].concat();
+    assert!(settings::is_by_hand() || few.is_empty(), "too few: {few:?}");
 }
 
 #[test]

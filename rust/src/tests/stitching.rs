@@ -8,7 +8,7 @@ use crate::compare::Failure;
 use crate::generate::pairs::{pair, Pair, Played};
 use crate::generate::Random;
 use crate::plan_file::{Kind, Plan};
-use crate::run::Reply;
+use crate::run::{Reply, Request};
 use crate::verdict::judge;
 
 const ALIKE: &str = "both end in done, alike";
@@ -20,6 +20,7 @@ const LEAST: &[(&str, usize)] = &[
     ("both end in done, alike, something started", 5_000),
     ("both end in done, alike, outcomes processed", 2_000),
     ("both end in done, alike, apart by the slack", 300),
+    ("both end in done, alike, markers in another order", 200),
     (PARTED, 1_000),
 ];
 
@@ -98,6 +99,32 @@ fn change(random: &mut Random, pair: &Pair, read: &Read, hits: &mut Hits) -> Res
     Ok(())
 }
 
+/// The reported outcomes of a log in order: position, node, and whether it is a marker's.
+fn told(plan: &Plan, log: &Log) -> Vec<(u32, u8, bool)> {
+    let activity = |of: (u32, u8)| {
+        log.calls.iter().find_map(|entry| match entry.reply {
+            Reply::Start { position, activity, node } if (position, node) == of => Some(activity),
+            _ => None,
+        })
+    };
+    let taken = log.calls.iter().filter(|entry| entry.reply == Reply::Taken);
+    let outcome = |entry: &Answered| match entry.call.request {
+        Request::Outcome { position, node, .. } => {
+            let kind = plan.activities[activity((position, node))? as usize][node as usize].kind;
+            Some((position, node, matches!(kind, Kind::Event(event) if plan.is_marker(event))))
+        }
+        _ => None,
+    };
+    taken.filter_map(outcome).collect()
+}
+
+/// Whether a marker is reported before another event in one log and after it in the other.
+fn reports_a_marker_elsewhere(read: &Read) -> bool {
+    let (one, other) = (told(&read.plan, &read.one), told(&read.plan, &read.other));
+    let place = |event| other.iter().position(|told| *told == event);
+    one.windows(2).any(|pair| pair[0].2 != pair[1].2 && place(pair[0]) > place(pair[1]))
+}
+
 fn count(hits: &mut Hits, pair: &Pair, read: &Read) {
     hits.hit(ALIKE);
     hits.hit(format!("{ALIKE}: {:?} and {:?}", pair.one.host, pair.other.host));
@@ -105,6 +132,7 @@ fn count(hits: &mut Hits, pair: &Pair, read: &Read) {
         ("something started", read.one.calls.iter().any(is_start)),
         ("outcomes processed", !read.outcomes.is_empty()),
         ("apart by the slack", read.apart == read.one.opening.slack),
+        ("markers in another order", reports_a_marker_elsewhere(read)),
     ];
     for (sort, _) in sorts.iter().filter(|(_, is_such)| *is_such) {
         hits.hit(format!("{ALIKE}, {sort}"));

@@ -28,7 +28,8 @@ fn activity(resource: u8, kinds: &[Kind]) -> Activity {
     nodes
 }
 
-/// Positions 0 and 1 are loaded at the opening; then the three events are processed.
+/// Positions 0 and 1 have nodes; after them the three events, markers, are processed. All is loaded at the
+/// opening.
 fn opening() -> Opening {
     let action = |peripheral| Kind::Action { number: 0, peripheral };
     let one = activity(0, &[Kind::Event(2), Kind::Event(1), action(2), action(1)]);

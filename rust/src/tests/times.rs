@@ -2,6 +2,7 @@
 
 use super::{graph_timetable, judge_hits};
 use crate::compare::hits::Hits;
+use crate::compare::markers::{self, too_few, OF_TIMETABLES};
 use crate::compare::settings::{self, run_cases};
 use crate::compare::Failure;
 use crate::generate::{inputs, plans, Random};
@@ -79,6 +80,7 @@ pub fn timetables_agree(seed: u64, cases: usize, hits: &mut Hits) -> Result<(), 
         hits.hit(last_line(&text));
         let Ok((bytes, outcomes)) = split(&input) else { return Ok(()) };
         let Ok(plan) = judge(bytes) else { return Ok(()) };
+        markers::count(&markers::of_timetable(&plan, outcomes), hits);
         let from = random.pick(&[0, 0, HORIZON - 8_000, HORIZON - 30_000]);
         let availabilities = vec![from; plan.resources as usize];
         let text = list(&plan, outcomes, &availabilities);
@@ -104,7 +106,10 @@ fn times_are_those_of_the_combined_activity() {
 fn timetables_are_those_of_the_combined_activity() {
     let seed = settings::seed();
     let mut hits = Hits::default();
-    timetables_agree(seed, settings::cases(10_000), &mut hits).unwrap_or_else(|what| panic!("{what}"));
+    let cases = settings::cases(10_000);
+    timetables_agree(seed, cases, &mut hits).unwrap_or_else(|what| panic!("{what}"));
     let wanted = ["end", "waits", "refused 1", "refused 55", "near the horizon: refused 44"];
     judge_hits("timetables", &hits, &wanted.map(String::from));
+    let few = too_few(&hits, OF_TIMETABLES, cases, 200);
+    assert!(settings::is_by_hand() || few.is_empty(), "too few: {few:?}");
 }

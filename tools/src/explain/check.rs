@@ -2,7 +2,7 @@
 //! word is a path with these counts. Nothing is shared with the search.
 
 use super::{Finding, Pending};
-use jidlekuvo_reference::plan_file::{Activity, Kind, Plan};
+use jidlekuvo_reference::plan_file::{Activity, Kind, Node, Plan};
 use jidlekuvo_reference::Fault;
 
 pub fn holds(plan: &Plan, fault: Fault, finding: &Finding) -> bool {
@@ -20,7 +20,7 @@ pub fn holds(plan: &Plan, fault: Fault, finding: &Finding) -> bool {
 }
 
 /// The nodes from which a node is reached by one or more arrows.
-fn all_before(nodes: &Activity, node: u8) -> Vec<u8> {
+pub(super) fn all_before(nodes: &[Node], node: u8) -> Vec<u8> {
     let mut found: Vec<u8> = Vec::new();
     let mut open = vec![node];
     while let Some(at) = open.pop() {
@@ -115,10 +115,10 @@ fn of_states(plan: &Plan, fault: Fault, finding: &Finding) -> bool {
         }
         Finding::MissingOutcome { state, event, outcome } => {
             let here = || plan.automaton.transitions.iter().filter(|way| way.from == *state);
-            let is_awaited = here().any(|way| way.input.is_some_and(|input| input.0 == *event));
+            let is_processed = here().any(|way| way.input.is_some_and(|input| input.0 == *event));
             let is_missing = !here().any(|way| way.input == Some((*event, *outcome)));
             let exists = *outcome < plan.events[*event as usize];
-            fault.number == 23 && is_here(*state) && is_awaited && is_missing && exists
+            fault.number == 23 && is_here(*state) && is_processed && is_missing && exists
         }
         Finding::Stuck { states } => {
             let is_in = |state: u8| states.contains(&state);

@@ -2,6 +2,7 @@
 
 use super::chain::{self, Chain};
 use crate::names::{Names, Space};
+use crate::toggles::{broken, Broken};
 use jidlekuvo_reference::plan_file::{read, Plan};
 use jidlekuvo_reference::run::{Opening, Run};
 use jidlekuvo_reference::{Fault, HORIZON};
@@ -61,12 +62,13 @@ fn first_path(plan: &Plan) -> Vec<usize> {
     let mut path = Vec::new();
     let mut state = automaton.initial;
     while path.len() < automaton.transitions.len() {
-        let plain = |way: &usize| {
-            automaton.transitions[*way].from == state && automaton.transitions[*way].input.is_none()
-        };
-        let Some(way) = (0..automaton.transitions.len()).find(plain) else { break };
-        path.push(way);
-        state = automaton.transitions[way].to;
+        let mut ways = automaton.transitions.iter().enumerate().filter(|(_, way)| way.from == state);
+        let (Some((number, way)), None) = (ways.next(), ways.next()) else { break };
+        if broken(Broken::PathEndsAtMarkers) && way.input.is_some() {
+            break;
+        }
+        path.push(number);
+        state = way.to;
     }
     path
 }

@@ -1,7 +1,8 @@
 //! 55 and 44 of a timetable: the outcome that the event lacks; the position whose completions pass 10^15.
 
 use crate::names::{Names, Space};
-use jidlekuvo_reference::plan_file::Plan;
+use crate::toggles::{broken, Broken};
+use jidlekuvo_reference::plan_file::{Plan, Transition};
 use jidlekuvo_reference::{Fault, HORIZON};
 
 /// Walks a plan by outcomes as a timetable does.
@@ -16,15 +17,19 @@ impl<'a> Walk<'a> {
     }
 
     pub fn awaited(&self) -> Option<u8> {
-        self.plan.automaton.awaited_event(self.state)
+        match broken(Broken::WalkWaitsAtMarkers) {
+            true => self.plan.automaton.processed_event(self.state),
+            false => self.plan.automaton.awaited_event(self.state),
+        }
     }
 
-    /// Takes the next transition: the only one, or that of the outcome where the state waits. None where there is none.
+    /// Takes the next transition: that of the outcome where the state waits, elsewhere the only one, whatever it
+    /// processes. None where there is none.
     pub fn take(&mut self, outcome: Option<u8>) -> Option<usize> {
         let transitions = &self.plan.automaton.transitions;
-        let input = self.awaited().zip(outcome);
-        let way = (0..transitions.len())
-            .find(|&t| transitions[t].from == self.state && transitions[t].input == input)?;
+        let awaited = self.awaited();
+        let is_next = |way: &Transition| awaited.is_none() || way.input == awaited.zip(outcome);
+        let way = transitions.iter().position(|way| way.from == self.state && is_next(way))?;
         self.state = transitions[way].to;
         Some(way)
     }
@@ -77,7 +82,7 @@ fn is_lacking(plan: &Plan, outcomes: &[u8], index: usize, state: u8, event: u8) 
     for _ in 0..(index + 1) * 65 {
         let ways = plan.automaton.ways_out(at);
         let next = match ways.first() {
-            Some(way) if way.input.is_none() => way.to,
+            Some(way) if ways.len() == 1 => way.to,
             Some(_) if read < index => {
                 let Some(way) = ways.iter().find(|way| way.input.is_some_and(|(_, o)| o == outcomes[read]))
                 else {

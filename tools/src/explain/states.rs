@@ -1,6 +1,7 @@
 //! 21 to 24: the transitions, the outcome or the states that break the rule.
 
 use super::Finding;
+use crate::toggles::{broken, Broken};
 use jidlekuvo_reference::plan_file::{Plan, Transition};
 
 pub fn find(plan: &Plan, state: u8, number: u8) -> Option<Finding> {
@@ -33,7 +34,10 @@ fn is_branch(one: Transition, other: Transition) -> bool {
 }
 
 fn missing(plan: &Plan, state: u8) -> Option<Finding> {
-    let event = plan.automaton.awaited_event(state)?;
+    let event = match broken(Broken::OneWayOutIsComplete) {
+        true => plan.automaton.awaited_event(state)?,
+        false => plan.automaton.processed_event(state)?,
+    };
     let has = |outcome: &u8| {
         ways_out(plan, state).any(|way| plan.automaton.transitions[way].input == Some((event, *outcome)))
     };

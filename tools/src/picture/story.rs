@@ -18,7 +18,7 @@ pub struct Arrow {
     pub handed: bool,
 }
 
-/// An outcome that is processed: from this moment on the next activity may begin, on every resource.
+/// An outcome that is processed, a marker's too: from this moment on the next activity may begin, on every resource.
 #[derive(Clone, Copy, Debug, PartialEq, Eq)]
 pub struct Held {
     pub at: u64,
@@ -97,7 +97,9 @@ impl<'a> Teller<'a> {
 
     /// "Processing instance k of an event makes that node precede every successor of every claim".
     fn process(&mut self, event: u8, outcome: u8) {
-        if let Some(row) = self.pending[event as usize].pop_front() {
+        let oldest = self.pending[event as usize].pop_front();
+        let is_left_out = broken(Broken::MarkersHoldNothing) && self.plan.is_marker(event);
+        if let Some(row) = oldest.filter(|_| !is_left_out) {
             let row = self.rows[row];
             let at = if broken(Broken::HeldOneEarly) { row.start } else { row.end };
             self.held.push(Held { at, event, outcome });

@@ -1,6 +1,7 @@
 //! Every refusal has a sentence whose finding passed its check, and number and place are the proved ones.
 
 use super::any_file;
+use super::markers::{is_decided, marked_plan, MARKED};
 use crate::explain::fields::{field_at, Owner, Rule};
 use crate::explain::pending::LONGEST_WORD;
 use crate::explain::{explain, find, Finding};
@@ -21,10 +22,20 @@ fn explained(bytes: &[u8], hits: &mut Hits) -> Result<(), String> {
         return Err(format!("the two builds differ on {}", to_hex(bytes)));
     }
     let Some(fault) = fault else { return Ok(()) };
+    if fault.number == 23 && ways_out(bytes, fault) == 1 {
+        hits.hit(ONE_WAY_OUT);
+    }
     match explain(bytes, &Names::default(), fault) {
         Some(sentence) if is_sentence(&sentence) => Ok(()),
         answer => Err(format!("{} {} is told as {answer:?}\n{}", fault.number, fault.place, to_hex(bytes))),
     }
+}
+
+const ONE_WAY_OUT: &str = "number 23 at a state with one way out";
+
+/// How many transitions leave the state that a refusal names.
+fn ways_out(bytes: &[u8], fault: Fault) -> usize {
+    read(bytes).map_or(0, |plan| plan.automaton.ways_out(fault.place as u8).len())
 }
 
 fn is_sentence(text: &str) -> bool {
@@ -35,6 +46,7 @@ fn is_sentence(text: &str) -> bool {
 fn refused_file(random: &mut Random, case: usize) -> Vec<u8> {
     match case % 8 {
         0 | 6 => encode(&templates::faulty_activity_plan(random).0),
+        1 if random.one_in(4) => one_outcome_left(random),
         1 => encode(&templates::faulty_automaton_plan(random).0),
         2 => templates::unbalanced_plan(random).map_or(vec![], |(plan, _)| encode(&plan)),
         3 => {
@@ -48,6 +60,17 @@ fn refused_file(random: &mut Random, case: usize) -> Vec<u8> {
         7 => rarely_damaged(random),
         _ => any_file(random),
     }
+}
+
+/// A plan with an outcome taken away where there were two (23).
+fn one_outcome_left(random: &mut Random) -> Vec<u8> {
+    let mut plan = marked_plan(random, &[1, 2]);
+    let ways = &plan.automaton.transitions;
+    let decided: Vec<usize> = (0..ways.len()).filter(|&way| is_decided(&plan, &ways[way])).collect();
+    if !decided.is_empty() {
+        plan.automaton.transitions.remove(random.pick(&decided));
+    }
+    encode(&plan)
 }
 
 /// A plan without an automaton's bit (7), with a bad duration (8) or with predecessors that do not rise (5).
@@ -81,7 +104,8 @@ pub fn refusals(seed: u64, cases: usize) -> Result<(), String> {
         return Ok(());
     }
     hits.print("refusals explained");
-    let few: Vec<String> = wanted_of_files().into_iter().filter(|what| hits.count(what) < 100).collect();
+    let wanted = wanted_of_files().into_iter().chain([ONE_WAY_OUT.into()]);
+    let few: Vec<String> = wanted.filter(|what| hits.count(what) < 100).collect();
     if few.is_empty() {
         Ok(())
     } else {
@@ -233,6 +257,12 @@ fn sentences_of_automata() {
         with("from begin to end on bobbin full\nfrom asks to end\n"),
         "25 0: begin -bobbin full-> end: bobbin was asked 1 time and sensed 0 times before that"
     );
+}
+
+#[test]
+fn a_state_with_one_way_out_lacks_an_outcome() {
+    let plan = MARKED.replace("from asks to end on thread broken do move\n", "");
+    assert_eq!(said(&plan), "23 2: state asks processes thread and has no way for thread broken");
 }
 
 #[test]

@@ -1,8 +1,10 @@
 //! Tests of the tools. A check takes a seed and a number of cases; the mutations run the same checks.
 
 mod explanations;
+mod markers;
 mod mutations;
 mod openings;
+mod outcomes;
 mod pictures;
 mod text_faults;
 mod texts;
@@ -19,7 +21,8 @@ pub const CHECKS: &[(&str, Check)] = &[
     ("refusals in words", explanations::refusals),
     ("findings", explanations::findings),
     ("refused openings in words", openings::refusals),
-    ("outcomes by name", pictures::outcome_names),
+    ("outcomes by name", outcomes::outcome_names),
+    ("lacked outcomes in words", outcomes::lacked),
     ("pictures and traces", pictures::drawn),
 ];
 
@@ -60,7 +63,12 @@ fn refused_openings_are_explained() {
 
 #[test]
 fn outcomes_go_by_name() {
-    run(pictures::outcome_names, 300);
+    run(outcomes::outcome_names, 300);
+}
+
+#[test]
+fn lacked_outcomes_are_told() {
+    run(outcomes::lacked, 300);
 }
 
 #[test]

@@ -1,5 +1,5 @@
 //! The tools are broken on purpose, one way at a time, and some check must notice each. Nothing may be noticed while
-//! nothing is broken, which the other tests show.
+//! nothing is broken.
 
 use super::CHECKS;
 use crate::toggles::{with_broken, Broken, ALL};
@@ -8,12 +8,15 @@ use std::panic::{catch_unwind, set_hook, take_hook, AssertUnwindSafe};
 const SEED: u64 = 4_200_000;
 
 /// The first check that notices, with the number of cases it was given.
-fn noticed(toggle: Broken) -> Option<(&'static str, usize)> {
+fn noticed(toggle: Option<Broken>) -> Option<(&'static str, usize)> {
     for cases in [30, 300] {
         for (name, check) in CHECKS {
-            let run = || check(SEED, cases);
             // Tools that panic are noticed as well.
-            let answer = with_broken(toggle, || catch_unwind(AssertUnwindSafe(run)));
+            let run = || catch_unwind(AssertUnwindSafe(|| check(SEED, cases)));
+            let answer = match toggle {
+                Some(toggle) => with_broken(toggle, run),
+                None => run(),
+            };
             if !matches!(answer, Ok(Ok(()))) {
                 return Some((name, cases));
             }
@@ -30,7 +33,8 @@ fn every_mutation_is_noticed() {
             usual(info);
         }
     }));
-    let work = || ALL.iter().map(|&(toggle, what)| (what, noticed(toggle))).collect::<Vec<_>>();
+    assert_eq!(noticed(None), None);
+    let work = || ALL.iter().map(|&(toggle, what)| (what, noticed(Some(toggle)))).collect::<Vec<_>>();
     let found =
         std::thread::Builder::new().name("broken on purpose".into()).spawn(work).unwrap().join().unwrap();
     for (what, by) in &found {

@@ -1,16 +1,18 @@
-//! Pictures and traces have the table's rows and no more; outcomes go by name.
+//! Pictures and traces have the table's rows and no more.
 
-use crate::explain::outcomes;
+use super::markers::{is_passed, often_enough, taken, MARKED};
+use super::outcomes::told;
+use crate::input::from_text;
 use crate::names::{Names, Space};
 use crate::picture::{svg, trace, Lanes, Story};
-use crate::table::{self, End, Row};
+use crate::table::{End, Row};
 use crate::tests::texts::author_names;
+use jidlekuvo_reference::compare::hits::Hits;
 use jidlekuvo_reference::compare::rattle;
-use jidlekuvo_reference::generate::{inputs, plan_t, plans, Random};
+use jidlekuvo_reference::generate::{plan_t, Random};
 use jidlekuvo_reference::plan_file::{encode, read, Plan};
 use jidlekuvo_reference::specified_times::incremental::shapes;
 use jidlekuvo_reference::specified_times::Moment;
-use jidlekuvo_reference::{Fault, HORIZON};
 
 /// The rows that the program prints, read without the tools.
 fn printed_rows(bytes: &[u8], outcomes: &[u8]) -> Vec<Vec<u64>> {
@@ -20,21 +22,20 @@ fn printed_rows(bytes: &[u8], outcomes: &[u8]) -> Vec<Vec<u64>> {
     text.lines().filter_map(numbers).collect()
 }
 
-/// An accepted plan with outcomes.
-fn told(random: &mut Random) -> (Plan, Vec<u8>) {
-    let plan = plans::any_plan(random);
-    let outcomes = inputs::outcomes(random, &plan, 12);
-    (plan, outcomes)
-}
+const HELD_BY_MARKER: &str = "a marker holds resources back";
 
 pub fn drawn(seed: u64, cases: usize) -> Result<(), String> {
+    let mut hits = Hits::default();
     for case in 0..cases as u64 {
         let mut random = Random::new(seed + case);
         let (plan, outcomes) = told(&mut random);
         let names = author_names(&mut random, &plan).completed(&plan);
         drawn_well(&plan, &names, &outcomes).map_err(|why| format!("seed {}: {why}", seed + case))?;
+        if taken(&plan, &outcomes).iter().any(|way| is_passed(&plan, way)) {
+            hits.hit(HELD_BY_MARKER);
+        }
     }
-    Ok(())
+    often_enough(&hits, &[HELD_BY_MARKER], cases, 10)
 }
 
 fn drawn_well(plan: &Plan, names: &Names, outcomes: &[u8]) -> Result<(), String> {
@@ -55,26 +56,13 @@ fn drawn_well(plan: &Plan, names: &Names, outcomes: &[u8]) -> Result<(), String>
     trace_is_the_rows(plan, names, &String::from_utf8(traced).unwrap(), &rows)
 }
 
-/// When each processed instance ends, by the Rust build's own account.
+/// When each processed instance ends, markers included, by the Rust build's own account.
 fn held(plan: &Plan, outcomes: &[u8]) -> Vec<u64> {
     let mut moment = Moment::at_opening(plan, &vec![0; plan.resources as usize]);
-    let (shapes, mut state, mut held) = (shapes(plan), plan.automaton.initial, Vec::new());
-    let mut outcomes = outcomes.iter();
-    for position in 0.. {
-        let awaited = plan.automaton.awaited_event(state);
-        let input = match awaited {
-            Some(event) => match outcomes.next() {
-                Some(&outcome) => Some((event, outcome)),
-                None => break,
-            },
-            None => None,
-        };
-        let Some(way) = plan.automaton.ways_out(state).into_iter().find(|way| way.input == input) else {
-            break;
-        };
-        held.extend(awaited.map(|event| moment.oldest(event).unwrap().completion));
+    let (shapes, mut held) = (shapes(plan), Vec::new());
+    for (position, way) in (0..).zip(taken(plan, outcomes)) {
+        held.extend(way.input.map(|(event, _)| moment.oldest(event).unwrap().completion));
         moment = moment.pass(plan, &shapes, &way, position).moment;
-        state = way.to;
     }
     held
 }
@@ -168,78 +156,17 @@ fn well_formed(text: &str) -> Result<(), String> {
     }
 }
 
-/// Outcomes by name are the numbers that the names stand for at the awaited event.
-pub fn outcome_names(seed: u64, cases: usize) -> Result<(), String> {
-    for case in 0..cases as u64 {
-        let mut random = Random::new(seed + case);
-        let (plan, outcomes) = told(&mut random);
-        let mut words = Vec::new();
-        let mut read = Vec::new();
-        let mut state = plan.automaton.initial;
-        for _ in 0..200 {
-            let awaited = plan.automaton.awaited_event(state);
-            let input = awaited.zip(outcomes.get(read.len()).copied());
-            let Some(way) = plan.automaton.ways_out(state).into_iter().find(|way| way.input == input) else {
-                break;
-            };
-            read.extend(input.map(|input| input.1));
-            // A name that no other event has at another number.
-            words.extend(
-                input.map(|(event, outcome)| format!("x{}", (event as usize + outcome as usize) % 8)),
-            );
-            state = way.to;
-        }
-        let mut names = Names::default();
-        for (event, &count) in (0..).zip(&plan.events) {
-            (0..count as usize)
-                .for_each(|o| names.add(Space::Outcome(event), format!("x{}", (event as usize + o) % 8)));
-        }
-        match table::outcomes(&plan, &names, &words) {
-            Ok(found) if found == read => {}
-            answer => return Err(format!("seed {}: {words:?} are {answer:?}, not {read:?}", seed + case)),
-        }
-    }
-    Ok(())
-}
-
 #[test]
-fn an_outcome_that_the_event_lacks_is_told() {
-    let bytes = plan_t();
-    let plan = read(&bytes).unwrap();
-    let mut found = 0;
-    for value in 2..=255u8 {
-        let outcomes = [0, value];
-        let closing = table::rows(&bytes, &outcomes, |_| Ok(true)).unwrap().unwrap();
-        let End::Refused(fault) = closing.end else { panic!("{value} is taken") };
-        let said = outcomes::explain(&plan, &Names::default(), &outcomes, closing.latest, fault).unwrap();
-        assert_eq!((fault.number, fault.place), (55, 1));
-        assert_eq!(said, format!("outcome 1 is {value}; state s1 waits for e0, which has 0 o0, 1 o1"));
-        found += 1;
-    }
-    assert!(found >= 100);
-}
-
-#[test]
-fn a_completion_past_the_horizon_is_told() {
-    let plan = read(&plan_t()).unwrap();
-    let said = |latest| outcomes::explain(&plan, &Names::default(), &[0], latest, Fault::new(44, 1));
-    let above = "position 1, activity a0: a completion would lie above 1000000000000000";
-    assert_eq!(said(HORIZON - 1_000), Some(format!("{above}; the latest before it is 999999999999000")));
-    assert_eq!(said(5), None);
-}
-
-#[test]
-fn a_wrong_name_of_an_outcome_is_told() {
-    let plan = read(&plan_t()).unwrap();
-    let mut names = Names::default();
-    ["whole", "broken"].iter().for_each(|name| names.add(Space::Outcome(0), name.to_string()));
-    let answer = table::outcomes(&plan, &names, &["whole".into(), "brokn".into()]);
-    assert_eq!(
-        answer.unwrap_err(),
-        "brokn: e0 is awaited, and it has whole, broken; the nearest is 'broken'"
-    );
-    let spare = ["0", "broken", "whole", "nonsense"].map(String::from);
-    assert_eq!(table::outcomes(&plan, &names, &spare).unwrap(), [0, 1]);
+fn a_marker_holds_back_and_reads_no_outcome() {
+    let source = from_text(MARKED.into()).unwrap();
+    let plan = read(&source.bytes).unwrap();
+    let story = Story::of(&plan, &source.bytes, &[1]).unwrap();
+    let held: Vec<(u64, u8, u8)> =
+        story.held.iter().map(|held| (held.at, held.event, held.outcome)).collect();
+    assert_eq!(held, [(4_000, 0, 0), (3_500, 1, 1)]);
+    let starts: Vec<u64> = story.rows.iter().map(|row| row.start).collect();
+    assert_eq!(starts, [0, 3_000, 3_000, 4_000, 6_000]);
+    assert_eq!(story.closing.end, End::At(3));
 }
 
 #[test]

@@ -13,7 +13,7 @@ use Rattle.plan.specs.declared.Fault.{Fault}
 use Rattle.plan.specs.declared.Verdict.{Verdict}
 use Rattle.plan.specs.Laws.Example.{planT}
 use Rattle.automaton.specs.Tests.{all}
-use Rattle.automaton.specs.Next.{nextFrom, chosenFrom}
+use Rattle.automaton.specs.Next.{waysFrom, chosenFrom}
 use Rattle.automaton.specs.Number.{automatonVerdict, stateVerdict, wayVerdict, pathVerdict, judgeCounts, lowest, noWayOut, apartFrom, branchesIn, serves, finalsOf, passBack, again, advanced, passOn}
 
 -- T with another automaton
@@ -95,5 +95,5 @@ cases =
     (many 9, Verdict.Refused Fault.TooManyPending 0) ∷ []
 
 pub cases-right : map (λ c. automatonVerdict (c .0)) cases ≡ map (λ c. c .1) cases
-unfolding cases withT upTo goes when sensing last emitting processing many plan3 automatonVerdict stateVerdict wayVerdict pathVerdict judgeCounts lowest noWayOut apartFrom branchesIn serves falses finalsOf passBack again advanced passOn all nextFrom chosenFrom
+unfolding cases withT upTo goes when sensing last emitting processing many plan3 automatonVerdict stateVerdict wayVerdict pathVerdict judgeCounts lowest noWayOut apartFrom branchesIn serves falses finalsOf passBack again advanced passOn all waysFrom chosenFrom
 cases-right = refl

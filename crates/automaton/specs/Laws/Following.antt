@@ -11,14 +11,16 @@ use Rattle.automaton.specs.declared.Next.{Next}
 use Rattle.automaton.specs.declared.Chosen.{Chosen}
 use Rattle.automaton.specs.Rules.{Leaves, Processes}
 use Rattle.automaton.specs.Next.{nextOf, chosenOf}
-use Rattle.automaton.specs.Laws.States.{NextIs, goes, waits, next-is, ChosenIs, moves, chosen-is}
+use Rattle.automaton.specs.Laws.States.{ChosenIs, moves, chosen-is}
+use Rattle.automaton.specs.Laws.Ways.{NextIs, alone, silent, waits, next-is}
 
 -- the transition of a state that goes on
-pub next-leaves : (a : Automaton) (s t : ℕ) → nextOf a s ≡ Next.Goes t → Leaves a s t × (move a t .input ≡ Input.Nothing)
+pub next-leaves : (a : Automaton) (s t : ℕ) → nextOf a s ≡ Next.Goes t → Leaves a s t
 next-leaves a s t e = by (subst (NextIs a s) e (next-is a s))
   where
-    by : NextIs a s (Next.Goes t) → Leaves a s t × (move a t .input ≡ Input.Nothing)
-    by (goes l h) = (l, h)
+    by : NextIs a s (Next.Goes t) → Leaves a s t
+    by (alone l h) = l
+    by (silent l h x) = l
 
 -- the transition that an outcome chooses
 pub chosen-leaves : (a : Automaton) (s e o t : ℕ) → chosenOf a s e o ≡ Chosen.Move t → Leaves a s t × (move a t .input ≡ Input.Outcome e o)
@@ -32,7 +34,7 @@ pub awaited : (a : Automaton) (s e : ℕ) → nextOf a s ≡ Next.Waits e → (o
 awaited a s e h = by (subst (NextIs a s) h (next-is a s))
   where
     by : NextIs a s (Next.Waits e) → (o : ℕ) × Processes a s e o
-    by (waits o x) = (o, x)
+    by (waits o x y) = (o, x)
 
 pub awaited-below : (p : Plan) → InLimits p → (s e : ℕ) → nextOf (p .automaton) s ≡ Next.Waits e → e < p .events
 awaited-below p limits s e h =

@@ -72,7 +72,7 @@ module _ (p : Plan) (limits : InLimits p) (m : MeetsAutomaton p) (s : ℕ) (low 
   along i l f t x h (inl y) = inl record { steps = y .steps; state = y .state; few = omega (arith, y .few); goes = y .goes; stops = y .stops }
   along {q} {n} i l f t Next.Ended h (inr c) = inl record { steps = n; state = q; few = omega arith; goes = c; stops = ends h }
   along {q} {n} i l f t (Next.Waits e) h (inr c) = inl record { steps = n; state = q; few = omega arith; goes = c; stops = awaits h }
-  along {q} {n} i l f t (Next.Goes j) h (inr c) = inr (go c h (ap (λ (k : ℕ). move a k .to) (sym (goes-only p limits m q j l h .2 i f)) ∙ t))
+  along {q} {n} i l f t (Next.Goes j) h (inr c) = inr (go c h (ap (λ (k : ℕ). move a k .to) (sym (goes-only p limits m q j l h .1 i f)) ∙ t))
 
   first : {q n : ℕ} {D : List Bool} → Simple a s q n D → Halts n ⊎ Goes a s n q
   first one = inr stay
@@ -90,7 +90,7 @@ module _ (p : Plan) (limits : InLimits p) (m : MeetsAutomaton p) (s : ℕ) (low 
             | inr c ↦ record { steps = n; state = m .ways s low .end; few = omega arith; goes = c; stops = ends (final-ends p limits m (m .ways s low .end) (counted w .2) (m .ways s low .final)) }
           ]
 
-  -- no run of transitions without an event is longer
+  -- no run of transitions that await nothing is longer
   pub goes-few : {n q : ℕ} → Goes a s n q → n < 64
   goes-few c = omega (arith, halts .few, no-further p limits m (halts .goes) (halts .stops) c)
 

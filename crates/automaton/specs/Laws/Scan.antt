@@ -9,9 +9,8 @@ use lib.ListN.{getD}
 use Rattle.basis.specs.Parts.{part}
 use Rattle.plan.specs.declared.Transition.{Transition}
 use Rattle.plan.specs.Plan.{pastMove}
-use Rattle.automaton.specs.declared.Next.{Next}
 use Rattle.automaton.specs.declared.Chosen.{Chosen}
-use Rattle.automaton.specs.Next.{onInput, nextFrom, carries, chosenFrom}
+use Rattle.automaton.specs.Next.{added, waysFrom, carries, chosenFrom}
 use Rattle.automaton.specs.Inner.Scan.{rest}
 
 pub rest-all : (l : List Transition) (n : ℕ) → part pastMove l 0 n ≡ rest l 0 n
@@ -24,21 +23,21 @@ pub rest-none : (l : List Transition) (i n : ℕ) → (i < n → ⊥) → rest l
 rest-none l i n h = let z : n - i ≡ 0 = omega (arith, h) in ap (part pastMove l i) z
 
 module _ (l : List Transition) (s i n : ℕ) where
-  pub next-here : i < n → getD l i pastMove .from ≡ s → nextFrom (rest l i n) s i ≡ onInput (getD l i pastMove .input) i
-  unfolding nextFrom
-  next-here h e =
-      ap (λ (ts : List Transition). nextFrom ts s i) (rest-more l i n h) ∙
-      ap (λ (b : Bool). cond b (onInput (getD l i pastMove .input) i) (nextFrom (rest l (i + 1) n) s (i + 1))) (eq-eqb (getD l i pastMove .from) s e)
+  pub ways-here : i < n → getD l i pastMove .from ≡ s → waysFrom (rest l i n) s i ≡ i ∷ waysFrom (rest l (i + 1) n) s (i + 1)
+  unfolding waysFrom
+  ways-here h e =
+      ap (λ (ts : List Transition). waysFrom ts s i) (rest-more l i n h) ∙
+      ap (λ (b : Bool). added b i (waysFrom (rest l (i + 1) n) s (i + 1))) (eq-eqb (getD l i pastMove .from) s e)
 
-  pub next-past : i < n → (getD l i pastMove .from ≡ s → ⊥) → nextFrom (rest l i n) s i ≡ nextFrom (rest l (i + 1) n) s (i + 1)
-  unfolding nextFrom
-  next-past h e =
-      ap (λ (ts : List Transition). nextFrom ts s i) (rest-more l i n h) ∙
-      ap (λ (b : Bool). cond b (onInput (getD l i pastMove .input) i) (nextFrom (rest l (i + 1) n) s (i + 1))) (ne-eqb (getD l i pastMove .from) s e)
+  pub ways-past : i < n → (getD l i pastMove .from ≡ s → ⊥) → waysFrom (rest l i n) s i ≡ waysFrom (rest l (i + 1) n) s (i + 1)
+  unfolding waysFrom
+  ways-past h e =
+      ap (λ (ts : List Transition). waysFrom ts s i) (rest-more l i n h) ∙
+      ap (λ (b : Bool). added b i (waysFrom (rest l (i + 1) n) s (i + 1))) (ne-eqb (getD l i pastMove .from) s e)
 
-  pub next-none : (i < n → ⊥) → nextFrom (rest l i n) s i ≡ Next.Ended
-  unfolding nextFrom
-  next-none h = ap (λ (ts : List Transition). nextFrom ts s i) (rest-none l i n h)
+  pub ways-none : (i < n → ⊥) → waysFrom (rest l i n) s i ≡ []
+  unfolding waysFrom
+  ways-none h = ap (λ (ts : List Transition). waysFrom ts s i) (rest-none l i n h)
 
   module _ (e o : ℕ) where
     pub chosen-here : i < n → getD l i pastMove .from ≡ s → carries (getD l i pastMove .input) e o ≡ true → chosenFrom (rest l i n) s e o i ≡ Chosen.Move i

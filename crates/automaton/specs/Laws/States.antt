@@ -1,4 +1,4 @@
--- The tests of one state tell what the rules say: numbers 21, 22 and 23, and what a state does next.
+-- The tests of one state tell what the rules say: numbers 21, 22 and 23, and the transition that an outcome takes.
 use mathlib.Core.Path.{_≡_, refl, sym, ap, _∙_, subst}
 use mathlib.Core.Bool.{Bool, true, false, not, cond, _&&_}
 use Prim.Native.Nat.{ℕ, zero, suc, _+_, _≤_, _<_}
@@ -17,42 +17,11 @@ use Rattle.automaton.specs.declared.Next.{Next}
 use Rattle.automaton.specs.declared.Chosen.{Chosen}
 use Rattle.automaton.specs.Tests.{all}
 use Rattle.automaton.specs.Rules.{Leaves, Processes, NoWayOut, Branch, Branches, Serves}
-use Rattle.automaton.specs.Next.{onInput, nextFrom, nextOf, carries, chosenFrom, chosenOf}
+use Rattle.automaton.specs.Next.{firstOf, carries, chosenFrom, chosenOf}
 use Rattle.automaton.specs.Number.{isEnded, noWayOut, apart, apartFrom, branchesIn, branches, isMove, servesNext, serves}
 use Rattle.automaton.specs.Laws.Cases.{unlike, same-event, same-outcome}
 use Rattle.automaton.specs.Laws.Tests.{all-tells}
-
--- ---- what a state does next
-
--- nothing leaves it; or one of its transitions needs no event; or one awaits e
-pub data NextIs (a : Automaton) (s : ℕ) : Next → Type 0 where
-  ended : ((i : ℕ) → Leaves a s i → ⊥) → NextIs a s Next.Ended
-  goes : {i : ℕ} → Leaves a s i → move a i .input ≡ Input.Nothing → NextIs a s (Next.Goes i)
-  waits : {e : ℕ} (o : ℕ) → Processes a s e o → NextIs a s (Next.Waits e)
-
-module _ (a : Automaton) (s : ℕ) where
-  on-input : (i : ℕ) (n : Input) → Leaves a s i → move a i .input ≡ n → NextIs a s (onInput n i)
-  on-input i Input.Nothing l h = goes l h
-  on-input i (Input.Outcome e o) l h = waits o (record { index = i; leaves = l; input = h })
-
-  -- nothing before i leaves s, nor does i
-  none-yet : (i : ℕ) → ((j : ℕ) → j < i → Leaves a s j → ⊥) → (move a i .from ≡ s → ⊥) → (j : ℕ) → j < i + 1 → Leaves a s j → ⊥
-  none-yet i old here j l h = elim (ℕ-discrete j i) [ yes e ↦ here (ap (λ (k : ℕ). move a k .from) (sym e) ∙ h .from) | no ne ↦ old j (omega (arith, ne)) h ]
-
-  next-from : (k i : ℕ) → i + k ≡ a .count → ((j : ℕ) → j < i → Leaves a s j → ⊥) → NextIs a s (nextFrom (part pastMove (a .moves) i k) s i)
-  unfolding nextFrom
-  next-from zero i h old = ended (λ j l. old j (omega (arith, l .low)) l)
-  next-from (suc k) i h old = go (eqb (move a i .from) s) refl (λ ne. next-from k (i + 1) (omega arith) (none-yet i old ne))
-    where
-      rest : Next
-      rest = nextFrom (part pastMove (a .moves) (i + 1) k) s (i + 1)
-
-      go : (b : Bool) → eqb (move a i .from) s ≡ b → ((move a i .from ≡ s → ⊥) → NextIs a s rest) → NextIs a s (cond b (onInput (move a i .input) i) rest)
-      go true e rec = on-input i (move a i .input) (record { low = omega arith; from = eqb-true (move a i .from) s e }) refl
-      go false e rec = rec (eqb-false (move a i .from) s e)
-
-  pub next-is : NextIs a s (nextOf a s)
-  next-is = next-from (a .count) 0 (omega arith) (λ j l. absurd (omega arith))
+use Rattle.automaton.specs.Laws.Ways.{FirstIs, ended, goes, waits, first-is}
 
 -- ---- the transition that an outcome takes
 
@@ -105,9 +74,9 @@ module _ (a : Automaton) (s e o : ℕ) where
 
 pub tells-21 : (a : Automaton) (s : ℕ) → Tells (noWayOut a s) (NoWayOut a s)
 unfolding noWayOut
-tells-21 a s = go (isFinal a s) refl (nextOf a s) (next-is a s)
+tells-21 a s = go (isFinal a s) refl (firstOf a s) (first-is a s)
   where
-    go : (b : Bool) → isFinal a s ≡ b → (n : Next) → NextIs a s n → Tells (cond b (isEnded n) true) (NoWayOut a s)
+    go : (b : Bool) → isFinal a s ≡ b → (n : Next) → FirstIs a s n → Tells (cond b (isEnded n) true) (NoWayOut a s)
     go true f Next.Ended (ended h) = holds (λ z. h)
     go true f (Next.Goes i) (goes l h) = fails (λ z. z f i l)
     go true f (Next.Waits e) (waits o x) = fails (λ z. z f (x .index) (x .leaves))
@@ -192,9 +161,18 @@ module _ (a : Automaton) (s : ℕ) where
 
 -- ---- 23
 
+-- all transitions of a state process one event
+pub one-event : (a : Automaton) (s : ℕ) → Branches a s → {e o f q : ℕ} → Processes a s e o → Processes a s f q → e ≡ f
+one-event a s branches x y = elim (ℕ-discrete (x .index) (y .index)) [
+  | yes z ↦ same-event (sym (x .input) ∙ ap (λ (n : ℕ). move a n .input) z ∙ y .input)
+  | no z ↦
+      let b = branches (x .index) (y .index) (x .leaves) (y .leaves) z in
+      same-event (sym (x .input) ∙ b .first) ∙ sym (same-event (sym (y .input) ∙ b .second))
+]
+
 pub tells-23 : (a : Automaton) (outcomes : ℕ → ℕ) (s : ℕ) → Branches a s → Tells (serves a outcomes s) (Serves a outcomes s)
 unfolding serves
-tells-23 a outcomes s branches = go (nextOf a s) (next-is a s)
+tells-23 a outcomes s branches = go (firstOf a s) (first-is a s)
   where
     -- a state that has a transition without an event processes none
     free : (i : ℕ) → Leaves a s i → move a i .input ≡ Input.Nothing → (e o : ℕ) → Processes a s e o → ⊥
@@ -203,20 +181,11 @@ tells-23 a outcomes s branches = go (nextOf a s) (next-is a s)
       | no z ↦ unlike (sym h ∙ branches i (x .index) l (x .leaves) z .first)
     ]
 
-    -- all transitions of a state process one event
-    one-event : (e o f q : ℕ) → Processes a s e o → Processes a s f q → e ≡ f
-    one-event e o f q x y = elim (ℕ-discrete (x .index) (y .index)) [
-      | yes z ↦ same-event (sym (x .input) ∙ ap (λ (n : ℕ). move a n .input) z ∙ y .input)
-      | no z ↦
-          let b = branches (x .index) (y .index) (x .leaves) (y .leaves) z in
-          same-event (sym (x .input) ∙ b .first) ∙ sym (same-event (sym (y .input) ∙ b .second))
-    ]
-
-    go : (n : Next) → NextIs a s n → Tells (servesNext a outcomes s n) (Serves a outcomes s)
+    go : (n : Next) → FirstIs a s n → Tells (servesNext a outcomes s n) (Serves a outcomes s)
     go Next.Ended (ended h) = holds (λ e o x. absurd (h (x .index) (x .leaves)))
     go (Next.Goes i) (goes l h) = holds (λ e o x. absurd (free i l h e o x))
     go (Next.Waits e) (waits o x) =
         let test = all-tells (outcomes e) (λ q. isMove (chosenOf a s e q)) (λ q. Processes a s e q) (λ q l. tells-move a s e q) in
         tells (all (outcomes e) (λ q. isMove (chosenOf a s e q)))
-        (λ h f u y q l. let z = one-event e o f u x y in subst (λ (g : ℕ). Processes a s g q) z (told-true test h q (subst (λ (g : ℕ). q < outcomes g) (sym z) l)))
+        (λ h f u y q l. let z = one-event a s branches x y in subst (λ (g : ℕ). Processes a s g q) z (told-true test h q (subst (λ (g : ℕ). q < outcomes g) (sym z) l)))
         (λ h y. told-false test h (λ q l. y e o x q l))

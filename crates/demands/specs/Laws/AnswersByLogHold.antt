@@ -12,6 +12,7 @@ use Rattle.time.specs.declared.Clock.{Clock}
 use Rattle.plan.specs.Plan.{outcomesOf}
 use Rattle.plan.specs.declared.Kind.{Kind}
 use Rattle.plan.specs.declared.Plan.{Plan}
+use Rattle.automaton.specs.Rules.{MeetsAutomaton}
 use Rattle.times_combined.specs.Combined.{Ident}
 use Rattle.times_combined.specs.Paths.{Lawful}
 use Rattle.times_combined.specs.Times.{Timing}
@@ -38,9 +39,9 @@ use Rattle.demands_log.specs.Laws.Kept.{plan-kept}
 use Rattle.demands_theory.specs.Laws.Way.{Clear}
 use Rattle.demands_theory.specs.Demand.{Demand3}
 use Rattle.demands_theory.specs.Loading.{Loads}
-use Rattle.demands_theory.specs.TheWord.{stateAfter, wholeOf, Takes, TheWord}
+use Rattle.demands_theory.specs.TheWord.{stateAfter, wholeOf, TheWord}
 use Rattle.demands_theory.specs.Laws.Replies.{failed-by}
-use Rattle.demands_theory.specs.Laws.TheWord.{told-once, takes-follows}
+use Rattle.demands_theory.specs.Laws.TheWord.{told-once}
 use Rattle.demands_run.specs.Laws.Later.{takes-more}
 use Rattle.demands_run.specs.Laws.Ways.{held-loaded}
 use Rattle.demands_run.specs.Laws.OneLoading.{one-loading}
@@ -64,7 +65,8 @@ use Rattle.demands.specs.AnswersByLog.{StatementAnswersByLog}
 record Facts (run : Run) (log : Log) (is : List ℕ) (S C : Ident → ℕ) (available : ℕ → ℕ) (p : Plan) (psi slack : ℕ) : Type 0 where
   claim : Demand3 p psi slack available is S C (record { log = log; run = run })
   lawful : Lawful p
-  taken : Takes p log is
+  automaton : MeetsAutomaton p
+  word : TheWord p log is
   place : run .progress .state ≡ stateAfter p is
   loads : (t : Clock) (i : ℕ) (e : Entry) (ev o : ℕ) → run .halt ≡ Halt.Going → Clear psi slack (run .last .0) (Holds (run .window)) (t .0) → Holds (run .window) i e → isStarted (e .phase) ≡ true
       → kindOf run e ≡ Kind.Event ev → ltb o (outcomesOf p ev) ≡ true
@@ -107,13 +109,13 @@ module _ (run : Run) (log : Log) (is : List ℕ) (S C : Ident → ℕ) (availabl
   loading : (t : Clock) (p n o i e : ℕ) → Places.Learns run t p n o i e → (g : Failure) → (loadingAfter run t o i e ≡ g) ↔ After K (Call.Outcome t p n o) g
   loading t p n o i e l g = (
     λ q. subst (After K (Call.Outcome t p n o)) q (ends t p n o i e l),
-    λ q. one-loading (run .plan) (f .lawful) available (said (Call.Outcome t p n o) Reply.Taken ∷ log) (unique t p n o i e l) (takes-more (run .plan) log (said (Call.Outcome t p n o) Reply.Taken) is (f .taken)) (ends t p n o i e l .1) (q .1) .1,
+    λ q. one-loading (run .plan) (f .lawful) available (said (Call.Outcome t p n o) Reply.Taken ∷ log) (unique t p n o i e l) (takes-more (run .plan) log (said (Call.Outcome t p n o) Reply.Taken) is (f .word .taken)) (ends t p n o i e l .1) (q .1) .1,
   )
 
   answers : (c : Call) (r : Reply) → (callOf run c .reply ≡ r) ↔ Answered K c r
   answers c r =
       let x = replies run c r in
-      let y = same-condition run log is S C available (f .claim) nf (f .lawful) (takes-follows (run .plan) log is (f .taken)) (a .limits) (f .place) (a .last) (a .halted) loading c r in
+      let y = same-condition run log is S C available (f .claim) nf (f .lawful) (f .automaton) (f .word) (a .limits) (f .place) (a .last) (a .halted) loading c r in
       (λ q. y .0 (x .0 q), λ q. x .1 (y .1 q))
 
 -- ---- a run that has stopped
@@ -175,7 +177,8 @@ module _ (bytes : List ℕ) (are : Bytes bytes) (psi : Clock) (slack : ℕ) (ts 
           (record {
             claim = Works.of-the-log bytes are psi slack ts opened cs is w S C times;
             lawful = Works.lawful bytes are psi slack ts opened cs;
-            taken = w .taken;
+            automaton = Works.automaton bytes are psi slack ts opened cs;
+            word = w;
             place = Works.place bytes are psi slack ts opened cs nf is w;
             loads = Works.loading bytes are psi slack ts opened cs nf is w;
           })))

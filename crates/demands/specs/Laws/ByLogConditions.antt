@@ -2,12 +2,14 @@
 use mathlib.Core.Path.{_≡_, refl, sym, ap, _∙_, subst}
 use mathlib.Core.Bool.{true, true≢false}
 use mathlib.Core.List.{List, _∷_}
-use mathlib.Core.Logic.{inl, inr, ⊎-elim, _↔_}
+use mathlib.Core.Logic.{_⊎_, inl, inr, ⊎-elim, _↔_}
 use Prim.Native.Nat.{ℕ}
 use native.Mathlib.Omega.{arith}
+use native.Mathlib.Decide.{ℕ-discrete}
 use Rattle.time.specs.declared.Clock.{Clock}
-use Rattle.plan.specs.Plan.{isFinal}
+use Rattle.plan.specs.Plan.{isFinal, outcomesOf}
 use Rattle.plan.specs.declared.Kind.{Kind}
+use Rattle.automaton.specs.Rules.{MeetsAutomaton}
 use Rattle.times_combined.specs.Combined.{Ident, Is}
 use Rattle.times_combined.specs.Paths.{Follows, Lawful}
 use Rattle.run_window.specs.Window.{isHeld, startsBefore}
@@ -22,7 +24,10 @@ use Rattle.run_loading.specs.declared.Failure.{Failure}
 use Rattle.run.specs.Calls.{readingOf, kindOf}
 use Rattle.demands_log.specs.Log.{Id, id, Log, reading, Stops, StoppedIn, StoppedBy, Started, FailedIn}
 use Rattle.demands_theory.specs.Nodes.{whose, EmitsAt}
-use Rattle.demands_theory.specs.TheWord.{stateAfter, wholeOf}
+use Rattle.demands_theory.specs.TheWord.{stateAfter, wholeOf, TheWord}
+use Rattle.demands_theory.specs.Loading.{EndsAt, Loads}
+use Rattle.demands_theory.specs.Laws.TheWord.{takes-follows}
+use Rattle.demands_run.specs.Laws.Apart.{stuck-marked}
 use Rattle.demands_theory.specs.Demand.{Demand3}
 use Rattle.demands_theory.specs.Laws.Nodes.{one-activity}
 use Rattle.demands.specs.Laws.AfterCalls.{going-stopped, reading-is}
@@ -30,6 +35,7 @@ use Rattle.demands.specs.InLimits.{RunInLimits}
 use Rattle.demands.specs.Conditions.{entryAt, DueAt, FirstOf, IsReport, IsAction, RightKind, Condition, NamedAt, loadingAfter}
 use Rattle.demands.specs.Conditions as Places
 use Rattle.demands.specs.ByLog.{Known, lastReading, Open, Overdue, Late, Earliest, FirstServed, Rises, NotOverdue, Timely, Names, Reports, Refuses, Learns, Ended, Asks, After, Halts, Takes, Answered}
+use Rattle.demands.specs.Laws.ConditionsMet.{several-if}
 use Rattle.demands.specs.Laws.ByLogPlaces.{known, nodeOf, IsHeld, of-word, stands-at, at-stands, started-at, at-started, unstarted-at, at-unstarted, overdue-to, overdue-from, late-to, late-from, due-to, due-from, overdue-earliest, overdue-first, late-served, served-late, due-served, served-due, named-to, named-from, named-first, kind-same, kind-at}
 
 is-stop : (r : Reply) → Stops r → (s : Stop) × (r ≡ Reply.Stopped s)
@@ -43,13 +49,22 @@ pub stopped-in : (log : Log) (s : Stop) → StoppedBy log s → StoppedIn log
 stopped-in (y ∷ log) s (inl q) = inl (subst Stops (sym q) tt)
 stopped-in (y ∷ log) s (inr q) = inr (stopped-in log s q)
 
+none-full : Failure.None ≡ Failure.Full → ⊥
+none-full e = let z : _≡_ {A = ℕ} 0 1 = cc in omega arith
+
+none-beyond : Failure.None ≡ Failure.Beyond → ⊥
+none-beyond e = let z : _≡_ {A = ℕ} 0 1 = cc in omega arith
+
 module _ (run : Run) (log : Log) (is : List ℕ) (S C : Ident → ℕ) (available : ℕ → ℕ) (d : Demand3 (run .plan) (run .psi .0) (run .slack) available is S C (record { log = log; run = run })) (nf : FailedIn log → ⊥)
-    (lawful : Lawful (run .plan)) (path : Follows (run .plan) (run .plan .automaton .initial) is (stateAfter (run .plan) is))
+    (lawful : Lawful (run .plan)) (automaton : MeetsAutomaton (run .plan)) (word : TheWord (run .plan) log is)
     (limits : RunInLimits run) (place : run .progress .state ≡ stateAfter (run .plan) is)
     (last : (StoppedIn log → ⊥) → run .last .0 ≡ lastReading log) (halted : (s : Stop) → (run .halt ≡ Halt.Stopped s) ↔ StoppedBy log s)
     (loading : (t : Clock) (p n o i e : ℕ) → Places.Learns run t p n o i e → (f : Failure) → (loadingAfter run t o i e ≡ f) ↔ After (known run log is S C available d nf) (Call.Outcome t p n o) f) where
   abbrev K : Known
   K = known run log is S C available d nf
+
+  path : Follows (run .plan) (run .plan .automaton .initial) is (stateAfter (run .plan) is)
+  path = takes-follows (run .plan) log is (word .taken)
 
   -- ---- the order
 
@@ -152,14 +167,33 @@ module _ (run : Run) (log : Log) (is : List ℕ) (S C : Ident → ℕ) (availabl
   learns-from : (t : Clock) (p n o e : ℕ) → Learns K (Call.Outcome t p n o) o e → (i : ℕ) × Places.Learns run t p n o i e
   learns-from t p n o e l = let q = reports-from (Call.Outcome t p n o) (l .node) (Kind.Event e) (l .reports) in (q .0, record { reports = q .1; event = q .2; has = l .has })
 
+  -- after the report of a marker nothing is loaded
+  marked : (t : Clock) (p n o e : ℕ) → Learns K (Call.Outcome t p n o) o e → outcomesOf (run .plan) e ≡ 1 → After K (Call.Outcome t p n o) Failure.None
+  marked t p n o e l one =
+      (is, Loads.ends (EndsAt.whole (stuck-marked (run .plan) lawful log is (word .taken) (l .node) e (l .reports .kind) one automaton (Call.Outcome t p n o) Reply.Taken (λ y u q. named (l .reports .names) ∙ q .0) (word .whole))))
+    where
+      named : {x : Id} → Names (Call.Outcome t p n o) x → x ≡ id p n
+      named Names.outcome = refl
+
+  -- the event of an accepted outcome is a marker, or has several
+  by-outcomes : (t : Clock) (p n o i e : ℕ) → Places.Learns run t p n o i e → (outcomesOf (run .plan) e ≡ 1) ⊎ Places.Decides run t p n o i e
+  by-outcomes t p n o i e l = elim (ℕ-discrete (outcomesOf (run .plan) e) 1) [ yes q ↦ inl q | no q ↦ inr (record { learns = l; several = several-if o (outcomesOf (run .plan) e) (l .has) q }) ]
+
+  -- loading fails after the outcome of an event with several alone
+  fails-deciding : (t : Clock) (p n o e : ℕ) (f : Failure) → (Failure.None ≡ f → ⊥) → Learns K (Call.Outcome t p n o) o e → After K (Call.Outcome t p n o) f → (i : ℕ) × Places.Decides run t p n o i e × (loadingAfter run t o i e ≡ f)
+  fails-deciding t p n o e f fails l q =
+      let m = learns-from t p n o e l in
+      let ends = loading t p n o (m .0) e (m .1) in
+      ⊎-elim (λ one. absurd (fails (sym (ends Failure.None .1 (marked t p n o e l one)) ∙ ends f .1 q))) (λ k. (m .0, k, ends f .1 q)) (by-outcomes t p n o (m .0) e (m .1))
+
   halts-to : (c : Call) (s : Stop) → Places.Halts run c s → Halts K c s
   halts-to c s (Places.Halts.kept l h) = Halts.kept (halted s .0 h)
   halts-to c s (Places.Halts.number42 i r f) =
       Halts.number42 (subst (Rises K) (reading-is c) (rises-to (readingOf c) r)) (subst (λ (t : ℕ). Earliest C (Overdue K t) (nodeOf run log is S C available d nf i)) (reading-is c) (overdue-earliest run log is S C available d nf (readingOf c) i f))
   halts-to c s (Places.Halts.number41 i r f) =
       Halts.number41 (subst (NotOverdue K) (reading-is c) (overdue-none (readingOf c) r)) (subst (λ (t : ℕ). FirstServed K (Late K t) (nodeOf run log is S C available d nf i)) (reading-is c) (late-served run log is S C available d nf lawful path limits (readingOf c) i f))
-  halts-to c s (Places.Halts.number43 {t} {p} {n} {o} i e l q) = Halts.number43 e (learns-to t p n o i e l) (loading t p n o i e l Failure.Full .0 q)
-  halts-to c s (Places.Halts.number44 {t} {p} {n} {o} i e l q) = Halts.number44 e (learns-to t p n o i e l) (loading t p n o i e l Failure.Beyond .0 q)
+  halts-to c s (Places.Halts.number43 {t} {p} {n} {o} i e l q) = Halts.number43 e (learns-to t p n o i e (l .learns)) (loading t p n o i e (l .learns) Failure.Full .0 q)
+  halts-to c s (Places.Halts.number44 {t} {p} {n} {o} i e l q) = Halts.number44 e (learns-to t p n o i e (l .learns)) (loading t p n o i e (l .learns) Failure.Beyond .0 q)
 
   halts-from : (c : Call) (s : Stop) → Halts K c s → Places.Halts run c s
   halts-from c s (Halts.kept h) = Places.Halts.kept limits (halted s .1 h)
@@ -169,8 +203,8 @@ module _ (run : Run) (log : Log) (is : List ℕ) (S C : Ident → ℕ) (availabl
   halts-from c s (Halts.number41 {p = p} {n} r f) =
       let q = served-late run log is S C available d nf lawful path limits (readingOf c) (id p n) (subst (λ (t : ℕ). FirstServed K (Late K t) (id p n)) (sym (reading-is c)) f) in
       subst (λ (z : Id). Places.Halts run c (Stop.Late (z .position) (z .node))) (q .2) (Places.Halts.number41 (q .0) (none-overdue (readingOf c) (subst (NotOverdue K) (sym (reading-is c)) r)) (q .1))
-  halts-from c s (Halts.number43 {t} {p} {n} {o} e l q) = let m = learns-from t p n o e l in Places.Halts.number43 (m .0) e (m .1) (loading t p n o (m .0) e (m .1) Failure.Full .1 q)
-  halts-from c s (Halts.number44 {t} {p} {n} {o} e l q) = let m = learns-from t p n o e l in Places.Halts.number44 (m .0) e (m .1) (loading t p n o (m .0) e (m .1) Failure.Beyond .1 q)
+  halts-from c s (Halts.number43 {t} {p} {n} {o} e l q) = let m = fails-deciding t p n o e Failure.Full none-full l q in Places.Halts.number43 (m .0) e (m .1) (m .2)
+  halts-from c s (Halts.number44 {t} {p} {n} {o} e l q) = let m = fails-deciding t p n o e Failure.Beyond none-beyond l q in Places.Halts.number44 (m .0) e (m .1) (m .2)
 
   -- ---- ask
 
@@ -206,11 +240,14 @@ module _ (run : Run) (log : Log) (is : List ℕ) (S C : Ident → ℕ) (availabl
 
   takes-to : (c : Call) → Places.Takes run c → Takes K c
   takes-to c (Places.Takes.completion i r a) = Takes.completion (nodeOf run log is S C available d nf i) (kindOf run (entryAt run i)) (reports-to c i r) a
-  takes-to c (Places.Takes.outcome {t} {p} {n} {o} i e l q) = Takes.outcome e (learns-to t p n o i e l) (loading t p n o i e l Failure.None .0 q)
+  takes-to c (Places.Takes.outcome {t} {p} {n} {o} i e l q) = Takes.outcome e (learns-to t p n o i e (l .learns)) (loading t p n o i e (l .learns) Failure.None .0 q)
+  takes-to c (Places.Takes.marker {t} {p} {n} {o} i e l one) = Takes.outcome e (learns-to t p n o i e l) (marked t p n o e (learns-to t p n o i e l) one)
 
   takes-from : (c : Call) → Takes K c → Places.Takes run c
   takes-from c (Takes.completion x h r a) = let p = reports-from c x h r in Places.Takes.completion (p .0) (p .1) (subst IsAction (sym (p .2)) a)
-  takes-from c (Takes.outcome {t} {p} {n} {o} e l q) = let m = learns-from t p n o e l in Places.Takes.outcome (m .0) e (m .1) (loading t p n o (m .0) e (m .1) Failure.None .1 q)
+  takes-from c (Takes.outcome {t} {p} {n} {o} e l q) =
+      let m = learns-from t p n o e l in
+      ⊎-elim (λ one. Places.Takes.marker (m .0) e (m .1) one) (λ k. Places.Takes.outcome (m .0) e k (loading t p n o (m .0) e (m .1) Failure.None .1 q)) (by-outcomes t p n o (m .0) e (m .1))
 
   -- ---- each reply
 

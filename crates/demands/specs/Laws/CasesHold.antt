@@ -14,7 +14,7 @@ use Rattle.activity.specs.Tests.{wordOf, passes, beforeWords}
 use Rattle.activity.specs.Number.{noCycle, ruleI, ruleII, ruleIII, ruleIV, ruleV, ruleVI, ruleVII, ruleVIII, ruleIX, ruleX, ruleXI, faultBy, faultOf, verdictFrom, activitiesVerdict}
 use Rattle.activity.specs.Inner.Copied.{copied}
 use Rattle.automaton.specs.Tests.{all}
-use Rattle.automaton.specs.Next.{nextFrom, chosenFrom}
+use Rattle.automaton.specs.Next.{waysFrom, chosenFrom}
 use Rattle.automaton.specs.Number.{lowest, noWayOut, apartFrom, branchesIn, serves, again, finalsOf, passBack, advanced, passOn, judgeCounts, pathVerdict, wayVerdict, stateVerdict, automatonVerdict}
 use Rattle.times.specs.Times.{readyOf, largestOf, startOf, placedOf, visitOf, roundOf, roundsOf}
 use Rattle.times.specs.Queues.{shiftedOf, processedOf, floorOf, queuedOf}
@@ -38,6 +38,6 @@ use Rattle.timetable_turns.specs.Timetable.{tableFrom, timetableOf}
 use Rattle.demands.specs.Cases.{theCases, AllHold}
 
 pub cases : AllHold theCases
-unfolding fieldAt number optional optionalBytes byteAt optionalCount numbersThen asksOf kindBy durationAt predsLoop predsAt nodeWith nodeAt belongsAt peripheralsAt outcomesAt eventsAt nodesThen activitiesLoop activitiesAt inputAt outputAt moveWith moveFrom moveAt finalsAt moveCountAt movesLoop movesAt automatonAt sectionsAt endedAt withAutomaton withActivities withEvents withPeripherals planAt readPlan within nodeInLimits slotInLimits nodesInLimits moveInLimits movesInLimits automatonInLimits partsInLimits inLimits isRising slotWritten nodesWritten fileRules timesInLimits instanceInLimits placeInLimits pendingInLimits progressFits progressInLimits entryInLimits windowInLimits every some wordOf passes beforeWords noCycle ruleI ruleII ruleIII ruleIV ruleV ruleVI ruleVII ruleVIII ruleIX ruleX ruleXI faultBy faultOf verdictFrom activitiesVerdict copied all nextFrom chosenFrom lowest noWayOut apartFrom branchesIn serves again falses finalsOf passBack advanced passOn judgeCounts pathVerdict wayVerdict stateVerdict automatonVerdict readyOf largestOf startOf placedOf visitOf roundOf roundsOf shiftedOf processedOf floorOf queuedOf raisedOf heldOf leftBy leftOf aboveOf beyondOf closedOf emitsOf timedOf isOverdue isLate isDue isNode precedes first isEmpty placed vacancies freePlace entriesFrom pathFrom judgeOf runInLimits load wayOn further anyAbove anyShort shortFrom openPlan openOf asked completed isInstance toldFrom learns timelyBy askOf completionOf outcomeOf callOf digits line rows freeOf tableFrom timetableOf
+unfolding fieldAt number optional optionalBytes byteAt optionalCount numbersThen asksOf kindBy durationAt predsLoop predsAt nodeWith nodeAt belongsAt peripheralsAt outcomesAt eventsAt nodesThen activitiesLoop activitiesAt inputAt outputAt moveWith moveFrom moveAt finalsAt moveCountAt movesLoop movesAt automatonAt sectionsAt endedAt withAutomaton withActivities withEvents withPeripherals planAt readPlan within nodeInLimits slotInLimits nodesInLimits moveInLimits movesInLimits automatonInLimits partsInLimits inLimits isRising slotWritten nodesWritten fileRules timesInLimits instanceInLimits placeInLimits pendingInLimits progressFits progressInLimits entryInLimits windowInLimits every some wordOf passes beforeWords noCycle ruleI ruleII ruleIII ruleIV ruleV ruleVI ruleVII ruleVIII ruleIX ruleX ruleXI faultBy faultOf verdictFrom activitiesVerdict copied all waysFrom chosenFrom lowest noWayOut apartFrom branchesIn serves again falses finalsOf passBack advanced passOn judgeCounts pathVerdict wayVerdict stateVerdict automatonVerdict readyOf largestOf startOf placedOf visitOf roundOf roundsOf shiftedOf processedOf floorOf queuedOf raisedOf heldOf leftBy leftOf aboveOf beyondOf closedOf emitsOf timedOf isOverdue isLate isDue isNode precedes first isEmpty placed vacancies freePlace entriesFrom pathFrom judgeOf runInLimits load wayOn further anyAbove anyShort shortFrom openPlan openOf asked completed isInstance toldFrom learns timelyBy askOf completionOf outcomeOf callOf digits line rows freeOf tableFrom timetableOf
 cases =
     (refl, (refl, (refl, (refl, (refl, (refl, (refl, (refl, (refl, (refl, (refl, (refl, (refl, (refl, (refl, (refl, (refl, tt)))))))))))))))))

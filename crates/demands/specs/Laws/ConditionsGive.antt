@@ -2,7 +2,8 @@
 use mathlib.Core.Path.{_≡_, refl, sym, _∙_, ap}
 use mathlib.Core.Bool.{Bool, true, false, cond, true≢false}
 use Prim.Native.Nat.{ℕ, _≤_, _<_}
-use borrow.Author.Tests.{lt-ltb, le-ltb}
+use native.Mathlib.Omega.{arith}
+use borrow.Author.Tests.{lt-ltb, le-ltb, eq-eqb, ne-eqb}
 use lib.ListN.{set}
 use Rattle.basis.specs.Laws.Tells.{is-false}
 use Rattle.time.specs.declared.Clock.{Clock}
@@ -22,9 +23,9 @@ use Rattle.run.specs.declared.Answer.{Answer}
 use Rattle.run_checks.specs.declared.Refusal.{Refusal}
 use Rattle.run_loading.specs.declared.Failure.{Failure}
 use Rattle.run_outcomes.specs.Told.{toldOf}
-use Rattle.run.specs.Calls.{answer, refuse, heard, stops, readingOf, isDone, asked, kindOf, reported, completedBy, completed, cleared, afterLoading, learnt, learnsBy, learns, timely, called, askOf, completionOf, outcomeOf, callOf}
+use Rattle.run.specs.Calls.{answer, refuse, heard, stops, readingOf, isDone, asked, kindOf, reported, completedBy, completed, cleared, afterLoading, learnt, hears, learnsBy, learns, timely, called, askOf, completionOf, outcomeOf, callOf}
 use Rattle.run.specs.Inner.Calls.{replyAfter}
-use Rattle.demands.specs.Conditions.{entryAt, OverdueAt, LateAt, DueAt, NodeAt, NamedAt, IsReport, RightKind, IsAction, IsEvent, Nowhere, FirstOf, Going, Rises, NotOverdue, Timely, Reports, Learns, loadingAfter, Ended, Refuses, Halts, Asks, Takes, Condition}
+use Rattle.demands.specs.Conditions.{entryAt, OverdueAt, LateAt, DueAt, NodeAt, NamedAt, IsReport, RightKind, IsAction, IsEvent, Nowhere, FirstOf, Going, Rises, NotOverdue, Timely, Reports, Learns, Decides, loadingAfter, Ended, Refuses, Halts, Asks, Takes, Condition}
 use Rattle.demands.specs.InLimits.{RunInLimits}
 use Rattle.demands.specs.Laws.InLimitsIff.{tells-run, in-limits}
 use Rattle.demands.specs.Laws.FirstPlaces.{first-place, none-place, overdue-places, late-places, due-places, node-places}
@@ -206,14 +207,17 @@ after-loading Failure.None run = refl
 after-loading Failure.Full run = refl
 after-loading Failure.Beyond run = refl
 
-learns-event : (run : Run) (t : Clock) (o i e : ℕ) → kindOf run (entryAt run i) ≡ Kind.Event e → o < outcomesOf (run .plan) e
-    → learnsBy run t i (entryAt run i) o (kindOf run (entryAt run i)) ≡ learnt (cleared run t i (toldOf (run .progress) e (entryAt run i) o))
-learns-event run t o i e k l = rw (k, lt-ltb o (outcomesOf (run .plan) e) l)
+-- an outcome that the event has
+learns-event : (run : Run) (t : Clock) (p n o i e : ℕ) → Learns run t p n o i e → callOf run (Call.Outcome t p n o) ≡ hears run t i (entryAt run i) e o
+learns-event run t p n o i e l = report-call run (Call.Outcome t p n o) i (l .reports) ∙ rw (l .event, lt-ltb o (outcomesOf (run .plan) e) (l .has))
 
-pub outcome-call : (run : Run) (t : Clock) (p n o i e : ℕ) → Learns run t p n o i e → callOf run (Call.Outcome t p n o) ≡ learnt (cleared run t i (toldOf (run .progress) e (entryAt run i) o))
-outcome-call run t p n o i e l = report-call run (Call.Outcome t p n o) i (l .reports) ∙ learns-event run t o i e (l .event) (l .has)
+pub outcome-call : (run : Run) (t : Clock) (p n o i e : ℕ) → Decides run t p n o i e → callOf run (Call.Outcome t p n o) ≡ learnt (cleared run t i (toldOf (run .progress) e (entryAt run i) o))
+outcome-call run t p n o i e d = learns-event run t p n o i e (d .learns) ∙ rw (ne-eqb (outcomesOf (run .plan) e) 1 (λ q. let s = d .several in omega arith))
 
-at-loading : (run : Run) (t : Clock) (p n o i e : ℕ) (f : Failure) → Learns run t p n o i e → loadingAfter run t o i e ≡ f → callOf run (Call.Outcome t p n o) .reply ≡ replyAfter f
+pub marker-call : (run : Run) (t : Clock) (p n o i e : ℕ) → Learns run t p n o i e → outcomesOf (run .plan) e ≡ 1 → callOf run (Call.Outcome t p n o) ≡ answer Reply.Taken (cleared run t i (run .progress))
+marker-call run t p n o i e l one = learns-event run t p n o i e l ∙ rw (eq-eqb (outcomesOf (run .plan) e) 1 one)
+
+at-loading : (run : Run) (t : Clock) (p n o i e : ℕ) (f : Failure) → Decides run t p n o i e → loadingAfter run t o i e ≡ f → callOf run (Call.Outcome t p n o) .reply ≡ replyAfter f
 at-loading run t p n o i e f l q =
     ap replyOf (outcome-call run t p n o i e l) ∙ (after-loading (loadingAfter run t o i e) _ ∙ ap replyAfter q)
 
@@ -242,6 +246,7 @@ gives-asked run _ _ (Asks.waits {t} h n e) = at-call run (Call.Ask t) _ h (asked
 gives-taken : (run : Run) (c : Call) → Takes run c → callOf run c .reply ≡ Reply.Taken
 gives-taken run _ (Takes.completion {t} {p} {n} i r k) = at-report run (Call.Completion t p n) i _ r (ap replyOf (completed-action run t i (kindOf run (entryAt run i)) k))
 gives-taken run _ (Takes.outcome {t} {p} {n} {o} i e l q) = at-loading run t p n o i e Failure.None l q
+gives-taken run _ (Takes.marker {t} {p} {n} {o} i e l q) = ap replyOf (marker-call run t p n o i e l q)
 
 pub gives : (run : Run) (c : Call) (r : Reply) → Condition run c r → callOf run c .reply ≡ r
 gives run c (Reply.Start p a n) h = gives-asked run c (Reply.Start p a n) h

@@ -1,9 +1,10 @@
 -- `met`: the reply to a call comes in its condition, by cases of the checks in their order.
 use mathlib.Core.Path.{_≡_, refl, sym, _∙_, ap}
 use mathlib.Core.Bool.{true, true≢false}
-use Prim.Native.Nat.{ℕ}
+use Prim.Native.Nat.{ℕ, _<_}
 use lib.Dec.{ltb}
-use borrow.Author.Tests.{ltb-true, ltb-false}
+use native.Mathlib.Omega.{arith}
+use borrow.Author.Tests.{ltb-true, ltb-false, eqb-true, eqb-false}
 use Rattle.basis.specs.Laws.Tells.{told-false}
 use Rattle.basis.specs.Laws.Bools.{and-left, and-right, by-test}
 use Rattle.time.specs.declared.Clock.{Clock}
@@ -25,8 +26,8 @@ use Rattle.run_loading.specs.declared.Failure.{Failure}
 use Rattle.run.specs.Limits.{runInLimits}
 use Rattle.demands_log.specs.Laws.ByCases.{by-halt}
 use Rattle.demands.specs.Laws.InLimitsIff.{tells-run, in-limits}
-use Rattle.run.specs.Calls.{refuse, readingOf, isDone, asked, kindOf, completedBy, completed, afterLoading, learnsBy, learns, timely, called, askOf, completionOf, outcomeOf, callOf}
-use Rattle.demands.specs.Conditions.{entryAt, OverdueAt, LateAt, DueAt, NodeAt, Going, Rises, NotOverdue, Timely, Reports, Learns, loadingAfter, Ended, Refuses, Halts, Asks, Takes, Condition}
+use Rattle.run.specs.Calls.{refuse, readingOf, isDone, asked, kindOf, completedBy, completed, afterLoading, isMarker, learnsBy, learns, timely, called, askOf, completionOf, outcomeOf, callOf}
+use Rattle.demands.specs.Conditions.{entryAt, OverdueAt, LateAt, DueAt, NodeAt, Going, Rises, NotOverdue, Timely, Reports, Decides, loadingAfter, Ended, Refuses, Halts, Asks, Takes, Condition}
 use Rattle.demands.specs.Laws.FirstPlaces.{by-place, overdue-places, late-places, due-places, node-places}
 use Rattle.demands_run.specs.Laws.Ways.{held-loaded}
 
@@ -90,6 +91,10 @@ met-asked run t h =
 
 -- ---- reports
 
+-- an event that has an outcome and not one has several
+pub several-if : (o k : ℕ) → o < k → (k ≡ 1 → ⊥) → 1 < k
+several-if o k l n = omega (arith, n)
+
 module _ (run : Run) (t : Clock) (p n : ℕ) (h : Timely run t) where
   met-completed : MetBy run (Call.Completion t p n) (completed run t p n)
   unfolding completed
@@ -110,7 +115,7 @@ module _ (run : Run) (t : Clock) (p n : ℕ) (h : Timely run t) where
       by-kind i r (Kind.Event x) e = refused run c Refusal.OtherKind (Refuses.number54 i r (λ q. rw e at q))
 
   module _ (o : ℕ) where
-    met-loaded : (i e : ℕ) → Learns run t p n o i e → (f : Failure) → loadingAfter run t o i e ≡ f → (next : Run) → MetBy run (Call.Outcome t p n o) (afterLoading f next)
+    met-loaded : (i e : ℕ) → Decides run t p n o i e → (f : Failure) → loadingAfter run t o i e ≡ f → (next : Run) → MetBy run (Call.Outcome t p n o) (afterLoading f next)
     met-loaded i e l Failure.None q next = record { condition = Takes.outcome i e l q }
     met-loaded i e l Failure.Full q next = record { condition = Halts.number43 i e l q }
     met-loaded i e l Failure.Beyond q next = record { condition = Halts.number44 i e l q }
@@ -133,7 +138,9 @@ module _ (run : Run) (t : Clock) (p n : ℕ) (h : Timely run t) where
         by-kind i r (Kind.Release x) e = refused run c Refusal.OtherKind (Refuses.number54 i r (λ q. rw e at q))
         by-kind i r (Kind.Event x) e =
             by-test (MetBy run c) (ltb o (outcomesOf (run .plan) x)) _ _
-            (λ l. met-loaded i x (record { reports = r; event = e; has = ltb-true _ _ l }) (loadingAfter run t o i x) refl _)
+            (λ l. by-test (MetBy run c) (isMarker (run .plan) x) _ _
+            (λ m. record { condition = Takes.marker i x (record { reports = r; event = e; has = ltb-true _ _ l }) (eqb-true _ _ m) })
+            (λ m. met-loaded i x (record { learns = record { reports = r; event = e; has = ltb-true _ _ l }; several = several-if o (outcomesOf (run .plan) x) (ltb-true _ _ l) (eqb-false _ _ m) }) (loadingAfter run t o i x) refl _))
             (λ l. refused run c Refusal.OutcomeLacking (Refuses.number55 i x r e (ltb-false _ _ l)))
 
 pub met : (run : Run) (c : Call) → MetBy run c (callOf run c)

@@ -49,7 +49,7 @@ use Rattle.run.specs.Loading.{Loading}
 use Rattle.run_checks.specs.declared.Refusal.{Refusal}
 use Rattle.run.specs.Loading.{load, onWay, onLoading, further, mostPending}
 use Rattle.run.specs.Limits.{runInLimits}
-use Rattle.run.specs.Calls.{refuse, heard, asked, reported, completedBy, completed, afterLoading, cleared, learnsBy, learns, timely, called, askOf, completionOf, outcomeOf, callOf, kindOf}
+use Rattle.run.specs.Calls.{refuse, heard, asked, reported, completedBy, completed, afterLoading, cleared, isMarker, hears, learnsBy, learns, timely, called, askOf, completionOf, outcomeOf, callOf, kindOf}
 use Rattle.demands_run.specs.Laws.Entries.{brought}
 use Rattle.demands_run.specs.Laws.Telling.{told-cases}
 use Rattle.demands_run.specs.Laws.Loaded.{not-beyond}
@@ -221,8 +221,9 @@ module _ (run : Run) (r : RunInLimits run) where
   learns-by-kept t i x o (Kind.Claim y) n = record { kept = r }
   learns-by-kept t i x o (Kind.Release y) n = record { kept = r }
   learns-by-kept t i x o (Kind.Event e) n =
-      by-test AnswerKept (ltb o (outcomesOf (run .plan) e)) _ (refuse run Refusal.OutcomeLacking)
-      (λ has. loaded-kept (further mostPending (after has) .failure) (further mostPending (after has) .run) (further-kept mostPending (after has) (cleared-kept t i (toldOf (run .progress) e x o) (told-kept x e o n (ltb-true _ _ has))) .kept))
+      by-test AnswerKept (ltb o (outcomesOf (run .plan) e)) (hears run t i x e o) (refuse run Refusal.OutcomeLacking)
+      (λ has. by-test AnswerKept (isMarker (run .plan) e) _ _ (λ m. record { kept = cleared-kept t i (run .progress) (r .progress) })
+      (λ m. loaded-kept (further mostPending (after has) .failure) (further mostPending (after has) .run) (further-kept mostPending (after has) (cleared-kept t i (toldOf (run .progress) e x o) (told-kept x e o n (ltb-true _ _ has))) .kept)))
       (λ has. record { kept = r })
     where
       after : ltb o (outcomesOf (run .plan) e) ≡ true → Run

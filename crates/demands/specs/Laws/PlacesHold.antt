@@ -21,11 +21,11 @@ use Rattle.demands_log.specs.Log.{Log, id, said, Accepts, Fails, StoppedIn}
 use Rattle.demands_log.specs.Log as Log
 use Rattle.demands_log.specs.Drive.{drive}
 use Rattle.demands.specs.Demand3.{drivenBy}
-use Rattle.demands.specs.Conditions.{entryAt, NodeAt, Condition, Reports, Learns, Halts, Asks, Takes}
+use Rattle.demands.specs.Conditions.{entryAt, NodeAt, Condition, Reports, Decides, Halts, Asks, Takes}
 use Rattle.demands.specs.Laws.InLimitsIff.{in-limits}
 use Rattle.demands.specs.Laws.Unchanged.{refused-unchanged, stop-kept}
 use Rattle.demands.specs.Laws.ConditionsMet.{met}
-use Rattle.demands.specs.Laws.ConditionsGive.{overdue-call, late-call, timely-call, asked-starts, asked-nothing, none-due, report-call, completed-action}
+use Rattle.demands.specs.Laws.ConditionsGive.{overdue-call, late-call, timely-call, asked-starts, asked-nothing, none-due, report-call, completed-action, marker-call}
 use Rattle.demands.specs.Laws.AfterCalls.{After, going-stopped, after-call, after-opening}
 use Rattle.demands.specs.Laws.ByLogConditions.{stopped-by}
 pub use Rattle.demands.specs.Laws.LowestPlaces.{lowest-places, outcome-places, first-places}
@@ -63,9 +63,9 @@ module _ (run : Run) where
   reports-at c j r x others i e h =
       ⊎-elim (λ s. inr record { reports = subst (Reports run c) (sym s) r; counts = x }) (λ d. inl (inl (others i e (stored-kept (run .window) j vacant i e d h)))) (same-or-other i j)
 
-  stays-learns : (t : Clock) (p n o j x : ℕ) → Learns run t p n o j x → (callOf run (Call.Outcome t p n o) .reply ≡ Reply.Taken) ⊎ Fails (callOf run (Call.Outcome t p n o) .reply)
+  stays-learns : (t : Clock) (p n o j x : ℕ) → Decides run t p n o j x → (callOf run (Call.Outcome t p n o) .reply ≡ Reply.Taken) ⊎ Fails (callOf run (Call.Outcome t p n o) .reply)
       → Stays (Call.Outcome t p n o)
-  stays-learns t p n o j x l y = reports-at (Call.Outcome t p n o) j (l .reports) y (one-by-one-kept (outcome-places run t p n o j x l))
+  stays-learns t p n o j x l y = reports-at (Call.Outcome t p n o) j (l .learns .reports) y (one-by-one-kept (outcome-places run t p n o j x l))
 
   stays-asked : (c : Call) (r : Reply) → Asks run c r → Stays c
   stays-asked _ _ (Asks.starts {t} j h f) = starts-at (Call.Ask t) j (ap windowOf (timely-call run (Call.Ask t) h ∙ asked-starts run t j f))
@@ -77,6 +77,9 @@ module _ (run : Run) where
       let q = ap windowOf (report-call run (Call.Completion t p n) j r ∙ completed-action run t j (kindOf run (entryAt run j)) k) in
       reports-at (Call.Completion t p n) j r (inl y) (λ i e h. subst (λ (w : List Entry). Holds w i e) (sym q) h)
   stays-taken _ y (Takes.outcome {t} {p} {n} {o} j x l f) = stays-learns t p n o j x l (inl y)
+  stays-taken _ y (Takes.marker {t} {p} {n} {o} j x l one) =
+      let q = ap windowOf (marker-call run t p n o j x l one) in
+      reports-at (Call.Outcome t p n o) j (l .reports) (inl y) (λ i e h. subst (λ (w : List Entry). Holds w i e) (sym q) h)
 
   stays-halted : (c : Call) (s : Stop) → callOf run c .reply ≡ Reply.Stopped s → Halts run c s → Stays c
   stays-halted c s y (Halts.kept l h) = same-window c (ap windowOf (stop-kept run s c (in-limits run .1 l) h))

@@ -18,8 +18,8 @@ use Rattle.plan.specs.declared.Automaton.{Automaton}
 use Rattle.plan.specs.declared.Plan.{Plan}
 use Rattle.automaton.specs.Rules.{Leaves, Processes, MeetsAutomaton}
 use Rattle.automaton.specs.Next.{nextOf, chosenOf}
-use Rattle.automaton.specs.Laws.States.{NextIs, ended, goes, waits, next-is}
-use Rattle.automaton.specs.Laws.Later.{final-ends, ended-final, processes-waits, waits-chosen}
+use Rattle.automaton.specs.Laws.Following.{awaited}
+use Rattle.automaton.specs.Laws.Later.{final-ends, ended-final, goes-only, waits-chosen}
 use Rattle.automaton.specs.declared.Next.{Next}
 use Rattle.times.specs.Times.{specified}
 use Rattle.times.specs.Engine.{takenBy}
@@ -45,7 +45,8 @@ use Rattle.timetable_turns.specs.Timetable as T
 use Rattle.demands.specs.Laws.OpeningTests.{is-true}
 use Rattle.demands.specs.Laws.TimesEqual.{none-at}
 use Rattle.demands.specs.Timetables.{Steps, Walk, Closes}
-use Rattle.demands.specs.Laws.Leaving.{goes-next, chosen-is}
+use Rattle.demands.specs.Laws.Leaving.{goes-next, waits-next, waits-ways, chosen-is}
+use Rattle.demands.specs.Markers.{Several}
 use Rattle.demands.specs.Laws.Along as Along
 use Rattle.demands.specs.Laws.Along.{Setting}
 
@@ -96,16 +97,16 @@ module _ (p : Plan) (l : Lawful p) (eight : AtMostEight p) (m : MeetsAutomaton p
   pub walk-path : {is : List ℕ} {n : ℕ} → Walk p os is n → Path is
   walk-path Walk.none = refl
   walk-path (Walk.more {is} {t = t} w (Steps.goes h e)) = Along.path-on set is t (walk-path w) h
-  walk-path (Walk.more {is} {t = t} w (Steps.hears e h k x)) = Along.path-on set is t (walk-path w) h
+  walk-path (Walk.more {is} {t = t} w (Steps.hears e h several k x)) = Along.path-on set is t (walk-path w) h
 
   walk-heard : {is : List ℕ} {n : ℕ} → Walk p os is n → n ≤ length os
   walk-heard Walk.none = omega arith
   walk-heard (Walk.more w (Steps.goes h e)) = walk-heard w
-  walk-heard (Walk.more w (Steps.hears e h k x)) = omega arith
+  walk-heard (Walk.more w (Steps.hears e h several k x)) = omega arith
 
   step-leaves : {is : List ℕ} {n t j : ℕ} → Steps p os is n t j → Leaves a (stateAfter p is) t
   step-leaves (Steps.goes h e) = h
-  step-leaves (Steps.hears e h k x) = h
+  step-leaves (Steps.hears e h several k x) = h
 
   -- ---- one transition
 
@@ -117,16 +118,16 @@ module _ (p : Plan) (l : Lawful p) (eight : AtMostEight p) (m : MeetsAutomaton p
 
   moved : {is : List ℕ} {n t j : ℕ} → Path is → Steps p os is n t j → next-move is n ≡ Takes t j (drop j os)
   unfolding next-move
-  moved {is} {n} {t} f (Steps.goes h e) = rw (there is (goes-next p (l .file .limits) m (stateAfter p is) t (inside is f) h e))
-  moved {is} {n} {t} f (Steps.hears e h k x) =
+  moved {is} {n} {t} f (Steps.goes h e) = rw (there is (goes-next p (l .file .limits) m (stateAfter p is) t h e))
+  moved {is} {n} {t} f (Steps.hears e h several k x) =
       let low = inside is f in
       let q = subst (InputNames p) x (l .file .limits .moves t (h .low) .input) .1 in
       let z : n + 1 ≡ suc n = omega arith in
       rw (
-        there is (processes-waits p (l .file .limits) m (stateAfter p is) e (getD os n 0) low (record { index = t; leaves = h; input = x })),
+        there is (waits-next p (l .file .limits) m (stateAfter p is) e (getD os n 0) low (record { index = t; leaves = h; input = x }) several),
         drop-cons os n 0 k,
         lt-ltb (getD os n 0) (outcomesOf p e) q,
-        ap (λ (s : ℕ). chosenOf a s e (getD os n 0)) (state-is is) ∙ chosen-is p (l .file .limits) m (stateAfter p is) t e (getD os n 0) low h x,
+        ap (λ (s : ℕ). chosenOf a s e (getD os n 0)) (state-is is) ∙ chosen-is p (l .file .limits) m (stateAfter p is) t e (getD os n 0) low h several x,
         z,
       )
 
@@ -134,14 +135,14 @@ module _ (p : Plan) (l : Lawful p) (eight : AtMostEight p) (m : MeetsAutomaton p
   unfolding next-move
   closes-ended is n f h = rw (there is (final-ends p (l .file .limits) m (stateAfter p is) (inside is f) h))
 
-  closes-waits : (is : List ℕ) (n e u : ℕ) → Path is → Processes a (stateAfter p is) e u → n ≡ length os → next-move is n ≡ T.Closes (waiting p (now is) e)
+  closes-waits : (is : List ℕ) (n e u : ℕ) → Path is → Processes a (stateAfter p is) e u → Several a (stateAfter p is) → n ≡ length os → next-move is n ≡ T.Closes (waiting p (now is) e)
   unfolding next-move
-  closes-waits is n e u f h k = rw (there is (processes-waits p (l .file .limits) m (stateAfter p is) e u (inside is f) h), drop-of-length-le os {i = n} (omega arith))
+  closes-waits is n e u f h several k = rw (there is (waits-next p (l .file .limits) m (stateAfter p is) e u (inside is f) h several), drop-of-length-le os {i = n} (omega arith))
 
-  closes-lacks : (is : List ℕ) (n e u : ℕ) → Path is → Processes a (stateAfter p is) e u → n < length os → outcomesOf p e ≤ getD os n 0 → next-move is n ≡ T.Closes (refused 55 n)
+  closes-lacks : (is : List ℕ) (n e u : ℕ) → Path is → Processes a (stateAfter p is) e u → Several a (stateAfter p is) → n < length os → outcomesOf p e ≤ getD os n 0 → next-move is n ≡ T.Closes (refused 55 n)
   unfolding next-move
-  closes-lacks is n e u f h k x =
-      rw (there is (processes-waits p (l .file .limits) m (stateAfter p is) e u (inside is f) h), drop-cons os n 0 k, le-ltb (getD os n 0) (outcomesOf p e) x)
+  closes-lacks is n e u f h several k x =
+      rw (there is (waits-next p (l .file .limits) m (stateAfter p is) e u (inside is f) h several), drop-cons os n 0 k, le-ltb (getD os n 0) (outcomesOf p e) x)
 
   -- ---- the text after some transitions
 
@@ -171,10 +172,10 @@ module _ (p : Plan) (l : Lawful p) (eight : AtMostEight p) (m : MeetsAutomaton p
   closing-is k is n f w S E tm c (Closes.ended h x) =
       closed-by k is n (L.ended p (now is)) (closes-ended is n f h)
       ∙ rw (state-is is, Along.frees-only set is f S E tm _ x)
-  closing-is k is n f w S E tm c (Closes.waits {e = e} {o = u} h q x) =
-      closed-by k is n (waiting p (now is) e) (closes-waits is n e u f h q)
+  closing-is k is n f w S E tm c (Closes.waits {e = e} {o = u} h several q x) =
+      closed-by k is n (waiting p (now is) e) (closes-waits is n e u f h several q)
       ∙ rw (state-is is, Along.frees-only set is f S E tm _ x)
-  closing-is k is n f w S E tm c (Closes.lacks {e = e} {o = u} h q x) = closed-by k is n (refused 55 n) (closes-lacks is n e u f h q x)
+  closing-is k is n f w S E tm c (Closes.lacks {e = e} {o = u} h several q x) = closed-by k is n (refused 55 n) (closes-lacks is n e u f h several q x)
   closing-is k is n f w S E tm c (Closes.exceeds s x) = stops-44 k f w s x
 
   pub walk-text : {is : List ℕ} {n : ℕ} → Walk p os is n → Within p none is → (k : ℕ) → k + size (wordOf p is) ≡ positions → text positions [] 0 ≡ engineRows is ++ text k is n
@@ -213,38 +214,41 @@ module _ (p : Plan) (l : Lawful p) (eight : AtMostEight p) (m : MeetsAutomaton p
         closed _ (closed-by k is n (L.ended p (now is)) (closes-ended is n (walk-path v) h))
         (λ S E tm. rw (state-is is) (Closes.ended h (Along.frees set is (walk-path v) S E tm)))
 
-    found-wait : (e u : ℕ) → Processes a (stateAfter p is) e u → n ≡ length os → Found (engineRows is ++ text k is n)
-    found-wait e u h q =
-        closed _ (closed-by k is n (waiting p (now is) e) (closes-waits is n e u (walk-path v) h q))
-        (λ S E tm. rw (state-is is) (Closes.waits h q (Along.frees set is (walk-path v) S E tm)))
+    found-wait : (e u : ℕ) → Processes a (stateAfter p is) e u → Several a (stateAfter p is) → n ≡ length os → Found (engineRows is ++ text k is n)
+    found-wait e u h several q =
+        closed _ (closed-by k is n (waiting p (now is) e) (closes-waits is n e u (walk-path v) h several q))
+        (λ S E tm. rw (state-is is) (Closes.waits h several q (Along.frees set is (walk-path v) S E tm)))
 
-    found-lack : (e u : ℕ) → Processes a (stateAfter p is) e u → n < length os → outcomesOf p e ≤ getD os n 0 → Found (engineRows is ++ text k is n)
-    found-lack e u h q x = closed _ (closed-by k is n (refused 55 n) (closes-lacks is n e u (walk-path v) h q x)) (λ S E tm. Closes.lacks h q x)
+    found-lack : (e u : ℕ) → Processes a (stateAfter p is) e u → Several a (stateAfter p is) → n < length os → outcomesOf p e ≤ getD os n 0 → Found (engineRows is ++ text k is n)
+    found-lack e u h several q x = closed _ (closed-by k is n (refused 55 n) (closes-lacks is n e u (walk-path v) h several q x)) (λ S E tm. Closes.lacks h several q x)
 
     found-44 : {t j : ℕ} → Steps p os is n t j → Beyond p none (t ∷ is) → Found (engineRows is ++ text k is n)
     found-44 s x = closed _ (stops-44 k (walk-path v) w s x) (λ S E tm. Closes.exceeds s x)
 
     -- one transition more, or one of the four ends
-    by-next : ((t j : ℕ) → Steps p os is n t j → Found (engineRows is ++ text k is n)) → (x : Next) → nextOf a (stateAfter p is) ≡ x → NextIs a (stateAfter p is) x → Found (engineRows is ++ text k is n)
-    by-next on Next.Ended e (ended h) = found-end (ended-final p (l .file .limits) m (stateAfter p is) (inside is (walk-path v)) e)
-    by-next on (Next.Goes t) e (goes h x) = on t n (Steps.goes h x)
-    by-next on (Next.Waits ev) e (waits u x) = elim (decLt n (length os)) [
-      | no h ↦ found-wait ev u x (let z = walk-heard v in omega arith)
-      | yes h ↦ elim (decLt (getD os n 0) (outcomesOf p ev)) [
-        | no q ↦ found-lack ev u x h (omega arith)
-        | yes q ↦
-            let c = waits-chosen p (l .file .limits) m (stateAfter p is) ev (getD os n 0) (inside is (walk-path v)) e q in
-            on (c .0) (n + 1) (Steps.hears ev (c .2) h (c .3))
-      ]
-    ]
+    by-next : ((t j : ℕ) → Steps p os is n t j → Found (engineRows is ++ text k is n)) → (x : Next) → nextOf a (stateAfter p is) ≡ x → Found (engineRows is ++ text k is n)
+    by-next on Next.Ended e = found-end (ended-final p (l .file .limits) m (stateAfter p is) (inside is (walk-path v)) e)
+    by-next on (Next.Goes t) e = let h = goes-only p (l .file .limits) m (stateAfter p is) t (inside is (walk-path v)) e in on t n (Steps.goes (h .0) (h .1))
+    by-next on (Next.Waits ev) e =
+        let x = awaited a (stateAfter p is) ev e in
+        let several = waits-ways p (l .file .limits) m (stateAfter p is) ev e in
+        elim (decLt n (length os)) [
+          | no h ↦ found-wait ev (x .0) (x .1) several (let z = walk-heard v in omega arith)
+          | yes h ↦ elim (decLt (getD os n 0) (outcomesOf p ev)) [
+            | no q ↦ found-lack ev (x .0) (x .1) several h (omega arith)
+            | yes q ↦
+                let c = waits-chosen p (l .file .limits) m (stateAfter p is) ev (getD os n 0) (inside is (walk-path v)) e q in
+                on (c .0) (n + 1) (Steps.hears ev (c .2) several h (c .3))
+          ]
+        ]
 
   pub found : (k : ℕ) (is : List ℕ) (n : ℕ) → Walk p os is n → Within p none is → k + size (wordOf p is) ≡ positions → Found (engineRows is ++ text k is n)
   found zero is n v w e =
-      by-next zero is n v w (λ t j s. found-44 zero is n v w s (too-far t is (Along.path-on set is t (walk-path v) (step-leaves s)) (omega arith))) (nextOf a (stateAfter p is)) refl (next-is a (stateAfter p is))
+      by-next zero is n v w (λ t j s. found-44 zero is n v w s (too-far t is (Along.path-on set is t (walk-path v) (step-leaves s)) (omega arith))) (nextOf a (stateAfter p is)) refl
   found (suc k) is n v w e =
       by-next (suc k) is n v w (λ t j s.
       on t j s (tells-passes t is (Along.path-on set is t (walk-path v) (step-leaves s))) (λ x. found k (t ∷ is) j (Walk.more v s) (within-more p none is t w x) (omega arith)))
-      (nextOf a (stateAfter p is)) refl (next-is a (stateAfter p is))
+      (nextOf a (stateAfter p is)) refl
     where
       on : (t j : ℕ) → Steps p os is n t j → {b : Bool} → Tells b (Beyond p none (t ∷ is)) → ((Beyond p none (t ∷ is) → ⊥) → Found (engineRows (t ∷ is) ++ text k (t ∷ is) j)) → Found (engineRows is ++ text (suc k) is n)
       on t j s (holds x) r = found-44 (suc k) is n v w s x

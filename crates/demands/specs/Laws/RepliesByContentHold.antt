@@ -32,7 +32,7 @@ use Rattle.run.specs.declared.Reply.{Reply}
 use Rattle.run.specs.declared.Answer.{Answer}
 use Rattle.run.specs.Loading.{further, mostPending}
 use Rattle.run.specs.Limits.{runInLimits}
-use Rattle.run.specs.Calls.{onHalt, refuse, heard, asked, kindOf, reported, cleared, completedBy, completed, haltedBy, afterLoading, learnt, learnsBy, learns, momentOf, timely, called, askOf, completionOf, outcomeOf, callOf}
+use Rattle.run.specs.Calls.{onHalt, answer, refuse, heard, asked, kindOf, reported, cleared, completedBy, completed, haltedBy, afterLoading, learnt, isMarker, learnsBy, learns, momentOf, timely, called, askOf, completionOf, outcomeOf, callOf}
 use Rattle.demands_log.specs.Log.{Log, said}
 use Rattle.demands_log.specs.Drive.{drive}
 use Rattle.demands.specs.InLimits.{RunInLimits}
@@ -118,7 +118,9 @@ module _ (run : Run) (v : List Entry) (c : SameContent (run .window) v) (old : B
     learns-by-like o (Kind.Release r) = same (Reply.Refused Refusal.OtherKind)
     learns-by-like o (Kind.Event x) =
         by-same LikeAnswer (ltb o (outcomesOf (run .plan) x)) _ (refuse run Refusal.OutcomeLacking) _ (refuse other Refusal.OutcomeLacking)
-        (λ has. learnt-like (cleared run t i (toldOf (run .progress) x e o)) (cleared other t j (toldOf (run .progress) x e o)) (cleared-like (toldOf (run .progress) x e o) refl))
+        (λ has. by-same LikeAnswer (isMarker (run .plan) x) (answer Reply.Taken (cleared run t i (run .progress))) _ (answer Reply.Taken (cleared other t j (run .progress))) _
+        (λ m. record { reply = refl; run = cleared-like (run .progress) refl })
+        (λ m. learnt-like (cleared run t i (toldOf (run .progress) x e o)) (cleared other t j (toldOf (run .progress) x e o)) (cleared-like (toldOf (run .progress) x e o) refl)))
         (λ has. same (Reply.Refused Refusal.OutcomeLacking))
 
   completed-like : (t : Clock) (p n : ℕ) → LikeAnswer (completed run t p n) (completed other t p n)

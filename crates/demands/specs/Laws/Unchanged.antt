@@ -34,7 +34,7 @@ use Rattle.automaton.specs.Next.{nextOf}
 use Rattle.plan_limits.specs.Limits.{inLimits, partsInLimits, within, nodesInLimits, automatonInLimits}
 use Rattle.run.specs.Loading.{load, further, mostPending}
 use Rattle.run_outcomes.specs.Told.{toldOf}
-use Rattle.run.specs.Calls.{answer, refuse, asked, reported, completedBy, completed, afterLoading, learnt, cleared, learnsBy, learns, timely, called, askOf, completionOf, outcomeOf, callOf, isDone, kindOf}
+use Rattle.run.specs.Calls.{answer, refuse, asked, reported, completedBy, completed, afterLoading, learnt, cleared, isMarker, hears, learnsBy, learns, timely, called, askOf, completionOf, outcomeOf, callOf, isDone, kindOf}
 use Rattle.run_opening.specs.declared.Short.{Short}
 use Rattle.run_opening.specs.Short.{onShort, shortFrom}
 use Rattle.run_opening.specs.Given.{anyAbove, atFirst, availabilities}
@@ -92,8 +92,10 @@ right-learns-by run t i x o (Kind.Action a y) = record { right = refl }
 right-learns-by run t i x o (Kind.Claim r) = record { right = refl }
 right-learns-by run t i x o (Kind.Release r) = record { right = refl }
 right-learns-by run t i x o (Kind.Event e) =
-    by-cond (RightOf run) (ltb o (outcomesOf (run .plan) e)) (learnt next) (refuse run Refusal.OutcomeLacking)
-    (right-loaded run (further mostPending next .run) (further mostPending next .failure)) (record { right = refl })
+    by-cond (RightOf run) (ltb o (outcomesOf (run .plan) e)) (hears run t i x e o) (refuse run Refusal.OutcomeLacking)
+    (by-cond (RightOf run) (isMarker (run .plan) e) (answer Reply.Taken (cleared run t i (run .progress))) (learnt next) (record { right = tt })
+    (right-loaded run (further mostPending next .run) (further mostPending next .failure)))
+    (record { right = refl })
   where
     next : Run
     next = cleared run t i (toldOf (run .progress) e x o)

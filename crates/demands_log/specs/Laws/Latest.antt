@@ -27,7 +27,7 @@ use Rattle.run_loading.specs.declared.Failure.{Failure}
 use Rattle.run.specs.Loading.{Loading}
 use Rattle.run.specs.Limits.{runInLimits}
 use Rattle.run.specs.Loading.{load, loadPath, onLoading, further, mostPending}
-use Rattle.run.specs.Calls.{answer, refuse, asked, reported, completedBy, completed, afterLoading, learnt, cleared, learnsBy, learns, onHalt, timely, called, askOf, completionOf, outcomeOf, callOf, isDone, kindOf, readingOf}
+use Rattle.run.specs.Calls.{answer, refuse, asked, reported, completedBy, completed, afterLoading, learnt, cleared, isMarker, hears, learnsBy, learns, onHalt, timely, called, askOf, completionOf, outcomeOf, callOf, isDone, kindOf, readingOf}
 use Rattle.demands_log.specs.Laws.ByCases.{by-found, by-way}
 
 -- ---- loading leaves the last reading, and stops nothing
@@ -102,8 +102,9 @@ right-learns-by run t i x o (Kind.Action a y) = record { right = tt }
 right-learns-by run t i x o (Kind.Claim r) = record { right = tt }
 right-learns-by run t i x o (Kind.Release r) = record { right = tt }
 right-learns-by run t i x o (Kind.Event e) =
-    by-cond (RightOf t) (ltb o (outcomesOf (run .plan) e)) (learnt next) (refuse run Refusal.OutcomeLacking)
-    (right-loaded t (further mostPending next .run) (further mostPending next .failure) (lasts-further t mostPending next (refl, refl) .lasts)) (record { right = tt })
+    by-cond (RightOf t) (ltb o (outcomesOf (run .plan) e)) (hears run t i x e o) (refuse run Refusal.OutcomeLacking)
+    (by-cond (RightOf t) (isMarker (run .plan) e) (answer Reply.Taken (cleared run t i (run .progress))) (learnt next) (record { right = (refl, refl) })
+    (right-loaded t (further mostPending next .run) (further mostPending next .failure) (lasts-further t mostPending next (refl, refl) .lasts))) (record { right = tt })
   where
     next : Run
     next = cleared run t i (toldOf (run .progress) e x o)

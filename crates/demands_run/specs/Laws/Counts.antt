@@ -9,7 +9,7 @@ use lib.Dec.{eqb}
 use lib.ListN.{length, length-append, length-map}
 use Rattle.basis.specs.Laws.Lists.{fewer}
 use Rattle.basis.specs.Laws.PartsHold.{length-part}
-use Rattle.plan.specs.Plan.{move, emittedBy, eventsIn, resourceOf}
+use Rattle.plan.specs.Plan.{move, emittedBy, eventsIn, outcomesOf, resourceOf}
 use Rattle.plan.specs.declared.Input.{Input}
 use Rattle.plan.specs.declared.Plan.{Plan}
 use Rattle.automaton.specs.Rules.{MeetsAutomaton}
@@ -28,7 +28,7 @@ use Rattle.demands_theory.specs.TheWord.{stateAfter, wholeOf, Takes}
 use Rattle.demands_theory.specs.Laws.TheWord.{takes-follows}
 use Rattle.demands_theory.specs.Laws.Along.{few-pending}
 use Rattle.demands_run.specs.Laws.Engine.{rest, remaining, Possible}
-use Rattle.demands_run.specs.Laws.Stands.{identOf, Stands}
+use Rattle.demands_run.specs.Laws.Stands.{identOf, Queued, Stands}
 
 -- ---- the queues
 
@@ -42,18 +42,20 @@ rest-length : (q : List Instance) → 0 < length q → length (rest q) + 1 ≡ l
 rest-length [] l = absurd (omega arith)
 rest-length (x ∷ q) l = omega arith
 
+-- so many of e are pending after a word as it emitted and did not process
+pub queued-length : (p : Plan) (lawful : Lawful p) (log : Log) (is : List ℕ) → Takes p log is → (m e : ℕ) (l : List Instance) → Queued (wholeOf p is) log m e (times e (wordOf p is)) l → length l + times e (wordOf p is) ≡ emissions e (wordOf p is)
+queued-length p lawful log is taken m e l q =
+    let o = listed (p .resources) (resourceOf p) e (wordOf p is) (good-path p lawful (p .automaton .initial) is (stateAfter p is) (takes-follows p log is taken)) in
+    let u = listing-length (wholeOf p is) e (q .past ++ map identOf l) (o .0) (q .listing) (o .1) in
+    let v = length-append (q .past) (map identOf l) in
+    let n = length-map l identOf in
+    let c = q .count in
+    let z = o .2 in
+    omega arith
+
 module _ (p : Plan) (lawful : Lawful p) (automaton : MeetsAutomaton p) (available : ℕ → ℕ) (log : Log) (is : List ℕ) (g : Progress) (s : Stands p available log is g) where
-  -- so many of e are pending as were emitted and not processed
   pub queue-length : (e : ℕ) → length (queueOf g e) + times e (wordOf p is) ≡ emissions e (wordOf p is)
-  queue-length e =
-      let q = s .queues e in
-      let o = listed (p .resources) (resourceOf p) e (wordOf p is) (good-path p lawful (p .automaton .initial) is (stateAfter p is) (takes-follows p log is (s .taken))) in
-      let u = listing-length (wholeOf p is) e (q .past ++ map identOf (queueOf g e)) (o .0) (q .listing) (o .1) in
-      let v = length-append (q .past) (map identOf (queueOf g e)) in
-      let m = length-map (queueOf g e) identOf in
-      let c = q .count in
-      let z = o .2 in
-      omega arith
+  queue-length e = queued-length p lawful log is (s .taken) (outcomesOf p e) e (queueOf g e) (s .queues e)
 
   pub pending-length : (e : ℕ) → length (queueOf g e) ≡ pendingOf g e
   pending-length e = length-part noInstance (g .pending) (8 * e) (pendingOf g e)

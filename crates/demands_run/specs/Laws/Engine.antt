@@ -28,10 +28,13 @@ abbrev pub rest : List Instance → List Instance
 rest [] = []
 rest (x ∷ xs) = xs
 
--- the queue of f, less the instance that is processed
+-- the instances of each event, less the one that is processed
+abbrev pub left : Input → (ℕ → List Instance) → ℕ → List Instance
+left Input.Nothing q f = q f
+left (Input.Outcome e o) q f = cond (eqb e f) (rest (q f)) (q f)
+
 abbrev pub remaining : Input → Progress → ℕ → List Instance
-remaining Input.Nothing g f = queueOf g f
-remaining (Input.Outcome e o) g f = cond (eqb e f) (rest (queueOf g f)) (queueOf g f)
+remaining i g f = left i (queueOf g) f
 
 -- transition t can be taken at g
 pub record Possible (p : Plan) (t : ℕ) (g : Progress) : Type 0 where
@@ -54,7 +57,7 @@ pub record Advances (p : Plan) (t : ℕ) (g : Progress) : Type 0 where
   pub sized : Whole (takenBy p t g .progress)
   pub within : takenBy p t g .beyond ≡ false → ProgressIn p (takenBy p t g .progress)
 
--- at most k transitions that process nothing lead from state s to one that waits or is final
+-- at most k transitions that await nothing lead from state s to one that waits or is final
 abbrev pub Settles : Automaton → ℕ → ℕ → Type 0
 Settles a zero s = (t : ℕ) → nextOf a s ≡ Next.Goes t → ⊥
 Settles a (suc k) s = (t : ℕ) → nextOf a s ≡ Next.Goes t → Settles a k (move a t .to)

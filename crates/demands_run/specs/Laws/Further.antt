@@ -89,11 +89,12 @@ module _ (p : Plan) (lawful : Lawful p) (automaton : MeetsAutomaton p) (availabl
 
   -- a path that processes a told instance leaves one less
   pub fewer-told : (us : List ℕ) (g : Progress) (stands : Stands p available log us g) (t : ℕ) → Heard p lawful automaton available log us g stands t → (q : Progress)
-      → ((e : ℕ) → tolds (queueOf q e) ≡ tolds (remaining (move (p .automaton) t .input) g e)) → told q + 1 ≡ told g
+      → ((e : ℕ) → tolds (queueOf q e) ≤ tolds (remaining (move (p .automaton) t .input) g e)) → told q + 1 ≤ told g
   fewer-told us g stands t h q same =
       sum-falls (p .events) (h .event) (λ e. tolds (queueOf g e)) (λ e. tolds (queueOf q e)) (h .low)
-      (λ e n. same e ∙ ap (λ (i : Input). tolds (remaining i g e)) (h .input) ∙ rw (ne-eqb (h .event) e (λ z. n (sym z))))
-      (let u : tolds (queueOf q (h .event)) ≡ tolds (rest (queueOf g (h .event))) = same (h .event) ∙ ap (λ (i : Input). tolds (remaining i g (h .event))) (h .input) ∙ rw (eq-eqb (h .event) (h .event) refl) in
+      (λ e n. let s = same e in let u : tolds (remaining (move (p .automaton) t .input) g e) ≡ tolds (queueOf g e) = ap (λ (i : Input). tolds (remaining i g e)) (h .input) ∙ rw (ne-eqb (h .event) e (λ z. n (sym z))) in omega arith)
+      (let s = same (h .event) in
+      let u : tolds (remaining (move (p .automaton) t .input) g (h .event)) ≡ tolds (rest (queueOf g (h .event))) = ap (λ (i : Input). tolds (remaining i g (h .event))) (h .input) ∙ rw (eq-eqb (h .event) (h .event) refl) in
       let x = h .fewer in
       omega arith)
 

@@ -1,4 +1,5 @@
--- Where a run stands after an outcome is stored: the same word, with one instance more that is told.
+-- Where a run stands after an accepted outcome: the same word, with one instance more that is told; after that of a marker, with the
+-- same queues.
 use mathlib.Core.Path.{_≡_, refl, sym, ap, _∙_, subst}
 use mathlib.Core.Bool.{true, true≢false}
 use mathlib.Core.Logic.{_⊎_, inl, inr, ⊎-elim}
@@ -12,7 +13,7 @@ use Rattle.basis.specs.Laws.Lists.{among-right, map-among, among-map, distinct-
 use Rattle.basis.specs.Laws.Parts.{part-same}
 use Rattle.basis.specs.Laws.Bools.{by-test}
 use Rattle.time.specs.declared.Clock.{Clock}
-use Rattle.plan.specs.Plan.{outcomesOf, resourceOf}
+use Rattle.plan.specs.Plan.{outcomesOf}
 use Rattle.plan.specs.declared.Kind.{Kind}
 use Rattle.plan.specs.declared.Plan.{Plan}
 use Rattle.automaton.specs.Rules.{MeetsAutomaton}
@@ -20,9 +21,6 @@ use Rattle.times_combined.specs.Word.{times}
 use Rattle.times_combined.specs.Combined.{Ident, Is, identity}
 use Rattle.times_combined.specs.Paths.{wordOf, Lawful}
 use Rattle.times_combined.specs.Laws.Instances.{Listing}
-use Rattle.times_combined.specs.Laws.Shape.{event-same}
-use Rattle.times_combined.specs.Laws.Unique.{shape-of}
-use Rattle.times_combined.specs.Laws.Plans.{good-path}
 use Rattle.times.specs.Times.{at}
 use Rattle.times.specs.Queues.{noInstance, pendingOf, instanceOf, queueOf}
 use Rattle.times.specs.Limits.{InstanceInLimits}
@@ -33,12 +31,12 @@ use Rattle.run_outcomes.specs.Told.{tell, isInstance, toldOf}
 use Rattle.run.specs.declared.Call.{Call}
 use Rattle.run.specs.declared.Reply.{Reply}
 use Rattle.demands_log.specs.Log.{Id, id, Log, said, Accepts}
-use Rattle.demands_theory.specs.Nodes.{whose, lengthOf}
-use Rattle.demands_theory.specs.TheWord.{stateAfter, wholeOf}
-use Rattle.demands_theory.specs.Laws.TheWord.{takes-follows}
+use Rattle.demands_theory.specs.Nodes.{lengthOf}
+use Rattle.demands_theory.specs.TheWord.{wholeOf}
 use Rattle.demands_run.specs.Laws.Stands.{identOf, idOf, ToldAs, Queued, Stands}
 use Rattle.demands_run.specs.Laws.Later.{takes-more, told-later}
 use Rattle.demands_run.specs.Laws.Counts.{pending-few}
+use Rattle.demands_run.specs.Laws.Apart.{other-node, another}
 use Rattle.demands_run.specs.Laws.Telling.{instance-tells, instance-is, informed, told-length, told-cases, told-outside, told-part}
 
 -- the outcome o of the event ev is reported of the entry's node, and accepted
@@ -85,23 +83,20 @@ module _ (p : Plan) (lawful : Lawful p) (automaton : MeetsAutomaton p) (availabl
   ident-same y e = instance-is (x .position) (x .node) o y (sym (ap (λ (z : Id). z .position) e)) (sym (ap (λ (z : Id). z .node) e))
 
   -- an instance of the event: told now, or as before
-  own-told : (y : Instance) → Among y (queueOf g ev) → ToldAs (said c r ∷ log) (idOf (informed (x .position) (x .node) o y)) (informed (x .position) (x .node) o y .told)
-  own-told y m =
+  own-told : (y : Instance) → Among y (queueOf g ev) → 1 < outcomesOf p ev → ToldAs (said c r ∷ log) (idOf (informed (x .position) (x .node) o y)) (informed (x .position) (x .node) o y .told)
+  own-told y m several =
       by-test (λ (z : Instance). ToldAs (said c r ∷ log) (idOf z) (z .told)) (isInstance (x .position) (x .node) y) _ _
       (λ b. let q = instance-tells (x .position) (x .node) o y b in inl ((λ i. record { position = sym (q .0) i; node = sym (q .1) i }), refl, accepts))
-      (λ b. told-later c r log (idOf y) (y .told) (λ u k. absurd (true≢false (sym (ident-same y (k .0)) ∙ b))) (s .queues ev .told y m))
+      (λ b. told-later c r log (idOf y) (y .told) (λ u k. absurd (true≢false (sym (ident-same y (k .0)) ∙ b))) (s .queues ev .told y m several))
 
   -- an instance of another event is another node
-  other-told : (f : ℕ) → (f ≡ ev → ⊥) → (y : Instance) → Among y (queueOf g f) → ToldAs (said c r ∷ log) (idOf y) (y .told)
-  other-told f n y m = told-later c r log (idOf y) (y .told) (λ u k. absurd (clash (k .0))) (s .queues f .told y m)
+  other-told : (f : ℕ) → (f ≡ ev → ⊥) → (y : Instance) → Among y (queueOf g f) → 1 < outcomesOf p f → ToldAs (said c r ∷ log) (idOf y) (y .told)
+  other-told f n y m several = told-later c r log (idOf y) (y .told) (λ u k. other-node p lawful log is (s .taken) (id (x .position) (x .node)) ev event f n (idOf y) listed (k .0)) (s .queues f .told y m several)
     where
-      clash : id (x .position) (x .node) ≡ idOf y → ⊥
-      clash e =
-          let i = s .queues f .listing .all (identOf y) (among-right (identOf y) (s .queues f .past) (map identOf (queueOf g f)) (among-map identOf y (queueOf g f) m)) in
-          let j : Is (wholeOf p is) (identOf y) (Kind.Event ev) = subst (λ (z : Id). Is (wholeOf p is) (whose z) (Kind.Event ev)) e event in
-          n (event-same (shape-of (p .resources) (resourceOf p) (wordOf p is) (good-path p lawful (p .automaton .initial) is (stateAfter p is) (takes-follows p log is (s .taken))) .labels (identOf y) _ _ (i .0) (j .0) (i .1) (j .1)))
+      listed : Is (wholeOf p is) (identOf y) (Kind.Event f)
+      listed = s .queues f .listing .all (identOf y) (among-right (identOf y) (s .queues f .past) (map identOf (queueOf g f)) (among-map identOf y (queueOf g f) m))
 
-  told-queues : (f : ℕ) → Queued (wholeOf p is) (said c r ∷ log) f (times f (wordOf p is)) (queueOf after f)
+  told-queues : (f : ℕ) → Queued (wholeOf p is) (said c r ∷ log) (outcomesOf p f) f (times f (wordOf p is)) (queueOf after f)
   told-queues f = record {
     past = s .queues f .past;
     count = s .queues f .count;
@@ -109,11 +104,11 @@ module _ (p : Plan) (lawful : Lawful p) (automaton : MeetsAutomaton p) (availabl
     told = λ y m. go (ℕ-discrete f ev) y m;
   }
     where
-      go : Dec (f ≡ ev) → (y : Instance) → Among y (queueOf after f) → ToldAs (said c r ∷ log) (idOf y) (y .told)
-      go (yes e) y m =
+      go : Dec (f ≡ ev) → (y : Instance) → Among y (queueOf after f) → 1 < outcomesOf p f → ToldAs (said c r ∷ log) (idOf y) (y .told)
+      go (yes e) y m several =
           let k = map-among (informed (x .position) (x .node) o) y (queueOf g ev) (subst (Among y) own-queue (subst (λ (n : ℕ). Among y (queueOf after n)) e m)) in
-          subst (λ (z : Instance). ToldAs (said c r ∷ log) (idOf z) (z .told)) (sym (k .2)) (own-told (k .0) (k .1))
-      go (no n) y m = other-told f n y (subst (Among y) (other-queue f n) m)
+          subst (λ (z : Instance). ToldAs (said c r ∷ log) (idOf z) (z .told)) (sym (k .2)) (own-told (k .0) (k .1) (subst (λ (n : ℕ). 1 < outcomesOf p n) e several))
+      go (no n) y m several = other-told f n y (subst (Among y) (other-queue f n) m) several
 
   told-within : (e i : ℕ) → e < p .events → i < pendingOf g e → InstanceInLimits (getD (p .outcomes) e 0) (instanceOf after e i)
   told-within e i l m =
@@ -137,3 +132,28 @@ module _ (p : Plan) (lawful : Lawful p) (automaton : MeetsAutomaton p) (availabl
     taken = takes-more p log (said c r) is (s .taken);
     known = λ y u. ⊎-elim (λ k. subst (λ (z : Id). z .position < lengthOf is) (k .0) inside) (λ k. s .known y u k);
   }
+
+  -- ---- a marker's "report closes the node and is not queued"
+
+  module _ (marker : outcomesOf p ev ≡ 1) where
+    marked-queues : (f : ℕ) → Queued (wholeOf p is) (said c r ∷ log) (outcomesOf p f) f (times f (wordOf p is)) (queueOf g f)
+    marked-queues f = record {
+      past = s .queues f .past;
+      count = s .queues f .count;
+      listing = s .queues f .listing;
+      told = λ y m several. other-told f (another p lawful log is (s .taken) (id (x .position) (x .node)) ev event marker f several) y m several;
+    }
+
+    pub stands-marked : Stands p available (said c r ∷ log) is g
+    stands-marked = record {
+      trace = s .trace;
+      runs = s .runs;
+      state = s .state;
+      queues = marked-queues;
+      place = s .place;
+      position = s .position;
+      sized = s .sized;
+      within = s .within;
+      taken = takes-more p log (said c r) is (s .taken);
+      known = λ y u. ⊎-elim (λ k. subst (λ (z : Id). z .position < lengthOf is) (k .0) inside) (λ k. s .known y u k);
+    }

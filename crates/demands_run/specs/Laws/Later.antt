@@ -61,15 +61,15 @@ module _ (c : Call) (r : Reply) (log : Log) where
         many = record { nodes = m .nodes; distinct = m .distinct; wait = λ x a. let w = m .wait x a in record { node = w .node; unreported = ⊎-elim (λ q. n x q) (λ q. w .unreported q) }; many = m .many };
       }
 
-  pub queued-later : (G : Graph) (e n : ℕ) (q : List Instance) → ((x : Id) → Silent x) → Queued G log e n q → Queued G (said c r ∷ log) e n q
-  queued-later G e n q s h = record { past = h .past; count = h .count; listing = h .listing; told = λ x m. told-later (idOf x) (x .told) (s (idOf x)) (h .told x m) }
+  pub queued-later : (G : Graph) (m e n : ℕ) (q : List Instance) → ((x : Id) → Silent x) → Queued G log m e n q → Queued G (said c r ∷ log) m e n q
+  queued-later G m e n q s h = record { past = h .past; count = h .count; listing = h .listing; told = λ x k several. told-later (idOf x) (x .told) (s (idOf x)) (h .told x k several) }
 
   pub stands-later : (p : Plan) (available : ℕ → ℕ) (is : List ℕ) (g : Progress) → ((x : Id) → Silent x) → Stands p available log is g → Stands p available (said c r ∷ log) is g
   stands-later p available is g s h = record {
     trace = h .trace;
     runs = h .runs;
     state = h .state;
-    queues = λ e. queued-later _ e _ _ s (h .queues e);
+    queues = λ e. queued-later _ _ e _ _ s (h .queues e);
     place = h .place;
     position = h .position;
     sized = h .sized;

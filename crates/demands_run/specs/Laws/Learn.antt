@@ -11,14 +11,12 @@ use native.Mathlib.Decide.{ℕ-discrete}
 use lib.ListN.{length, getD, set, length-set}
 use Rattle.time.specs.declared.Clock.{Clock}
 use Rattle.plan.specs.Plan.{outcomesOf}
-use Rattle.plan.specs.Limits.{KindNames}
 use Rattle.plan.specs.declared.Kind.{Kind}
 use Rattle.plan.specs.declared.Plan.{Plan}
 use Rattle.automaton.specs.declared.Next.{Next}
 use Rattle.automaton.specs.Laws.Cases.{waits-same, ended-waits}
 use Rattle.times_combined.specs.Combined.{Is}
 use Rattle.times_combined.specs.Paths.{Follows}
-use Rattle.times_combined.specs.Laws.Plans.{good-path}
 use Rattle.times.specs.Queues.{queueOf}
 use Rattle.times.specs.declared.Told.{Told}
 use Rattle.times.specs.declared.Instance.{Instance}
@@ -58,15 +56,15 @@ use Rattle.demands_theory.specs.Laws.World.{old-position, new-start}
 use Rattle.demands_theory.specs.Laws.OfRun.{machine}
 use Rattle.demands_run.specs.Laws.Engine.{EngineLaws}
 use Rattle.demands_run.specs.Laws.Stands.{Stands, Accepted, Good}
-use Rattle.demands_run.specs.Laws.Bounds.{entry-within, vacant-passes}
+use Rattle.demands_run.specs.Laws.Bounds.{vacant-passes}
 use Rattle.demands_run.specs.Laws.Ways.{runOf, Calm, Goes, Learning}
 use Rattle.demands_run.specs.Laws.Counts.{pending-length, pending-few}
 use Rattle.demands_run.specs.Laws.Loaded.{Loaded}
 use Rattle.demands_run.specs.Laws.Paths.{isTold, tolds}
 use Rattle.demands_run.specs.Laws.Sums.{sum-at-most}
 use Rattle.demands_run.specs.Laws.Further.{Onto, still, hearing, Furthered, further-loads, told}
-use Rattle.demands_run.specs.Laws.Kinds.{kind-is}
 use Rattle.demands_run.specs.Laws.Informed.{stands-informed}
+use Rattle.demands_run.specs.Laws.EventAt as EventAt
 
 tolds-few : (q : List Instance) → tolds q ≤ length q
 tolds-few [] = omega arith
@@ -91,7 +89,7 @@ module _ (laws : EngineLaws) (p : Plan) (psi : Clock) (slack : ℕ) (given : Acc
   run = runOf p psi slack given available g w last halt
 
   path : Follows p (p .automaton .initial) is (stateAfter p is)
-  path = takes-follows p log is (good .stands .taken)
+  path = EventAt.path p psi slack given available log is g w last halt good v
 
   module _ (t : Clock) (i : ℕ) (e : Entry) (ev o : ℕ) (going : halt ≡ Halt.Going) (calm : Calm p psi slack given available log is g w last halt good t) (held : Holds w i e) (started : isStarted (e .phase) ≡ true)
       (kind : kindOf run e ≡ Kind.Event ev) (has : ltb o (outcomesOf p ev) ≡ true) where
@@ -99,7 +97,7 @@ module _ (laws : EngineLaws) (p : Plan) (psi : Clock) (slack : ℕ) (given : Acc
     c = Call.Outcome t (e .position) (e .node) o
 
     agrees : Agrees W is e
-    agrees = v .accounts .agree i e held
+    agrees = EventAt.agrees p psi slack given available log is g w last halt good v i e ev held kind
 
     unstopped : StoppedIn log → ⊥
     unstopped = v .clock going .unstopped
@@ -108,18 +106,13 @@ module _ (laws : EngineLaws) (p : Plan) (psi : Clock) (slack : ℕ) (given : Acc
     before = good .whole (λ q. unstopped (failed-stopped log q))
 
     event : Is (wholeOf p is) (whose (idOf e)) (Kind.Event ev)
-    event =
-        let n = agrees .node in
-        let k = kind-is p is (good-path p (given .lawful) (p .automaton .initial) is (stateAfter p is) path) (e .position) (e .activity) (agrees .activity) (e .node) (n .0) (n .1 .0) (n .1 .1) in
-        (n .1 .0, subst (λ (z : Kind). wholeOf p is .Holds (whose (idOf e)) z (n .1 .0)) (sym k ∙ kind) (n .1 .1))
+    event = EventAt.event p psi slack given available log is g w last halt good v i e ev held kind
 
     low : ev < p .events
-    low =
-        let r = entry-within (p .activities) (p .sizes) e (held .held) (subst (λ (x : Entry). entryInLimits (p .activities) (p .sizes) x ≡ true) (held .entry) (good .entries i)) in
-        subst (KindNames p) kind (given .lawful .file .limits .nodes (e .activity) (e .node) (r .activity) (r .node) .names)
+    low = EventAt.low p psi slack given available log is g w last halt good v i e ev held kind
 
     inside : e .position < lengthOf is
-    inside = old-position p (given .lawful) available is (stateAfter p is) path (idOf e) (agrees .node)
+    inside = EventAt.inside p psi slack given available log is g w last halt good v i e ev held kind
 
     accepts : (f : Failure) → Accepts (replyAfter f) log
     accepts Failure.None = tt

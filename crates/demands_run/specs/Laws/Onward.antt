@@ -19,6 +19,7 @@ use Rattle.automaton.specs.Rules.{MeetsAutomaton}
 use Rattle.automaton.specs.declared.Next.{Next}
 use Rattle.automaton.specs.declared.Chosen.{Chosen}
 use Rattle.automaton.specs.Laws.Following.{chosen-leaves, awaited-below}
+use Rattle.automaton.specs.Laws.Later.{waits-several}
 use Rattle.automaton.specs.Laws.Cases.{goes-same, ended-goes, waits-goes}
 use Rattle.times_combined.specs.Word.{times}
 use Rattle.times_combined.specs.Combined.{Instance}
@@ -63,14 +64,18 @@ module _ (p : Plan) (lawful : Lawful p) (automaton : MeetsAutomaton p) (availabl
     pub fewer : tolds (rest (queueOf g event)) + 1 ≡ tolds (queueOf g event)
 
   -- the oldest instance of e, if one is pending
-  head-queued : (e : ℕ) → 0 < pendingOf g e → Queued (wholeOf p us) log e (times e (wordOf p us)) (instanceOf g e 0 ∷ rest (queueOf g e))
-  head-queued e l = subst (Queued (wholeOf p us) log e (times e (wordOf p us))) (queue-head g e l) (s .queues e)
+  head-queued : (e : ℕ) → 0 < pendingOf g e → Queued (wholeOf p us) log (outcomesOf p e) e (times e (wordOf p us)) (instanceOf g e 0 ∷ rest (queueOf g e))
+  head-queued e l = subst (Queued (wholeOf p us) log (outcomesOf p e) e (times e (wordOf p us))) (queue-head g e l) (s .queues e)
 
   head-oldest : (e : ℕ) → 0 < pendingOf g e → Oldest p us e (idOf (instanceOf g e 0))
   head-oldest e l =
       let q = head-queued e l in
       subst (λ (n : ℕ). Instance (wholeOf p us) e (n + 1) (identOf (instanceOf g e 0))) (q .count)
       (next-instance (wholeOf p us) e (q .past) (identOf (instanceOf g e 0)) (map identOf (rest (queueOf g e))) (q .listing))
+
+  -- what is awaited has more than one outcome
+  several : (e : ℕ) → nextOf (p .automaton) (g .state) ≡ Next.Waits e → 1 < outcomesOf p e
+  several e w = waits-several p (lawful .file .limits) automaton (g .state) e (s .within .state) w
 
   here : stateAfter p us ≡ g .state
   here = sym (s .place)
@@ -79,7 +84,7 @@ module _ (p : Plan) (lawful : Lawful p) (automaton : MeetsAutomaton p) (availabl
   heard : (e o t : ℕ) → nextOf (p .automaton) (g .state) ≡ Next.Waits e → 0 < pendingOf g e → instanceOf g e 0 .told ≡ Told.Outcome o → chosenOf (p .automaton) (g .state) e o ≡ Chosen.Move t → Heard t
   heard e o t w l told c =
       let q = head-queued e l in
-      let known : Log.Told log (idOf (instanceOf g e 0)) o = subst (ToldAs log (idOf (instanceOf g e 0))) told (q .told (instanceOf g e 0) (inl refl)) in
+      let known : Log.Told log (idOf (instanceOf g e 0)) o = subst (ToldAs log (idOf (instanceOf g e 0))) told (q .told (instanceOf g e 0) (inl refl) (several e w)) in
       let there : chosenOf (p .automaton) (stateAfter p us) e o ≡ Chosen.Move t = ap (λ (z : ℕ). chosenOf (p .automaton) z e o) here ∙ c in
       record {
         event = e;
@@ -157,7 +162,7 @@ module _ (p : Plan) (lawful : Lawful p) (automaton : MeetsAutomaton p) (availabl
           whose-same (idOf (instanceOf g e 0)) x
           (only-instance (wholeOf p us) e (q .past) (identOf (instanceOf g e 0)) (map identOf (rest (queueOf g e))) (q .listing) (whose x)
           (subst (λ (n : ℕ). Instance (wholeOf p us) e (n + 1) (whose x)) (sym (q .count)) old)) in
-          telling e w l (instanceOf g e 0 .told) refl (q .told (instanceOf g e 0) (inl refl)) (s .within .pending e 0 (awaited-below p (lawful .file .limits) (g .state) e w) l .told) o (subst (λ (z : Id). Log.Told log z o) (sym same) k)
+          telling e w l (instanceOf g e 0 .told) refl (q .told (instanceOf g e 0) (inl refl) (several e w)) (s .within .pending e 0 (awaited-below p (lawful .file .limits) (g .state) e w) l .told) o (subst (λ (z : Id). Log.Told log z o) (sym same) k)
 
       by : (n : Next) → nextOf (p .automaton) (g .state) ≡ n → Stuck p log us
       by Next.Ended w = ended (next-after s w)

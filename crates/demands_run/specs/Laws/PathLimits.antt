@@ -30,7 +30,7 @@ module _ (p : Plan) (lawful : Lawful p) (automaton : MeetsAutomaton p) (availabl
   pub on : (us : List ℕ) (g : Progress) → Stands p available log us g → (t : ℕ) → Takes p log (t ∷ us) → takenBy p t g .beyond ≡ false → Stands p available log (t ∷ us) (takenBy p t g .progress)
   on us g s t next b = let can = possible p lawful automaton available log us g s t next in stands-on p lawful available log us g s t next (can .pending) (pending-length p lawful automaton available log us g s) (laws .advances p lawful t g can) b
 
-  -- a transition after us that processes nothing passes a limit
+  -- a transition after us that awaits nothing passes a limit
   pub record Quiet (us : List ℕ) : Type 0 where
     pub before : List ℕ
     pub number : ℕ

@@ -139,7 +139,7 @@ module _ (p : Plan) (lawful : Lawful p) (automaton : MeetsAutomaton p) (availabl
 
   -- ---- a path
 
-  -- the path q adds es to us, and goes on from vs by transitions that process nothing
+  -- the path q adds es to us, and goes on from vs by transitions that await nothing
   pub record Passes (us vs : List ℕ) (q : Path) : Type 0 where
     pub word : List ℕ
     pub taken : Takes p log word

@@ -4,6 +4,7 @@ use mathlib.Core.Bool.{false, true≢false}
 use mathlib.Core.List.{List, [], _∷_, _++_, map}
 use Prim.Native.Nat.{ℕ, zero, suc, _+_, _≤_}
 use native.Mathlib.Omega.{arith}
+use lib.Dec.{eqb}
 use lib.ListN.{length, length-append}
 use Rattle.basis.specs.Laws.Bools.{by-test}
 use Rattle.plan.specs.Plan.{move}
@@ -12,7 +13,6 @@ use Rattle.plan.specs.declared.Plan.{Plan}
 use Rattle.automaton.specs.Next.{nextOf}
 use Rattle.automaton.specs.Rules.{MeetsAutomaton}
 use Rattle.automaton.specs.declared.Next.{Next}
-use Rattle.automaton.specs.Laws.Following.{next-leaves}
 use Rattle.automaton.specs.Laws.Cases.{waits-goes, ended-goes}
 use Rattle.times_combined.specs.Paths.{Lawful}
 use Rattle.times.specs.Times.{at}
@@ -30,7 +30,7 @@ use Rattle.demands_theory.specs.Loading.{Silently, stays}
 use Rattle.demands_run.specs.Laws.Silent.{silent-first}
 pub use Rattle.demands_theory.specs.TheWord.{Rests}
 use Rattle.demands_theory.specs.Laws.Growth.{Tail, here, later, tail-on}
-use Rattle.demands_run.specs.Laws.Engine.{remaining, Settles, EngineLaws}
+use Rattle.demands_run.specs.Laws.Engine.{rest, left, remaining, Settles, EngineLaws}
 use Rattle.demands_run.specs.Laws.Stands.{next-after}
 use Rattle.demands_run.specs.Laws.Counts.{possible}
 use Rattle.demands_run.specs.Laws.Taken.{next-state}
@@ -54,18 +54,27 @@ pub tolds-new : (position : ℕ) (C : ℕ → ℕ) (ns : List ℕ) → tolds (ma
 tolds-new position C [] = refl
 tolds-new position C (n ∷ ns) = let u = tolds-new position C ns in omega arith
 
+-- what is processed is told no more
+rest-fewer : (q : List Instance) → tolds (rest q) ≤ tolds q
+rest-fewer [] = omega arith
+rest-fewer (x ∷ q) = omega arith
+
+pub left-fewer : (i : Input) (q : ℕ → List Instance) (e : ℕ) → tolds (left i q e) ≤ tolds (q e)
+left-fewer Input.Nothing q e = omega arith
+left-fewer (Input.Outcome f o) q e = by-test (λ (l : List Instance). tolds l ≤ tolds (q e)) (eqb f e) _ _ (λ b. rest-fewer (q e)) (λ b. omega arith)
+
 module _ (p : Plan) (lawful : Lawful p) (automaton : MeetsAutomaton p) (available : ℕ → ℕ) (log : Log) (base : List ℕ) (v : List Entry) (laws : EngineLaws) where
   abbrev In : List ℕ → Progress → List Entry → Type 0
   In us g w = Loaded p lawful automaton available log base v us g w
 
-  -- a path that is loaded after the word us into the window w; c: how many instances of each event are told
+  -- a path that is loaded after the word us into the window w; c: at most so many instances of each event are told
   pub record Arrives (us : List ℕ) (w : List Entry) (c : ℕ → ℕ) (q : Path) : Type 0 where
     pub word : List ℕ
     pub loaded : In word (q .progress) (placed w (q .entries))
     pub on : Tail us word
     pub silent : Silently p us word
     pub rests : Rests p word
-    pub told : (e : ℕ) → tolds (queueOf (q .progress) e) ≡ c e
+    pub told : (e : ℕ) → tolds (queueOf (q .progress) e) ≤ c e
 
   -- it fits, or fails
   abbrev pub Fits : List ℕ → List Entry → (ℕ → ℕ) → Path → Type 0
@@ -105,12 +114,15 @@ module _ (p : Plan) (lawful : Lawful p) (automaton : MeetsAutomaton p) (availabl
             on = r .on;
             silent = r .silent;
             rests = r .rests;
-            told = λ e. r .told e ∙ told-on us g w h t next b e;
+            told = λ e. (let x = r .told e in let y = told-on us g w h t next b e in omega arith);
           }
 
   -- the word goes on from the one before the transition
   sooner : (us : List ℕ) (t : ℕ) → nextAfter p us ≡ Next.Goes t → (w : List Entry) (c : ℕ → ℕ) (q : Path) → Arrives (t ∷ us) w c q → Arrives us w c q
   sooner us t e w c q r = record { word = r .word; loaded = r .loaded; on = tail-on us (t ∷ us) (r .word) (later here) (r .on); silent = silent-first p us t e (r .word) (r .silent); rests = r .rests; told = r .told }
+
+  weaken : (us : List ℕ) (w : List Entry) (c d : ℕ → ℕ) (q : Path) → ((e : ℕ) → c e ≤ d e) → Arrives us w c q → Arrives us w d q
+  weaken us w c d q l r = record { word = r .word; loaded = r .loaded; on = r .on; silent = r .silent; rests = r .rests; told = λ e. (let x = r .told e in let y = l e in omega arith) }
 
   -- a path that is at its end
   stops : (us : List ℕ) (g : Progress) (w : List Entry) → In us g w → ((t : ℕ) → nextOf (p .automaton) (g .state) ≡ Next.Goes t → ⊥) → Fits us w (λ e. tolds (queueOf g e)) (ends g)
@@ -120,10 +132,10 @@ module _ (p : Plan) (lawful : Lawful p) (automaton : MeetsAutomaton p) (availabl
     on = here;
     silent = stays;
     rests = λ t e. n t (ap (nextOf (p .automaton)) (h .stands .place) ∙ e);
-    told = λ e. refl;
+    told = λ e. omega arith;
   }
 
-  -- from a state on, by transitions that process nothing
+  -- from a state on, by transitions that await nothing
   pub path-on : (k : ℕ) (us : List ℕ) (g : Progress) (w : List Entry) → In us g w → Settles (p .automaton) k (g .state) → Fits us w (λ e. tolds (queueOf g e)) (pathFrom p k (nextOf (p .automaton) (g .state)) g)
   unfolding pathFrom
   path-on zero us g w h settles = stops us g w h settles
@@ -137,5 +149,5 @@ module _ (p : Plan) (lawful : Lawful p) (automaton : MeetsAutomaton p) (availabl
       go Next.Ended e more = stops us g w h (λ t z. ended-goes (sym e ∙ z))
       go (Next.Waits x) e more = stops us g w h (λ t z. waits-goes (sym e ∙ z))
       go (Next.Goes t) e more =
-          subst (λ (i : Input). Fits us w (λ e. tolds (remaining i g e)) (pathFrom p (suc k) (Next.Goes t) g)) (next-leaves (p .automaton) (g .state) t e .1) λ b room.
-          sooner us t (next-after (h .stands) e) w _ _ (first-of k us g w h t (goes (h .stands .taken) (next-after (h .stands) e)) (more t e) b room)
+          λ b room. weaken us w _ _ _ (λ x. left-fewer (move (p .automaton) t .input) (queueOf g) x)
+          (sooner us t (next-after (h .stands) e) w _ _ (first-of k us g w h t (goes (h .stands .taken) (next-after (h .stands) e)) (more t e) b room))

@@ -1,4 +1,4 @@
--- Transitions that process nothing: there is one way to go on by them, up to a waiting or final state.
+-- Transitions that await nothing: there is one way to go on by them, up to a waiting or final state.
 use mathlib.Core.Path.{_≡_, refl, sym, _∙_, subst}
 use mathlib.Core.List.{List, _∷_}
 use mathlib.Core.Logic.{_⊎_, inl, inr}

@@ -9,6 +9,7 @@ use lib.ListN.{length, getD}
 use Rattle.basis.specs.Lists.{Among}
 use Rattle.time.specs.Time.{horizon}
 use Rattle.time.specs.declared.Clock.{Clock}
+use Rattle.plan.specs.Plan.{outcomesOf}
 use Rattle.plan.specs.declared.Plan.{Plan}
 use Rattle.automaton.specs.Next.{nextOf}
 use Rattle.automaton.specs.Rules.{MeetsAutomaton}
@@ -51,12 +52,13 @@ abbrev pub ToldAs : Log → Id → Told → Type 0
 ToldAs log x Told.Nothing = (o : ℕ) → Log.Told log x o → ⊥
 ToldAs log x (Told.Outcome o) = Log.Told log x o
 
--- the queue of e holds its instances from number n + 1 on, in order, each with what the log tells of it
-pub record Queued (G : Graph) (log : Log) (e n : ℕ) (q : List Instance) : Type 0 where
+-- the queue of e, which has m outcomes, holds its instances from number n + 1 on, in order, each with what the log tells of it; the
+-- report of a marker "is not queued"
+pub record Queued (G : Graph) (log : Log) (m e n : ℕ) (q : List Instance) : Type 0 where
   pub past : List Ident
   pub count : length past ≡ n
   pub listing : Listing G e (past ++ map identOf q)
-  pub told : (x : Instance) → Among x q → ToldAs log (idOf x) (x .told)
+  pub told : (x : Instance) → Among x q → 1 < m → ToldAs log (idOf x) (x .told)
 
 -- ---- where the engine stands
 
@@ -64,7 +66,7 @@ pub record Stands (p : Plan) (available : ℕ → ℕ) (log : Log) (is : List �
   pub trace : Trace
   pub runs : Runs (p .resources) available trace (wordOf p is)
   pub state : trace .state (size (wordOf p is)) ≡ seen g
-  pub queues : (e : ℕ) → Queued (wholeOf p is) log e (times e (wordOf p is)) (queueOf g e)
+  pub queues : (e : ℕ) → Queued (wholeOf p is) log (outcomesOf p e) e (times e (wordOf p is)) (queueOf g e)
   pub place : g .state ≡ stateAfter p is
   pub position : g .position ≡ lengthOf is
   pub sized : Whole g

@@ -17,18 +17,18 @@ sum-at-most (suc k) b c h =
     let m = mul-suc b k in
     omega arith
 
-pub sum-same : (k : ℕ) (c d : ℕ → ℕ) → ((e : ℕ) → e < k → d e ≡ c e) → sum k d ≡ sum k c
-sum-same zero c d h = omega arith
-sum-same (suc k) c d h = let u = sum-same k c d (λ e l. h e (omega arith)) in let v = h k (omega arith) in omega arith
+pub sum-less : (k : ℕ) (c d : ℕ → ℕ) → ((e : ℕ) → e < k → d e ≤ c e) → sum k d ≤ sum k c
+sum-less zero c d h = omega arith
+sum-less (suc k) c d h = let u = sum-less k c d (λ e l. h e (omega arith)) in let v = h k (omega arith) in omega arith
 
-pub sum-falls : (k f : ℕ) (c d : ℕ → ℕ) → f < k → ((e : ℕ) → (e ≡ f → ⊥) → d e ≡ c e) → d f + 1 ≡ c f → sum k d + 1 ≡ sum k c
+pub sum-falls : (k f : ℕ) (c d : ℕ → ℕ) → f < k → ((e : ℕ) → (e ≡ f → ⊥) → d e ≤ c e) → d f + 1 ≤ c f → sum k d + 1 ≤ sum k c
 sum-falls zero f c d l h one = absurd (omega arith)
 sum-falls (suc k) f c d l h one = go (ℕ-discrete f k) (λ m. sum-falls k f c d m h one)
   where
-    go : Dec (f ≡ k) → (f < k → sum k d + 1 ≡ sum k c) → sum k d + d k + 1 ≡ sum k c + c k
+    go : Dec (f ≡ k) → (f < k → sum k d + 1 ≤ sum k c) → sum k d + d k + 1 ≤ sum k c + c k
     go (yes e) less =
-        let u = sum-same k c d (λ x m. h x (λ z. omega arith)) in
-        let v : d k + 1 ≡ c k = subst (λ (n : ℕ). d n + 1 ≡ c n) e one in
+        let u = sum-less k c d (λ x m. h x (λ z. omega arith)) in
+        let v : d k + 1 ≤ c k = subst (λ (n : ℕ). d n + 1 ≤ c n) e one in
         omega arith
     go (no n) less = let u = less (omega arith) in let v = h k (λ z. n (sym z)) in omega arith
 

@@ -11,7 +11,7 @@ use lib.Dec.{eqb}
 use lib.ListN.{length, length-append}
 use Rattle.basis.specs.Lists.{Among}
 use Rattle.basis.specs.Laws.Lists.{among-either, map-among}
-use Rattle.plan.specs.Plan.{move, resourceOf}
+use Rattle.plan.specs.Plan.{move, outcomesOf, resourceOf}
 use Rattle.plan.specs.declared.Input.{Input}
 use Rattle.plan.specs.declared.Plan.{Plan}
 use Rattle.times_combined.specs.Word.{Step, Word, size, once, times, _▷_}
@@ -60,13 +60,13 @@ rest-among : (x : Instance) (q : List Instance) → Among x (rest q) → Among x
 rest-among x (y ∷ q) h = inr h
 
 -- the oldest is taken
-pub popped : (G : Graph) (log : Log) (e n : ℕ) (q : List Instance) → 0 < length q → Queued G log e n q → Queued G log e (n + 1) (rest q)
-popped G log e n [] l h = absurd (omega arith)
-popped G log e n (x ∷ q) l h = record {
+pub popped : (G : Graph) (log : Log) (m e n : ℕ) (q : List Instance) → 0 < length q → Queued G log m e n q → Queued G log m e (n + 1) (rest q)
+popped G log m e n [] l h = absurd (omega arith)
+popped G log m e n (x ∷ q) l h = record {
   past = h .past ++ (identOf x ∷ []);
   count = (let u = length-append (h .past) (identOf x ∷ []) in let v = h .count in omega arith);
   listing = subst (Listing G e) (sym (append-assoc (h .past) (identOf x ∷ []) (map identOf q))) (h .listing);
-  told = λ y m. h .told y (inr m);
+  told = λ y k. h .told y (inr k);
 }
 
 -- new instances: nothing is told of them yet
@@ -88,22 +88,22 @@ module _ (p : Plan) (lawful : Lawful p) (available : ℕ → ℕ) (log : Log) (i
   good : GoodWord (p .resources) (resourceOf p) (w ▷ x)
   good = good-path p lawful (p .automaton .initial) (t ∷ is) (stateAfter p (t ∷ is)) follows
 
-  processes : (i : Input) → Pending i g → (e : ℕ) → Queued (wholeOf p is) log e (times e w + once e i) (remaining i g e)
+  processes : (i : Input) → Pending i g → (e : ℕ) → Queued (wholeOf p is) log (outcomesOf p e) e (times e w + once e i) (remaining i g e)
   processes Input.Nothing h e = rw add-zero (s .queues e)
   processes (Input.Outcome f o) h e = go (eqb f e) refl
     where
-      go : (b : Bool) → eqb f e ≡ b → Queued (wholeOf p is) log e (times e w + cond b 1 0) (cond b (rest (queueOf g e)) (queueOf g e))
+      go : (b : Bool) → eqb f e ≡ b → Queued (wholeOf p is) log (outcomesOf p e) e (times e w + cond b 1 0) (cond b (rest (queueOf g e)) (queueOf g e))
       go true q =
           let z : f ≡ e = eqb-true f e q in
           let h1 : 0 < pendingOf g e = subst (λ (n : ℕ). 0 < pendingOf g n) z h in
           let m = long e in
-          popped (wholeOf p is) log e (times e w) (queueOf g e) (omega arith) (s .queues e)
+          popped (wholeOf p is) log (outcomesOf p e) e (times e w) (queueOf g e) (omega arith) (s .queues e)
       go false q = rw add-zero (s .queues e)
 
   pub here : size w ≡ g .position
   here = size-is p is ∙ sym (s .position)
 
-  joined : (e n : ℕ) (q : List Instance) → Queued (wholeOf p is) log e n q → Queued (wholeOf p (t ∷ is)) log e n (q ++ map (λ m. emission (g .position) m (at (takenBy p t g .schedule .end) m)) (adv .emitted e))
+  joined : (e n : ℕ) (q : List Instance) → Queued (wholeOf p is) log (outcomesOf p e) e n q → Queued (wholeOf p (t ∷ is)) log (outcomesOf p e) e n (q ++ map (λ m. emission (g .position) m (at (takenBy p t g .schedule .end) m)) (adv .emitted e))
   joined e n q h = record {
     past = h .past;
     count = h .count;
@@ -111,7 +111,7 @@ module _ (p : Plan) (lawful : Lawful p) (available : ℕ → ℕ) (log : Log) (i
         subst (Listing (combined (p .resources) (w ▷ x)) e) same
         (listing-grows (p .resources) (resourceOf p) (combined (p .resources) w) (processing w (x .input)) (size w) (x .output) (shape-of (p .resources) (resourceOf p) w (good .0)) (good .1)
         e (h .past ++ map identOf q) (h .listing) (adv .emitted e) (adv .steps .emits e));
-    told = λ y m. ⊎-elim (λ k. h .told y k) (λ k. untold y (map-among (λ m. emission (g .position) m (at (takenBy p t g .schedule .end) m)) y (adv .emitted e) k)) (among-either y q _ m);
+    told = λ y m. ⊎-elim (λ k. h .told y k) (λ k several. untold y (map-among (λ m. emission (g .position) m (at (takenBy p t g .schedule .end) m)) y (adv .emitted e) k)) (among-either y q _ m);
   }
     where
       untold : (y : Instance) → (m : ℕ) × Among m (adv .emitted e) × (y ≡ emission (g .position) m (at (takenBy p t g .schedule .end) m)) → ToldAs log (idOf y) (y .told)
@@ -149,7 +149,7 @@ module _ (p : Plan) (lawful : Lawful p) (available : ℕ → ℕ) (log : Log) (i
       trace = trace;
       runs = runs-on;
       state = state-on;
-      queues = λ e. subst (Queued (wholeOf p (t ∷ is)) log e (times e w + once e (x .input))) (sym (adv .queues e)) (joined e _ _ (processes (move (p .automaton) t .input) ready e));
+      queues = λ e. subst (Queued (wholeOf p (t ∷ is)) log (outcomesOf p e) e (times e w + once e (x .input))) (sym (adv .queues e)) (joined e _ _ (processes (move (p .automaton) t .input) ready e));
       place = next-state p t g;
       position = next-position p t g ∙ ap (λ (n : ℕ). n + 1) (s .position);
       sized = adv .sized;

@@ -36,6 +36,7 @@ use Rattle.demands_theory.specs.TheWord.{stateAfter, wholeOf, TheWord}
 use Rattle.demands_theory.specs.Laws.Invariant.{Invariant}
 use Rattle.times_combined.specs.Combined.{Ident}
 use Rattle.times_combined.specs.Times.{Timing}
+use Rattle.automaton.specs.Rules.{MeetsAutomaton}
 use Rattle.times_combined.specs.Paths.{Lawful}
 use Rattle.format.specs.Writing.{Bytes}
 use Rattle.demands_run.specs.Laws.Stands.{Good}
@@ -61,6 +62,9 @@ module _ (bytes : List ℕ) (are : Bytes bytes) (psi : Clock) (slack : ℕ) (ts 
 
   pub lawful : Lawful plan
   lawful = well .given .lawful
+
+  pub automaton : MeetsAutomaton plan
+  automaton = well .given .automaton
 
   -- what is loaded after the calls
   after : (v : List ℕ) × Good plan psi slack available (driven .log) v (driven .run) × Invariant (worldOf plan available) machine (psi .0) slack v (driven .log) (driven .run)

@@ -26,7 +26,7 @@ use Rattle.run_limits.specs.Window.{entryInLimits}
 use Rattle.run_checks.specs.Order.{timelyBy}
 use Rattle.run.specs.Limits.{runInLimits, haltInLimits}
 use Rattle.run_outcomes.specs.Told.{toldOf}
-use Rattle.run.specs.Calls.{answer, heard, cleared, kindOf, isDone, learnt, reported, completedBy, learnsBy, asked, completed, learns, timely, called, askOf, completionOf, outcomeOf, callOf}
+use Rattle.run.specs.Calls.{answer, heard, cleared, kindOf, isDone, learnt, reported, completedBy, isMarker, learnsBy, asked, completed, learns, timely, called, askOf, completionOf, outcomeOf, callOf}
 use Rattle.run.specs.Calls as Calls
 use Rattle.run.specs.declared.Run.{Run}
 use Rattle.run_checks.specs.declared.Halt.{Halt}
@@ -101,6 +101,11 @@ module _ (p : Plan) (psi : Clock) (slack : ℕ) (given : Accepted p psi slack) (
     abbrev pub Learning : Type 0
     Learning = (t : Clock) (i : ℕ) (e : Entry) (ev o : ℕ) → halt ≡ Halt.Going → Calm t → Holds w i e → isStarted (e .phase) ≡ true → kindOf run e ≡ Kind.Event ev → ltb o (outcomesOf p ev) ≡ true
         → Goes (Call.Outcome t (e .position) (e .node) o) (learnt (cleared run t i (toldOf g ev e o)))
+
+    -- and of a marker
+    abbrev pub Marking : Type 0
+    Marking = (t : Clock) (i : ℕ) (e : Entry) (ev o : ℕ) → halt ≡ Halt.Going → Calm t → Holds w i e → isStarted (e .phase) ≡ true → kindOf run e ≡ Kind.Event ev → ltb o (outcomesOf p ev) ≡ true → isMarker p ev ≡ true
+        → Goes (Call.Outcome t (e .position) (e .node) o) (answer Reply.Taken (cleared run t i g))
 
     -- nothing is told, and the word stays
     stays-good : (c : Call) (r : Reply) → (Accepts r log → ⊥) ⊎ ((x : Id) (o : ℕ) → Tells c r log x o → ⊥) → (v : List Entry) (t : Clock) (h : Halt) → Entries v → length v ≡ 512 → haltInLimits h ≡ true
@@ -257,9 +262,9 @@ module _ (p : Plan) (psi : Clock) (slack : ℕ) (given : Accepted p psi slack) (
         by i e held s (Kind.Release r) = refuse (Call.Completion t (e .position) (e .node)) Refusal.OtherKind h other-kind
         by i e held s (Kind.Event v) = refuse (Call.Completion t (e .position) (e .node)) Refusal.OtherKind h other-kind
 
-    outcome-way : Learning → (t : Clock) (position node o : ℕ) → halt ≡ Halt.Going → Calm t → Goes (Call.Outcome t position node o) (learns run t position node o)
+    outcome-way : Learning → Marking → (t : Clock) (position node o : ℕ) → halt ≡ Halt.Going → Calm t → Goes (Call.Outcome t position node o) (learns run t position node o)
     unfolding learns
-    outcome-way learning t position node o h k = report-way (λ m n. Call.Outcome t m n o) position node _ h (λ i e held s. by i e held s (kindOf run e) refl)
+    outcome-way learning marking t position node o h k = report-way (λ m n. Call.Outcome t m n o) position node _ h (λ i e held s. by i e held s (kindOf run e) refl)
       where
         by : (i : ℕ) (e : Entry) → Holds w i e → isStarted (e .phase) ≡ true → (x : Kind) → kindOf run e ≡ x → Goes (Call.Outcome t (e .position) (e .node) o) (learnsBy run t i e o x)
         by i e held s (Kind.Action a x) q = refuse (Call.Outcome t (e .position) (e .node) o) Refusal.OtherKind h other-kind
@@ -267,7 +272,8 @@ module _ (p : Plan) (psi : Clock) (slack : ℕ) (given : Accepted p psi slack) (
         by i e held s (Kind.Release r) q = refuse (Call.Outcome t (e .position) (e .node) o) Refusal.OtherKind h other-kind
         by i e held s (Kind.Event v) q =
             by-test (Goes (Call.Outcome t (e .position) (e .node) o)) (ltb o (outcomesOf p v)) _ _
-            (λ b. learning t i e v o h k held s q b) (λ b. refuse (Call.Outcome t (e .position) (e .node) o) Refusal.OutcomeLacking h lacking)
+            (λ b. by-test (Goes (Call.Outcome t (e .position) (e .node) o)) (isMarker p v) _ _ (λ m. marking t i e v o h k held s q b m) (λ m. learning t i e v o h k held s q b))
+            (λ b. refuse (Call.Outcome t (e .position) (e .node) o) Refusal.OutcomeLacking h lacking)
 
     -- ---- any call
 
@@ -279,8 +285,8 @@ module _ (p : Plan) (psi : Clock) (slack : ℕ) (given : Accepted p psi slack) (
         (λ e. timely-way c t rd e go (k e)))
         (λ b. absurd (true≢false (sym (run-passes p psi slack given g w last halt (good .stands .within) (good .entries) (good .halt)) ∙ b)))
 
-    pub call-way : Learning → Invariant (worldOf p available) machine (psi .0) slack is log run → (c : Call) → Goes c (callOf run c)
+    pub call-way : Learning → Marking → Invariant (worldOf p available) machine (psi .0) slack is log run → (c : Call) → Goes c (callOf run c)
     unfolding callOf askOf completionOf outcomeOf
-    call-way learning v (Call.Ask t) = called-way v (Call.Ask t) t refl _ (ask-way t)
-    call-way learning v (Call.Completion t m n) = called-way v (Call.Completion t m n) t refl _ (completion-way t m n)
-    call-way learning v (Call.Outcome t m n o) = called-way v (Call.Outcome t m n o) t refl _ (outcome-way learning t m n o)
+    call-way learning marking v (Call.Ask t) = called-way v (Call.Ask t) t refl _ (ask-way t)
+    call-way learning marking v (Call.Completion t m n) = called-way v (Call.Completion t m n) t refl _ (completion-way t m n)
+    call-way learning marking v (Call.Outcome t m n o) = called-way v (Call.Outcome t m n o) t refl _ (outcome-way learning marking t m n o)

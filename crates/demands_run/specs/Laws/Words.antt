@@ -20,7 +20,8 @@ use Rattle.automaton.specs.Next.{chosenOf}
 use Rattle.automaton.specs.Rules.{MeetsAutomaton}
 use Rattle.automaton.specs.declared.Next.{Next}
 use Rattle.automaton.specs.declared.Chosen.{Chosen}
-use Rattle.automaton.specs.Laws.Following.{next-leaves, chosen-leaves, awaited-below}
+use Rattle.automaton.specs.Laws.Following.{chosen-leaves, awaited-below}
+use Rattle.automaton.specs.Laws.Later.{waits-several}
 use Rattle.automaton.specs.Laws.Cases.{ended-goes, waits-goes}
 use Rattle.times_combined.specs.Word.{size, once, times}
 use Rattle.times_combined.specs.Combined.{Ident, named, Instance, processing}
@@ -42,16 +43,12 @@ use Rattle.demands_theory.specs.Nodes.{whose, lengthOf}
 use Rattle.demands_theory.specs.TheWord.{stateAfter, nextAfter, wholeOf, Oldest, Takes, goes, hears, Stuck, ended, waits, TheWord}
 use Rattle.demands_theory.specs.Laws.TheWord.{takes-follows}
 use Rattle.demands_theory.specs.Laws.Nodes.{whose-same}
-use Rattle.demands_run.specs.Laws.Engine.{rest, Settles, EngineLaws}
+use Rattle.demands_run.specs.Laws.Engine.{rest, left, Settles, EngineLaws}
 use Rattle.demands_run.specs.Laws.Stands.{identOf, idOf, ToldAs, Queued, Stands}
 use Rattle.demands_run.specs.Laws.Taken.{size-is, popped, emissions-are}
-use Rattle.demands_run.specs.Laws.Paths.{isTold, tolds, tolds-append, tolds-new, Rests}
-use Rattle.demands_run.specs.Laws.Sums.{sum, sum-same, sum-falls}
-
--- the instances of each event, less the one that is processed
-abbrev left : Input → (ℕ → List Pending) → ℕ → List Pending
-left Input.Nothing q e = q e
-left (Input.Outcome f o) q e = cond (eqb f e) (rest (q e)) (q e)
+use Rattle.demands_run.specs.Laws.Paths.{isTold, tolds, tolds-append, tolds-new, left-fewer, Rests}
+use Rattle.demands_run.specs.Laws.Counts.{queued-length}
+use Rattle.demands_run.specs.Laws.Sums.{sum, sum-less, sum-falls}
 
 -- what is processed is there
 abbrev Ready : Input → (ℕ → List Pending) → Type 0
@@ -73,13 +70,22 @@ module _ (p : Plan) (lawful : Lawful p) (automaton : MeetsAutomaton p) (log : Lo
   -- the unprocessed instances of each event after a word that the log takes, oldest first, with what the log tells of them
   record Pends (us : List ℕ) (q : ℕ → List Pending) : Type 0 where
     taken : Takes p log us
-    queues : (e : ℕ) → Queued (wholeOf p us) log e (times e (wordOf p us)) (q e)
+    queues : (e : ℕ) → Queued (wholeOf p us) log (outcomesOf p e) e (times e (wordOf p us)) (q e)
     names : (e : ℕ) → e < p .events → (x : Pending) → Among x (q e) → ToldNames (outcomesOf p e) (x .told)
     known : (x : Id) (o : ℕ) → Log.Told log x o → x .position < lengthOf us
 
-  low-state : (us : List ℕ) → Takes p log us → stateAfter p us < p .automaton .states
+  pub low-state : (us : List ℕ) → Takes p log us → stateAfter p us < p .automaton .states
   low-state [] h = lawful .file .limits .initial
   low-state (t ∷ us) h = lawful .file .limits .moves t (takes-follows p log (t ∷ us) h .1 .0) .to
+
+  -- what a transition that the log takes processes is there
+  ready-for : (us : List ℕ) (q : ℕ → List Pending) → Pends us q → (t : ℕ) → Takes p log (t ∷ us) → (i : Input) → move (p .automaton) t .input ≡ i → Ready i q
+  ready-for us q h t next Input.Nothing input = tt
+  ready-for us q h t next (Input.Outcome e o) input =
+      let f = takes-follows p log (t ∷ us) next in
+      let u = lawful .automaton us t e o (f .0) (f .1 .0) input in
+      let v = queued-length p lawful log us (h .taken) (outcomesOf p e) e (q e) (h .queues e) in
+      omega arith
 
   -- ---- one transition more
 
@@ -93,15 +99,15 @@ module _ (p : Plan) (lawful : Lawful p) (automaton : MeetsAutomaton p) (log : Lo
     abbrev new : ℕ → List Pending
     new e = map (λ n. emission (lengthOf us) n 0) (emitted e)
 
-    processes : (j : Input) → Ready j q → (e : ℕ) → Queued (wholeOf p us) log e (times e (wordOf p us) + once e j) (left j q e)
+    processes : (j : Input) → Ready j q → (e : ℕ) → Queued (wholeOf p us) log (outcomesOf p e) e (times e (wordOf p us) + once e j) (left j q e)
     processes Input.Nothing r e = rw add-zero (h .queues e)
     processes (Input.Outcome f o) r e = go (eqb f e) refl
       where
-        go : (b : Bool) → eqb f e ≡ b → Queued (wholeOf p us) log e (times e (wordOf p us) + cond b 1 0) (cond b (rest (q e)) (q e))
-        go true z = popped (wholeOf p us) log e (times e (wordOf p us)) (q e) (subst (λ (n : ℕ). 0 < length (q n)) (eqb-true f e z) r) (h .queues e)
+        go : (b : Bool) → eqb f e ≡ b → Queued (wholeOf p us) log (outcomesOf p e) e (times e (wordOf p us) + cond b 1 0) (cond b (rest (q e)) (q e))
+        go true z = popped (wholeOf p us) log (outcomesOf p e) e (times e (wordOf p us)) (q e) (subst (λ (n : ℕ). 0 < length (q n)) (eqb-true f e z) r) (h .queues e)
         go false z = rw add-zero (h .queues e)
 
-    joined : (e n : ℕ) (l : List Pending) → Queued (wholeOf p us) log e n l → Queued (wholeOf p (t ∷ us)) log e n (l ++ new e)
+    joined : (e n : ℕ) (l : List Pending) → Queued (wholeOf p us) log (outcomesOf p e) e n l → Queued (wholeOf p (t ∷ us)) log (outcomesOf p e) e n (l ++ new e)
     joined e n l k = record {
       past = k .past;
       count = k .count;
@@ -109,7 +115,7 @@ module _ (p : Plan) (lawful : Lawful p) (automaton : MeetsAutomaton p) (log : Lo
           subst (Listing (wholeOf p (t ∷ us)) e) same
           (listing-grows (p .resources) (resourceOf p) (wholeOf p us) (processing (wordOf p us) (move (p .automaton) t .input)) (size (wordOf p us)) (emittedBy p (move (p .automaton) t .output)) (shape-of (p .resources) (resourceOf p) (wordOf p us) (good .0)) (good .1)
           e (k .past ++ map identOf l) (k .listing) (emitted e) (emits (p .resources) (resourceOf p) (emittedBy p (move (p .automaton) t .output)) (good .1) e));
-      told = λ y m. ⊎-elim (λ z. k .told y z) (λ z. untold y (map-among (λ n. emission (lengthOf us) n 0) y (emitted e) z)) (among-either y l (new e) m);
+      told = λ y m. ⊎-elim (λ z. k .told y z) (λ z several. untold y (map-among (λ n. emission (lengthOf us) n 0) y (emitted e) z)) (among-either y l (new e) m);
     }
       where
         untold : (y : Pending) → (m : ℕ) × Among m (emitted e) × (y ≡ emission (lengthOf us) m 0) → ToldAs log (idOf y) (y .told)
@@ -125,7 +131,7 @@ module _ (p : Plan) (lawful : Lawful p) (automaton : MeetsAutomaton p) (log : Lo
     pends-on : Pends (t ∷ us) (λ e. left i q e ++ new e)
     pends-on = record {
       taken = next;
-      queues = λ e. joined e _ (left i q e) (subst (λ (j : Input). Queued (wholeOf p us) log e (times e (wordOf p us) + once e j) (left i q e)) (sym input) (processes i ready e));
+      queues = λ e. joined e _ (left i q e) (subst (λ (j : Input). Queued (wholeOf p us) log (outcomesOf p e) e (times e (wordOf p us) + once e j) (left i q e)) (sym input) (processes i ready e));
       names = λ e low x m. ⊎-elim (λ z. h .names e low x (left-among i q e x z)) (λ z. named-new e x (map-among (λ n. emission (lengthOf us) n 0) x (emitted e) z)) (among-either x (left i q e) (new e) m);
       known = λ x o z. let u = h .known x o z in omega arith;
     }
@@ -144,19 +150,21 @@ module _ (p : Plan) (lawful : Lawful p) (automaton : MeetsAutomaton p) (log : Lo
       queue : ℕ → List Pending
       pends : Pends word queue
       rests : Rests p word
-      told : (e : ℕ) → tolds (queue e) ≡ tolds (q e)
+      told : (e : ℕ) → tolds (queue e) ≤ tolds (q e)
 
     settle : (k : ℕ) (us : List ℕ) (q : ℕ → List Pending) → Pends us q → Settles (p .automaton) k (stateAfter p us) → Settled q
-    settle zero us q h s = record { word = us; queue = q; pends = h; rests = s; told = λ e. refl }
+    settle zero us q h s = record { word = us; queue = q; pends = h; rests = s; told = λ e. omega arith }
     settle (suc k) us q h s = go (nextAfter p us) refl (λ t e m i. settle k (t ∷ us) m i (s t e))
       where
         go : (n : Next) → nextAfter p us ≡ n → ((t : ℕ) → nextAfter p us ≡ Next.Goes t → (m : ℕ → List Pending) → Pends (t ∷ us) m → Settled m) → Settled q
-        go Next.Ended e more = record { word = us; queue = q; pends = h; rests = λ t z. ended-goes (sym e ∙ z); told = λ e. refl }
-        go (Next.Waits x) e more = record { word = us; queue = q; pends = h; rests = λ t z. waits-goes (sym e ∙ z); told = λ e. refl }
+        go Next.Ended e more = record { word = us; queue = q; pends = h; rests = λ t z. ended-goes (sym e ∙ z); told = λ e. omega arith }
+        go (Next.Waits x) e more = record { word = us; queue = q; pends = h; rests = λ t z. waits-goes (sym e ∙ z); told = λ e. omega arith }
         go (Next.Goes t) e more =
-            let f = next-leaves (p .automaton) (stateAfter p us) t e .1 in
-            let r = more t e _ (pends-on us q h t (goes (h .taken) e) Input.Nothing f tt) in
-            record { word = r .word; queue = r .queue; pends = r .pends; rests = r .rests; told = λ x. r .told x ∙ tolds-on us q h t (goes (h .taken) e) Input.Nothing f tt x }
+            let i = move (p .automaton) t .input in
+            let next = goes (h .taken) e in
+            let there = ready-for us q h t next i refl in
+            let r = more t e _ (pends-on us q h t next i refl there) in
+            record { word = r .word; queue = r .queue; pends = r .pends; rests = r .rests; told = λ x. (let a = r .told x in let b = tolds-on us q h t next i refl there x in let c = left-fewer i q x in omega arith) }
 
     -- ---- at a waiting state
 
@@ -167,9 +175,12 @@ module _ (p : Plan) (lawful : Lawful p) (automaton : MeetsAutomaton p) (log : Lo
       transition : ℕ
       queue : ℕ → List Pending
       pends : Pends (transition ∷ us) queue
-      fewer : count queue + 1 ≡ count q
+      fewer : count queue + 1 ≤ count q
 
     module _ (us : List ℕ) (q : ℕ → List Pending) (h : Pends us q) (e : ℕ) (w : nextAfter p us ≡ Next.Waits e) where
+      two : 1 < outcomesOf p e
+      two = waits-several p (lawful .file .limits) automaton (stateAfter p us) e (low-state us (h .taken)) w
+
       -- nothing is pending
       none : q e ≡ [] → (x : Id) → Oldest p us e x → ⊥
       none z x old =
@@ -184,8 +195,8 @@ module _ (p : Plan) (lawful : Lawful p) (automaton : MeetsAutomaton p) (log : Lo
           omega arith
 
       module _ (y : Pending) (ys : List Pending) (z : q e ≡ y ∷ ys) where
-        head : Queued (wholeOf p us) log e (times e (wordOf p us)) (y ∷ ys)
-        head = subst (Queued (wholeOf p us) log e (times e (wordOf p us))) z (h .queues e)
+        head : Queued (wholeOf p us) log (outcomesOf p e) e (times e (wordOf p us)) (y ∷ ys)
+        head = subst (Queued (wholeOf p us) log (outcomesOf p e) e (times e (wordOf p us))) z (h .queues e)
 
         oldest : Oldest p us e (idOf y)
         oldest = subst (λ (n : ℕ). Instance (wholeOf p us) e (n + 1) (identOf y)) (head .count) (next-instance (wholeOf p us) e (head .past) (identOf y) (map identOf ys) (head .listing))
@@ -203,7 +214,7 @@ module _ (p : Plan) (lawful : Lawful p) (automaton : MeetsAutomaton p) (log : Lo
           pends = pends-on us q h (c .0) next (Input.Outcome e o) input ready;
           fewer =
               sum-falls (p .events) e (λ f. tolds (q f)) (λ f. tolds (left (Input.Outcome e o) q f ++ new us q h (c .0) next (Input.Outcome e o) input ready f)) (awaited-below p (lawful .file .limits) (stateAfter p us) e w)
-              (λ f n. tolds-on us q h (c .0) next (Input.Outcome e o) input ready f ∙ rw (ne-eqb e f (λ s. n (sym s))))
+              (λ f n. let u : tolds (left (Input.Outcome e o) q f ++ new us q h (c .0) next (Input.Outcome e o) input ready f) ≡ tolds (q f) = tolds-on us q h (c .0) next (Input.Outcome e o) input ready f ∙ rw (ne-eqb e f (λ s. n (sym s))) in omega arith)
               (let u : tolds (left (Input.Outcome e o) q e ++ new us q h (c .0) next (Input.Outcome e o) input ready e) ≡ tolds (rest (q e)) = tolds-on us q h (c .0) next (Input.Outcome e o) input ready e ∙ rw (eq-eqb e e refl) in
               let a : tolds (rest (q e)) ≡ tolds ys = ap (λ (m : List Pending). tolds (rest m)) z in
               let b : tolds (q e) ≡ isTold (y .told) + tolds ys = ap tolds z in
@@ -218,7 +229,7 @@ module _ (p : Plan) (lawful : Lawful p) (automaton : MeetsAutomaton p) (log : Lo
             c = laws .chosen p lawful automaton (stateAfter p us) e o (low-state us (h .taken)) w names
 
             next : Takes p log (c .0 ∷ us)
-            next = hears e o (idOf y) (h .taken) w oldest (subst (ToldAs log (idOf y)) told (head .told y (inl refl))) (c .1)
+            next = hears e o (idOf y) (h .taken) w oldest (subst (ToldAs log (idOf y)) told (head .told y (inl refl) two)) (c .1)
 
             input : move (p .automaton) (c .0) .input ≡ Input.Outcome e o
             input = chosen-leaves (p .automaton) (stateAfter p us) e o (c .0) (c .1) .1
@@ -227,7 +238,7 @@ module _ (p : Plan) (lawful : Lawful p) (automaton : MeetsAutomaton p) (log : Lo
             ready = let u = ap length z in omega arith
 
         by-head : (k : Told) → y .told ≡ k → Stuck p log us ⊎ Hears us q
-        by-head Told.Nothing told = inl (waits e w (λ x o old say. subst (ToldAs log (idOf y)) told (head .told y (inl refl)) o (subst (λ (a : Id). Log.Told log a o) (sym (only x old)) say)))
+        by-head Told.Nothing told = inl (waits e w (λ x o old say. subst (ToldAs log (idOf y)) told (head .told y (inl refl) two) o (subst (λ (a : Id). Log.Told log a o) (sym (only x old)) say)))
         by-head (Told.Outcome o) told = inr (on o told)
 
       hear : (l : List Pending) → q e ≡ l → Stuck p log us ⊎ Hears us q
@@ -252,7 +263,7 @@ module _ (p : Plan) (lawful : Lawful p) (automaton : MeetsAutomaton p) (log : Lo
     further (suc n) us q h rests few =
         further-on us q
         (λ r. let s = settled (r .transition ∷ us) (r .queue) (r .pends) in
-        further n (s .word) (s .queue) (s .pends) (s .rests) (let u = r .fewer in let v = sum-same (p .events) (λ e. tolds (r .queue e)) (λ e. tolds (s .queue e)) (λ e l. s .told e) in omega arith))
+        further n (s .word) (s .queue) (s .pends) (s .rests) (let u = r .fewer in let v = sum-less (p .events) (λ e. tolds (r .queue e)) (λ e. tolds (s .queue e)) (λ e l. s .told e) in omega arith))
         h rests
 
     pub there-is : (available : ℕ → ℕ) (us : List ℕ) (g : Progress) → Stands p available log us g → (is : List ℕ) × TheWord p log is

@@ -36,6 +36,7 @@ use Rattle.demands_run.specs.Laws.Stands.{Accepted, Good}
 use Rattle.demands_run.specs.Laws.Ways.{runOf, call-way}
 use Rattle.demands_run.specs.Laws.Many.{room}
 use Rattle.demands_run.specs.Laws.Learn.{learning, learning-says}
+use Rattle.demands_run.specs.Laws.Marked.{marking}
 use Rattle.demands_run.specs.Laws.Words.{there-is}
 
 module _ (laws : EngineLaws) (p : Plan) (psi : Clock) (slack : ℕ) (given : Accepted p psi slack) (available : ℕ → ℕ) where
@@ -64,7 +65,8 @@ module _ (laws : EngineLaws) (p : Plan) (psi : Clock) (slack : ℕ) (given : Acc
   ways log is run good v c =
       subst (Stays log is c) (same log is run good v)
       (call-way p psi slack given available log is (run .progress) (run .window) (run .last) (run .halt) (here log is run good v)
-      (learning laws p psi slack given available log is (run .progress) (run .window) (run .last) (run .halt) (here log is run good v) (v1 log is run good v)) (v1 log is run good v) c)
+      (learning laws p psi slack given available log is (run .progress) (run .window) (run .last) (run .halt) (here log is run good v) (v1 log is run good v))
+      (marking p psi slack given available log is (run .progress) (run .window) (run .last) (run .halt) (here log is run good v) (v1 log is run good v)) (v1 log is run good v) c)
 
   pub works : Works (worldOf p available) machine (psi .0) slack (Good p psi slack available)
   works = record {

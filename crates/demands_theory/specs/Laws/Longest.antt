@@ -22,7 +22,7 @@ use Rattle.demands_theory.specs.Laws.TheWord.{last, silent, step-same, t
 -- ---- no longer beginning fits
 
 module _ (p : Plan) (lawful : Lawful p) (log : Log) (unique : (x : Id) (o q : ℕ) → Told log x o → Told log x q → o ≡ q) (available : ℕ → ℕ) where
-  -- a word that rests goes on by the transitions that process nothing
+  -- a word that rests goes on by the transitions that await nothing
   silent-tail : (us vs ws : List ℕ) → Silently p us vs → Tail us ws → Rests p ws → Takes p log ws → Tail vs ws
   silent-tail us vs ws stays b r h = b
   silent-tail us vs ws (goes-on {vs = xs} {t} s e) b r h = go (tail-next xs ws (silent-tail us xs ws s b r h))

@@ -67,7 +67,7 @@ last p log is (hears e o x h n old told c) = (h, heard e o x n old told c)
 -- ---- the transitions taken are a path
 
 step-leaves : (p : Plan) (log : Log) (is : List ℕ) (t : ℕ) → Step p log is t → Leaves (p .automaton) (stateAfter p is) t
-step-leaves p log is t (silent e) = next-leaves (p .automaton) (stateAfter p is) t e .0
+step-leaves p log is t (silent e) = next-leaves (p .automaton) (stateAfter p is) t e
 step-leaves p log is t (heard e o x n old told c) = chosen-leaves (p .automaton) (stateAfter p is) e o t c .0
 
 pub takes-follows : (p : Plan) (log : Log) (is : List ℕ) → Takes p log is → Follows p (p .automaton .initial) is (stateAfter p is)

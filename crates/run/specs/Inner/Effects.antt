@@ -3,7 +3,7 @@ use mathlib.Core.Path.{_≡_}
 use mathlib.Core.Bool.{true, cond, _&&_}
 use mathlib.Core.List.{List}
 use Prim.Native.Nat.{ℕ, _<_}
-use lib.Dec.{ltb}
+use lib.Dec.{ltb, eqb}
 use lib.ListN.{getD, set}
 use Rattle.time.specs.declared.Clock.{Clock}
 use Rattle.plan.specs.Plan.{pastNode, outcomesOf, finalBit}
@@ -75,12 +75,16 @@ completesBy i (Kind.Claim r) = refusing Refusal.OtherKind
 completesBy i (Kind.Release r) = refusing Refusal.OtherKind
 completesBy i (Kind.Event e) = refusing Refusal.OtherKind
 
+-- an outcome that the event has; a marker's "report closes the node and is not queued"
+abbrev pub hearsAs : ℕ → Entry → ℕ → ℕ → ℕ → Effect
+hearsAs i x e o most = cond (eqb most 1) (Effect.Stores i vacant Reply.Taken) (Effect.Learns i x e o)
+
 -- 54 outcome of an action; 55 outcome the event lacks
 abbrev pub learnsAs : ℕ → Entry → ℕ → ℕ → Kind → Effect
 learnsAs i x o most (Kind.Action a y) = refusing Refusal.OtherKind
 learnsAs i x o most (Kind.Claim r) = refusing Refusal.OtherKind
 learnsAs i x o most (Kind.Release r) = refusing Refusal.OtherKind
-learnsAs i x o most (Kind.Event e) = cond (ltb o most) (Effect.Learns i x e o) (refusing Refusal.OutcomeLacking)
+learnsAs i x o most (Kind.Event e) = cond (ltb o most) (hearsAs i x e o most) (refusing Refusal.OutcomeLacking)
 
 -- the due node is started, or nothing is due
 abbrev pub startsBy : Found → Effect

@@ -5,18 +5,16 @@ use mathlib.Core.List.{List, [], _∷_, _++_}
 use Prim.Native.Nat.{ℕ, zero, suc, _+_, _-_, _*_, _≤_, _<_}
 use native.Mathlib.Omega.{arith}
 use lib.ListN.{length, replicate}
-use lib.Dec.{eqb}
 use Rattle.basis.specs.Laws.PartsHold.{length-part}
-use Rattle.plan.specs.Plan.{pastMove, pastNode, nodesOf, emittedBy, move, movesOf}
+use Rattle.plan.specs.Plan.{pastNode, nodesOf, emittedBy, move}
 use Rattle.plan.specs.Limits.{InLimits}
 use Rattle.plan.specs.declared.Node.{Node}
-use Rattle.plan.specs.declared.Input.{Input}
-use Rattle.plan.specs.declared.Transition.{Transition}
 use Rattle.plan.specs.declared.Activity.{Activity}
 use Rattle.plan.specs.declared.Automaton.{Automaton}
 use Rattle.plan.specs.declared.Plan.{Plan}
-use Rattle.automaton.specs.Next.{onInput, nextFrom, nextOf}
+use Rattle.automaton.specs.Next.{nextOf}
 use Rattle.automaton.specs.declared.Next.{Next}
+use Rattle.automaton.specs.Laws.Following.{next-leaves}
 use Rattle.times.specs.Engine.{advanceOf}
 use Rattle.times.specs.Laws.Kept.{kept}
 use Rattle.times.specs.declared.Progress.{Progress}
@@ -33,26 +31,12 @@ use Rattle.run_path.specs.Laws.Emitting.{emitted-nodes, emitted-fits, st
 -- ---- what a state does next is a transition of the plan
 
 pub next-leads : (a : Automaton) (s : ℕ) → Leads (a .count) (nextOf a s)
-unfolding nextFrom
-next-leads a s =
-    let z : 0 + length (movesOf a) ≡ a .count = let u = length-part pastMove (a .moves) 0 (a .count) in omega arith in
-    subst (λ (n : ℕ). Leads n (nextOf a s)) z (from (movesOf a) 0)
+next-leads a s = by (nextOf a s) refl
   where
-    by-input : (x : Input) (i n : ℕ) → i < n → Leads n (onInput x i)
-    by-input Input.Nothing i n h = h
-    by-input (Input.Outcome e o) i n h = tt
-
-    choose : (n : ℕ) (b : Bool) (x y : Next) → Leads n x → Leads n y → Leads n (cond b x y)
-    choose n true x y h k = h
-    choose n false x y h k = k
-
-    from : (ts : List Transition) (i : ℕ) → Leads (i + length ts) (nextFrom ts s i)
-    from [] i = tt
-    from (t ∷ ts) i =
-        let z : i + 1 + length ts ≡ i + suc (length ts) = omega arith in
-        choose (i + suc (length ts)) (eqb (t .from) s) (onInput (t .input) i) (nextFrom ts s (i + 1))
-        (by-input (t .input) i (i + suc (length ts)) (omega arith))
-        (subst (λ (n : ℕ). Leads n (nextFrom ts s (i + 1))) z (from ts (i + 1)))
+    by : (n : Next) → nextOf a s ≡ n → Leads (a .count) n
+    by Next.Ended e = tt
+    by (Next.Goes t) e = next-leaves a s t e .low
+    by (Next.Waits x) e = tt
 
 -- ---- one transition
 

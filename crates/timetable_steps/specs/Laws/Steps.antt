@@ -32,7 +32,7 @@ use Rattle.timetable_steps.specs.Inner.Steps.{Named, Below, chosenStep, 
 pub chosen-below : (a : Automaton) (s e o t : ℕ) → chosenOf a s e o ≡ Chosen.Move t → t < a .count
 chosen-below a s e o t q = chosen-leaves a s e o t q .0 .low
 
--- the transition that is taken without an event is one of the plan's
+-- the transition that is taken without an outcome is one of the plan's
 pub goes-below : (a : Automaton) (s t : ℕ) → nextOf a s ≡ Next.Goes t → t < a .count
 goes-below a s t q = subst (Leads (a .count)) q (next-leads a s)
 

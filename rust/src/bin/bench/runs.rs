@@ -3,6 +3,7 @@
 use crate::cases::{Case, Work};
 use crate::linked::{self, Driver};
 use jidlekuvo_reference::drive::{self, drive, RECORD};
+use jidlekuvo_reference::generate::markers::marked_path;
 use jidlekuvo_reference::generate::{plan_t, plans};
 use jidlekuvo_reference::plan_file::{encode, read, Kind, Plan};
 use jidlekuvo_reference::run::{Call, Opening, Reply, Request, Run};
@@ -100,6 +101,12 @@ fn outcome_that_loads(name: &str, sizes: &[usize]) -> Case {
     calling(name, &opening, &calls_in_time(&opening, 2), 1)
 }
 
+/// The same after which the path passes a marker between each two of its transitions.
+fn outcome_that_passes_markers(name: &str, sizes: &[usize]) -> Case {
+    let opening = opening_of(&marked_path(sizes, true));
+    calling(name, &opening, &calls_in_time(&opening, 2), 1)
+}
+
 fn full_opening() -> Opening {
     opening_of(&plans::wide_plan(511, 1))
 }
@@ -140,6 +147,10 @@ pub fn cases() -> Vec<Case> {
         driving("open plan T", &opening_of(&plan_t_read()), &[]),
         driving("open the largest accepted plan", &opening_of(&plans::largest_plan()), &[]),
         calling("an outcome that loads a path of 75 nodes", &loading, &calls_in_time(&loading, 2), 1),
+        outcome_that_passes_markers(
+            "an outcome that loads a path of 75 nodes through five markers",
+            &[13, 13, 13, 12, 12, 12],
+        ),
         outcome_that_loads("an outcome that loads a path of 62 nodes in one transition", &[62]),
         outcome_that_loads("an outcome that loads a path of 75 nodes in ten transitions", &tenths),
         outcome_over_full_window(),

@@ -1,9 +1,11 @@
 //! Runs that no opening made: runs that openings and calls produced, with stored values pushed to a
-//! limit or one past it, and two calls of each.
+//! limit or one past it, or with markers as no opening gives them, and two calls of each.
 
+mod of_markers;
 mod of_plans;
 mod of_runs;
 
+pub use of_markers::case as marker_case;
 pub use of_plans::OF_PLANS;
 pub use of_runs::OF_RUNS;
 
@@ -37,17 +39,15 @@ fn any<'a, T>(random: &mut Random, of: &'a mut [T]) -> Option<&'a mut T> {
 }
 
 /// A run after some calls of some host.
-fn run_of_a_host(random: &mut Random) -> Run {
-    let opening = opening(random);
+fn run_of_a_host(random: &mut Random, opening: &Opening) -> Run {
     let host = random.pick(&HOSTS);
-    let calls = hosts::calls(random, &opening, host, 16);
+    let calls = hosts::calls(random, opening, host, 16);
     let some = random.below(calls.len() + 1);
-    let (_, run) = Run::open(&opening);
+    let (_, run) = Run::open(opening);
     calls[..some].iter().fold(run, |run, &call| run.call(call).1)
 }
 
-/// "A waiting state is any state whose transitions carry an event": what a state does whose
-/// transitions carry different events, or only some of them one, is left open.
+/// What a state does whose transitions carry different events, or only some of them one, is left open.
 fn is_clear(automaton: &Automaton) -> bool {
     (0..automaton.states).all(|state| {
         let ways = automaton.ways_out(state);
@@ -155,8 +155,9 @@ fn with_ties(random: &mut Random, run: Run) -> Run {
 }
 
 /// A made-up run: up to two values stand at a limit, and at most one is one past it.
-pub fn run(random: &mut Random) -> Run {
-    let mut run = run_of_a_host(random);
+fn run(random: &mut Random) -> Run {
+    let opening = opening(random);
+    let mut run = run_of_a_host(random, &opening);
     for _ in 0..random.below(3) {
         run = pushed(random, run, 0);
     }
@@ -219,10 +220,20 @@ fn call(random: &mut Random, run: &Run) -> Call {
 }
 
 /// Two calls, the second made for the run after the first.
-pub fn calls(random: &mut Random, run: &Run) -> [Call; 2] {
+fn calls(random: &mut Random, run: &Run) -> [Call; 2] {
     let first = call(random, run);
     let (_, after) = run.clone().call(first);
     [first, call(random, &after)]
+}
+
+/// A made-up run and two calls of it; one in six is about markers.
+pub fn case(random: &mut Random) -> (Run, [Call; 2]) {
+    if random.one_in(6) {
+        return marker_case(random);
+    }
+    let run = run(random);
+    let calls = calls(random, &run);
+    (run, calls)
 }
 
 /// Two runs of T that hold the same two entries, each where the other run has the other one: the event

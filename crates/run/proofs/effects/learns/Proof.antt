@@ -10,7 +10,7 @@ returns : tie.Need-returns
 returns c = let a = c .before .before .args in c .refusing .ensures ∙ no-learning (a .i) (a .x) (a .o) (a .most) (a .kind) (c .before .match .keys2)
 
 returns-2 : tie.Need-returns-2
-returns-2 c = rw (c .before .before .kind .given .1, lt-ltb _ _ (c .if1 .taken))
+returns-2 c = rw (c .before .before .before .kind .given .1, lt-ltb _ _ (c .before .if1 .taken)) (c .hears .ensures)
 
 returns-3 : tie.Need-returns-3
 returns-3 c = rw (c .before .before .before .kind .given .1, le-ltb _ _ (c .before .if1 .left)) (c .refusing2 .ensures)
@@ -22,6 +22,7 @@ learns-spec =
     (λ c. search needs)
     (λ c κs. search needs)
     returns
+    (λ c κs. search needs)
     returns-2
     (λ c κs. search needs)
     returns-3)
