@@ -17,13 +17,23 @@ struct Draft<'a> {
     plan: Plan,
     /// The last state, which has no way out yet.
     state: u8,
+    /// Whether a decision comes before it.
+    is_decided: bool,
 }
 
 impl Draft<'_> {
+    /// The last resource is seldom needed before a decision: where it is far away, 44 comes at a call.
+    fn resource(&mut self) -> u8 {
+        match self.is_decided || self.random.one_in(4) {
+            true => self.random.below(RESOURCES as usize) as u8,
+            false => 0,
+        }
+    }
+
     /// An action and the events. The release waits for the action, seldom for an event, so that a marker
     /// may complete long after its resource is available.
     fn activity(&mut self, events: &[u8]) -> Option<u8> {
-        let resource = self.random.below(RESOURCES as usize) as u8;
+        let resource = self.resource();
         let action = Kind::Action { number: 0, peripheral: resource };
         let mut nodes: Vec<Node> = vec![];
         let mut add = |kind, duration, predecessors| nodes.push(Node { kind, duration, predecessors });
@@ -59,6 +69,7 @@ impl Draft<'_> {
     }
 
     fn process(&mut self, event: u8) {
+        self.is_decided |= event == DECISION;
         for outcome in 0..self.plan.events[event as usize] {
             let activity = self.silent_activity();
             self.way(self.state + 1, Some((event, outcome)), activity);
@@ -68,6 +79,7 @@ impl Draft<'_> {
 
     /// The decision goes on by its first outcome and back to a state by the others.
     fn decide_or_return(&mut self, back: u8) {
+        self.is_decided = true;
         for outcome in 0..self.plan.events[DECISION as usize] {
             let activity = self.silent_activity();
             let to = if outcome > 0 { back } else { self.state + 1 };
@@ -112,7 +124,7 @@ pub fn marker_plan(random: &mut Random) -> Plan {
     events[DECISION as usize] = random.between(2, 3) as u8;
     let peripherals = (0..RESOURCES).collect();
     let plan = Plan { resources: RESOURCES, peripherals, events, ..Plan::default() };
-    let mut draft = Draft { random, plan, state: 0 };
+    let mut draft = Draft { random, plan, state: 0, is_decided: false };
     let carried = if draft.random.one_in(2) { draft.markers(2) } else { vec![] };
     if !carried.is_empty() {
         draft.emit(&carried);

@@ -1,7 +1,7 @@
 //! Call lists that ask where nodes stand.
 
 use super::hosts::{calls, HOSTS};
-use super::openings::opening;
+use super::openings::{marker_opening, opening};
 use super::Random;
 use crate::drive::{calls_among, decode, encode, encode_calls, Part};
 use crate::run::{Request, Run};
@@ -39,7 +39,10 @@ pub fn with_questions(input: &[u8]) -> Vec<u8> {
 /// An opening and the calls of some host, as bytes: few where the window is wide, since each has many
 /// questions after it.
 pub fn list_to_ask(random: &mut Random) -> Vec<u8> {
-    let opening = opening(random);
+    let opening = match random.one_in(5) {
+        true => marker_opening(random),
+        false => opening(random),
+    };
     let host = random.pick(&HOSTS);
     let is_wide = Run::open(&opening).1.window().len() > 100;
     let most = if is_wide { 12 } else { random.pick(&[20, 60]) };

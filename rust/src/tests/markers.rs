@@ -168,22 +168,34 @@ fn done_after_report() -> Result<(), String> {
     answered(&last, &[until_marked(), rest.to_vec()].concat()).map(drop)
 }
 
-/// The marker is reported before or after the decision, whose path processes it. Its report leaves all but
-/// the window and the reading as it was.
+/// The calls up to the start of the decision.
+fn until_deciding() -> Vec<(Call, Reply)> {
+    [until_marked(), vec![(ask(3_000), start(DECIDED, 0))]].concat()
+}
+
+/// The reports of the marker and of the decision, either of them first.
+fn both_reports() -> [(Call, Reply); 2] {
+    [(tell(3_200, MARKED, 0), Reply::Taken), (tell(3_200, DECIDED, 1), Reply::Taken)]
+}
+
+/// The marker is reported before or after the decision, whose path processes it.
 fn report_before_and_after() -> Result<(), String> {
-    let plan = carried();
-    let head = [until_marked(), vec![(ask(3_000), start(DECIDED, 0))]].concat();
-    let (marker, decision) =
-        ((tell(3_200, MARKED, 0), Reply::Taken), (tell(3_200, DECIDED, 1), Reply::Taken));
+    let [marker, decision] = both_reports();
     let rest = [(ask(6_999), Reply::Wait), (ask(7_000), start((2, 1), 1))];
     for order in [[marker, decision], [decision, marker]] {
-        let log = answered(&plan, &[&head[..], &order, &rest].concat())?;
-        same("processed outcomes", processed(&plan, &log), vec![1, 0])?;
+        let log = answered(&carried(), &[&until_deciding()[..], &order, &rest].concat())?;
+        same("processed outcomes", processed(&carried(), &log), vec![1, 0])?;
     }
+    Ok(())
+}
+
+/// A marker's report leaves all but the window and the reading as it was.
+fn report_closes_the_node() -> Result<(), String> {
     let played = |calls: &[(Call, Reply)]| {
-        let (_, run) = Run::open(&opening(&plan));
+        let (_, run) = Run::open(&opening(&carried()));
         calls.iter().fold(run, |run, (call, _)| run.call(*call).1)
     };
+    let ([marker, decision], head) = (both_reports(), until_deciding());
     for before in [head.clone(), [&head[..], &[decision]].concat()] {
         let mut wanted = played(&before);
         wanted.window.retain(|entry| (entry.time.position as u32, entry.time.node) != MARKED);
@@ -239,6 +251,7 @@ pub fn markers() -> Result<(), String> {
     numbers()?;
     done_after_report()?;
     report_before_and_after()?;
+    report_closes_the_node()?;
     whole_paths_fit()?;
     timetables()
 }
@@ -258,6 +271,7 @@ fn a_marker_is_started_and_reported_as_every_event() {
 #[test]
 fn a_marker_may_be_reported_before_and_after_it_is_processed() {
     report_before_and_after().unwrap();
+    report_closes_the_node().unwrap();
 }
 
 #[test]
@@ -274,7 +288,7 @@ fn broken_markers_are_noticed_by_hand() {
         (Broken::MarkerCompletionTaken, numbers),
         (Broken::MarkerLacksNothing, numbers),
         (Broken::DoneBeforeMarkers, done_after_report),
-        (Broken::MarkerKept, report_before_and_after),
+        (Broken::MarkerKept, report_closes_the_node),
         (Broken::ByteForAMarker, timetables),
     ];
     for (toggle, check) in by {

@@ -1,7 +1,7 @@
 //! Call lists after an accepted opening, read off the log and its word.
 
 use super::refusals::has_too_many;
-use super::{is_decided, of_word, Kinds};
+use super::{emitted, is_decided, of_word, Kinds};
 use crate::check::demand_3::Judged;
 use crate::check::log::{Answered, Log};
 use crate::plan_file::{Kind, Plan, Transition};
@@ -51,11 +51,7 @@ impl Reading<'_> {
             if let Some((event, _)) = way.input {
                 pending[event as usize] -= 1;
             }
-            for node in way.activity.iter().flat_map(|&a| &self.plan.activities[a as usize]) {
-                if let Kind::Event(event) = node.kind {
-                    pending[event as usize] += 1;
-                }
-            }
+            emitted(self.plan, way).for_each(|event| pending[event as usize] += 1);
             let of_a_marker = (0..).zip(&pending).any(|(e, &count)| count > 1 && self.plan.is_marker(e));
             if of_a_marker && self.plan.automaton.ways_out(way.to).len() > 1 {
                 return Some(SEVERAL_PENDING);

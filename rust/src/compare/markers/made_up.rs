@@ -1,7 +1,7 @@
 //! Calls of made-up runs, whose states may have several ways out for a marker, or one for an event of
 //! several outcomes.
 
-use super::{path_from, Kinds};
+use super::{emitted, path_from, Kinds};
 use crate::plan_file::{Kind, Transition};
 use crate::run::{Call, Reply, Request, Run};
 use crate::specified_times::incremental::MOST_PENDING;
@@ -68,20 +68,13 @@ impl Reported<'_> {
                 kinds.extend((n > 0 && !plan.is_marker(event)).then_some(OF_SEVERAL));
                 kinds.extend((n == 63).then_some(ENDLESS));
             }
-            self.emit(way, &mut pending);
+            emitted(plan, way).for_each(|event| {
+                pending[event as usize] = MOST_PENDING.min(pending[event as usize] + 1);
+            });
         }
         let is_of_a_marker = |way: &Transition| way.input.is_some_and(|(event, _)| plan.is_marker(event));
         kinds.extend(path.first().is_some_and(is_of_a_marker).then_some(LEFT_BY_ANOTHER));
         kinds
-    }
-
-    fn emit(&self, way: &Transition, pending: &mut [usize]) {
-        for node in way.activity.iter().flat_map(|&a| &self.before.plan.activities[a as usize]) {
-            if let Kind::Event(event) = node.kind {
-                let queue = &mut pending[event as usize];
-                *queue = (*queue + 1).min(MOST_PENDING);
-            }
-        }
     }
 }
 

@@ -12,7 +12,7 @@ pub use refusals::of_refusal;
 pub use timetables::{of_timetable, OF_TIMETABLES};
 
 use super::hits::Hits;
-use crate::plan_file::{Plan, Transition};
+use crate::plan_file::{Kind, Plan, Transition};
 use std::collections::BTreeSet;
 
 /// The kinds that one list, timetable or made-up run shows.
@@ -61,6 +61,15 @@ fn is_decided(plan: &Plan, way: &Transition) -> bool {
 /// Whether a transition is a state's only one and processes an event.
 fn passes_an_event(plan: &Plan, way: &Transition) -> bool {
     way.input.is_some() && !is_decided(plan, way)
+}
+
+/// The events that a transition emits, one for each of their nodes.
+fn emitted<'a>(plan: &'a Plan, way: &Transition) -> impl Iterator<Item = u8> + 'a {
+    let nodes = way.activity.into_iter().flat_map(|activity| &plan.activities[activity as usize]);
+    nodes.filter_map(|node| match node.kind {
+        Kind::Event(event) => Some(event),
+        _ => None,
+    })
 }
 
 /// The transitions from a state up to one that waits or ends; in a made-up plan they may have no end.
