@@ -9,7 +9,8 @@ use jidlekuvo_reference::generate::plan_t;
 use jidlekuvo_reference::timetable::timetable;
 use std::fs::OpenOptions;
 use std::io::{Read, Seek, Write};
-use std::process::{Child, Command, ExitStatus, Stdio};
+use std::os::fd::AsRawFd;
+use std::process::{Child, ChildStdout, Command, ExitStatus, Stdio};
 use std::time::{Duration, Instant};
 
 /// Past so many bytes the program hands on what it has gathered.
@@ -106,11 +107,24 @@ fn a_full_device_ends_the_program_before_it_reads_on() {
     drop(stdin);
 }
 
+/// Closes a reader, and waits until no process has it open: one that another test is just starting
+/// has, for a moment, all that is open here, and until then what is written is taken. The bytes
+/// written meanwhile are too few to fill the pipe.
+fn close(reader: ChildStdout) {
+    let same_pipe = format!("/proc/self/fd/{}", reader.as_raw_fd());
+    let mut writer = OpenOptions::new().write(true).open(same_pipe).expect("a pipe can be opened again");
+    drop(reader);
+    let start = Instant::now();
+    while writer.write_all(b"\n").is_ok() {
+        assert!(start.elapsed() < Duration::from_secs(20), "a closed pipe had a reader for 20 seconds");
+        std::thread::sleep(Duration::from_millis(10));
+    }
+}
+
 #[test]
 fn a_reader_that_closes_ends_the_program_before_it_reads_on() {
-    let (mut child, stdin) = started(&input_of(&plan_t())[..10], Stdio::piped());
-    drop(child.stdout.take());
-    let mut stdin = stdin;
+    let (mut child, mut stdin) = started(&input_of(&plan_t())[..10], Stdio::piped());
+    close(child.stdout.take().expect("stdout is piped"));
     stdin.write_all(&input_of(&plan_t())[10..]).expect("a pipe holds the input");
     ends(child);
     drop(stdin);

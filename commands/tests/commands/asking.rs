@@ -1,7 +1,9 @@
 //! Running a command, and holding what it says to what is wanted.
 
+use std::fs::File;
 use std::io::{Read, Write};
-use std::process::{Child, Command, ExitStatus, Stdio};
+use std::os::fd::AsRawFd;
+use std::process::{Child, ChildStdout, Command, ExitStatus, Stdio};
 use std::thread::{self, JoinHandle};
 use std::time::{Duration, Instant};
 
@@ -43,6 +45,19 @@ pub fn ended(child: &mut Child, most: Duration) -> Option<ExitStatus> {
     let _ = child.kill();
     let _ = child.wait();
     None
+}
+
+/// Closes a reader, and waits until nobody has it open: a process that another test is just starting has, for a moment, all
+/// that is open here, and until then what is written is taken.
+pub fn close(reader: ChildStdout) {
+    let same_pipe = format!("/proc/self/fd/{}", reader.as_raw_fd());
+    let mut writer = File::options().write(true).open(same_pipe).expect("a pipe can be opened again");
+    drop(reader);
+    let start = Instant::now();
+    while writer.write_all(b"\n").is_ok() {
+        assert!(start.elapsed() < Duration::from_secs(20), "somebody has the closed reader open");
+        thread::sleep(Duration::from_millis(1));
+    }
 }
 
 fn read_all(mut from: impl Read + Send + 'static) -> JoinHandle<String> {

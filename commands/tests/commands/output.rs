@@ -1,10 +1,10 @@
 //! What goes out, row by row.
 
-use crate::asking::{ask, ask_with_output, ended, is, said, same, Answer};
+use crate::asking::{ask, ask_with_output, close, ended, is, said, same, Answer};
 use crate::input::ALL;
 use crate::places::{Commands, Mutation, Repository};
 use crate::plans::{note, t, wanted};
-use std::fs;
+use std::fs::{self, File};
 use std::io::{BufRead, BufReader, Read, Write};
 use std::path::Path;
 use std::process::{Child, ChildStdout, Command, Stdio};
@@ -65,7 +65,10 @@ pub fn set_up(name: &str) -> String {
 /// A program that prints a row, waits until it is let on, prints another and goes on without a word.
 const WAITS: &str = "echo $$ >pid\necho '0 0 2 0 3000'\nread -r word <go\necho 'end 2'\n[ \"$word\" = end ] || exec sleep 20\n";
 
-/// The first line, if it comes within five seconds; the reader is left open with it.
+/// On a quiet machine a line, or the end, takes milliseconds.
+const MOST: Duration = Duration::from_secs(10);
+
+/// The first line, if it comes in time; the reader is left open with it.
 fn first_line(out: ChildStdout) -> Option<(String, BufReader<ChildStdout>)> {
     let (to, from) = channel();
     thread::spawn(move || {
@@ -73,7 +76,7 @@ fn first_line(out: ChildStdout) -> Option<(String, BufReader<ChildStdout>)> {
         let _ = reader.read_line(&mut line);
         let _ = to.send((line, reader));
     });
-    from.recv_timeout(Duration::from_secs(5)).ok()
+    from.recv_timeout(MOST).ok()
 }
 
 /// Rows go out as they settle.
@@ -89,7 +92,9 @@ pub fn rows_settle(mutation: Mutation) -> Answer {
 /// Where a reader closes after one line, command and program end, long before the program would.
 pub fn closing_reader(mutation: Mutation) -> Answer {
     let (mut started, row) = Started::new(mutation)?;
-    drop(row);
+    if let Some((_, reader)) = row {
+        close(reader.into_inner());
+    }
     started.go("closed");
     let said = started.end()?;
     let told = format!("timetable: the output cannot be written: {BROKEN}\n");
@@ -99,6 +104,8 @@ pub fn closing_reader(mutation: Mutation) -> Answer {
 /// The command over the program that waits.
 struct Started {
     commands: Commands,
+    /// What the program waits for. It is open for reading too, so that opening it does not wait for the program.
+    go: File,
     child: Child,
 }
 
@@ -108,21 +115,21 @@ impl Started {
         commands.folder.write("plan", t());
         let made = Command::new("mkfifo").arg(commands.folder.path("go")).status();
         is("a pipe with a name", made.is_ok_and(|status| status.success()))?;
+        let go = File::options().read(true).write(true).open(commands.folder.path("go")).unwrap();
         let mut command = commands.command("timetable");
         let mut child = command.arg("plan").stdout(Stdio::piped()).stderr(Stdio::piped()).spawn().unwrap();
         let row = first_line(child.stdout.take().expect("stdout is piped"));
-        Ok((Started { commands, child }, row))
+        Ok((Started { commands, go, child }, row))
     }
 
     /// The program is let on.
-    fn go(&self, word: &str) {
-        let go = fs::File::options().write(true).open(self.commands.folder.path("go"));
-        go.and_then(|mut go| writeln!(go, "{word}")).expect("the program reads it");
+    fn go(&mut self, word: &str) {
+        writeln!(self.go, "{word}").expect("a pipe holds a word");
     }
 
-    /// Status and standard error; an error where the program is still there. On a quiet machine it takes milliseconds.
+    /// Status and standard error; an error where the program is still there.
     fn end(&mut self) -> Result<(Option<i32>, String), String> {
-        let status = ended(&mut self.child, Duration::from_secs(5)).and_then(|status| status.code());
+        let status = ended(&mut self.child, MOST).and_then(|status| status.code());
         let pid = fs::read_to_string(self.commands.folder.path("pid")).unwrap_or_default();
         if Path::new("/proc").join(pid.trim()).exists() {
             let _ = Command::new("kill").arg(pid.trim()).status();

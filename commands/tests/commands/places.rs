@@ -42,21 +42,34 @@ impl Folder {
         path
     }
 
+    /// A file that may be run.
+    fn write_program(&self, name: &str, content: impl AsRef<[u8]>) -> PathBuf {
+        let draft = self.write(&format!("{name}.draft"), content);
+        run(Command::new("cp").arg(&draft).arg(self.path(name)));
+        fs::remove_file(draft).expect("it is there");
+        self.path(name)
+    }
+
     /// Another text in a file of the folder, where the mutation is one.
     pub fn apply(&self, mutation: Mutation) {
         let Mutation::Edit { file, old, new } = mutation else { return };
-        let path = self.path(file);
-        let text = fs::read_to_string(&path).expect("it is there");
+        let text = fs::read_to_string(self.path(file)).expect("it is there");
         assert_eq!(text.matches(old).count(), 1, "'{old}' stands once in {file}");
-        fs::write(&path, text.replace(old, new)).expect("it can be written");
+        self.write_program(file, text.replace(old, new));
     }
 
     /// A shell script.
     pub fn script(&self, name: &str, text: &str) -> PathBuf {
-        let path = self.write(name, format!("#!/bin/sh\n{text}"));
+        let path = self.write_program(name, format!("#!/bin/sh\n{text}"));
         fs::set_permissions(&path, fs::Permissions::from_mode(0o755)).expect("it can be made a program");
         path
     }
+}
+
+/// Runs `cp`, which writes all files that may be run. One that is open for writing cannot be, and a process that another
+/// test is just starting has, for a moment, all that is open here; so none is written from here.
+fn run(cp: &mut Command) {
+    assert!(cp.status().is_ok_and(|status| status.success()), "{cp:?}");
 }
 
 impl Drop for Folder {
@@ -83,8 +96,9 @@ impl Commands {
         fs::create_dir(folder.path("bin")).expect("a folder can be made");
         for (name, from) in built {
             let to = folder.path(name);
-            let linked = fs::hard_link(&from, &to).or_else(|_| fs::copy(&from, &to).map(|_| ()));
-            linked.unwrap_or_else(|why| panic!("{}: {why}", from.display()));
+            if fs::hard_link(&from, &to).is_err() {
+                run(Command::new("cp").arg(&from).arg(&to));
+            }
         }
         let broken = if let Mutation::Toggle(name) = mutation { name } else { "" };
         Commands { folder, broken }
@@ -155,13 +169,10 @@ impl Repository {
         let others =
             ["docs/PROMISES.md", "examples/T.hex", "rust/Cargo.toml", "rust/build.rs", "tools/Cargo.toml"];
         let usages = ["commands/usage/judge.txt", "commands/usage/timetable.txt"];
-        let names =
-            scripts.map(String::from).into_iter().chain(commands.map(|name| format!("commands/{name}")));
-        for name in names.chain(others.map(String::from)).chain(usages.map(String::from)) {
-            let to = folder.path(&name);
-            fs::create_dir_all(to.parent().expect("it is in the folder")).expect("a folder can be made");
-            fs::copy(root().join(&name), to).unwrap_or_else(|why| panic!("{name}: {why}"));
-        }
+        let commands = commands.map(|name| format!("commands/{name}"));
+        let mut cp = Command::new("cp");
+        cp.arg("--parents").args(scripts).args(commands).args(others).args(usages);
+        run(cp.arg(&folder.0).current_dir(root()));
         for name in ["commands/src", "rust/src"] {
             symlink(root().join(name), folder.path(name)).expect("a link can be made");
         }
