@@ -3,7 +3,8 @@
 use std::env;
 use std::path::PathBuf;
 
-const LINKED: [&str; 7] = ["READ", "WRITE_BACK", "ACTIVITIES", "JUDGE", "DRIVE", "MADE_UP", "TIMETABLE"];
+const LINKED: [&str; 8] =
+    ["READ", "WRITE_BACK", "ACTIVITIES", "JUDGE", "DRIVE", "LINK", "MADE_UP", "TIMETABLE"];
 
 fn main() {
     println!("cargo:rerun-if-changed=build.rs");

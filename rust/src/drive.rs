@@ -28,23 +28,24 @@ pub fn calls_among(parts: &[Part]) -> Vec<Call> {
     parts.iter().filter_map(call).collect()
 }
 
-struct Input<'a> {
-    bytes: &'a [u8],
+/// What is still to be read of an input.
+pub(crate) struct Input<'a> {
+    pub(crate) bytes: &'a [u8],
 }
 
 impl<'a> Input<'a> {
-    fn take(&mut self, width: usize) -> Option<&'a [u8]> {
+    pub(crate) fn take(&mut self, width: usize) -> Option<&'a [u8]> {
         let (taken, rest) = self.bytes.split_at_checked(width)?;
         self.bytes = rest;
         Some(taken)
     }
 
-    fn number(&mut self, width: usize) -> Option<u64> {
+    pub(crate) fn number(&mut self, width: usize) -> Option<u64> {
         let bytes = self.take(width)?;
         Some(bytes.iter().rev().fold(0, |value, &byte| value << 8 | byte as u64))
     }
 
-    fn opening(&mut self) -> Option<Opening> {
+    pub(crate) fn opening(&mut self) -> Option<Opening> {
         let length = self.number(2)? as usize;
         let plan = self.take(length)?.to_vec();
         let psi = self.number(8)?;
@@ -83,13 +84,18 @@ pub fn decode(input: &[u8]) -> Option<(Opening, Vec<Part>)> {
     Some((opening, parts))
 }
 
-pub fn encode(opening: &Opening, parts: &[Part]) -> Vec<u8> {
+pub fn encode_opening(opening: &Opening) -> Vec<u8> {
     let mut out = (opening.plan.len() as u16).to_le_bytes().to_vec();
     out.extend(&opening.plan);
     out.extend(opening.psi.to_le_bytes());
     out.extend(opening.slack.to_le_bytes());
     out.push(opening.availabilities.len() as u8);
     opening.availabilities.iter().for_each(|a| out.extend(a.to_le_bytes()));
+    out
+}
+
+pub fn encode(opening: &Opening, parts: &[Part]) -> Vec<u8> {
+    let mut out = encode_opening(opening);
     for part in parts {
         match part {
             Part::Call(call) => encode_call(call, &mut out),

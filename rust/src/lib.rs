@@ -1,7 +1,9 @@
-//! A second build of the plan engine, written from documents 000 and 01 alone.
+//! A second build of the plan engine, written from documents 000 and 01 and from the requests of
+//! document 02 that have landed (README.md names the exceptions).
 //!
 //! It is naive on purpose: every rule is worked out the way its sentence reads, so that it can
-//! stand as an outside judge of the proved build. The modules follow the sections of document 01.
+//! stand as an outside judge of the proved build. The modules follow the sections of document 01;
+//! `link` follows request (a).
 
 pub mod activity_rules;
 pub mod automaton_rules;
@@ -13,6 +15,8 @@ pub mod compare;
 pub mod drive;
 #[cfg(feature = "comparison")]
 pub mod generate;
+#[cfg(feature = "comparison")]
+pub mod link;
 #[cfg(feature = "comparison")]
 pub mod made_up;
 pub mod plan_file;

@@ -79,6 +79,20 @@ toggles! {
     RowsAtTheHorizon: "rows of the position that gives 44 are printed",
     OutcomeIndexFromOne: "the place of 55 counts outcomes from 1",
     ByteForAMarker: "a byte is read for a marker",
+    UnlistedBeforeLength: "61 is looked for before 62",
+    NodelessStopWithNode: "43 is taken under the map of 41 and 42",
+    NodeStopWithoutNode: "41 is taken under the map of 43 and 44",
+    NodeBeforePosition: "node comes before position in a message",
+    PositionBigEndian: "the position in a message is big-endian",
+    OtherDirectionTaken: "a map of the other direction is taken",
+    MessageBeforeRefusal: "a message is written before 61 is looked for",
+    MessageAtExactFit: "a buffer that a message fits exactly gets 36",
+    ShortBufferBeforeUnlisted: "36 is looked for before 61",
+    ByteAfterMessage: "the writer touches the byte after a message",
+    BadMessageMovesReading: "a bad message moves the last reading",
+    KeptStopBeforeLink: "a kept stop is looked for before 62 and 61",
+    LimitsBeforeLink: "50 is looked for before 62 and 61",
+    CutMessageTaken: "a message that the input cuts off is taken",
 }
 
 /// The toggles of the specified times and of the run.

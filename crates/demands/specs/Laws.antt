@@ -52,3 +52,8 @@ pub mod TimetablesHold
 pub mod Unchanged
 pub mod VerdictsHold
 pub mod WritesHold
+pub mod MessagesHold
+pub mod MessagesDrive
+pub mod MessagesGood
+pub mod MessagesRefused
+pub mod MessagesSent

@@ -16,6 +16,8 @@ pub mod Markers
 -- Request (h): places of the window
 pub mod Places
 pub mod RepliesByContent
+-- Request (a): messages of the host link
+pub mod Messages
 -- Demand 1, and the strength of the contracts
 pub mod Demand1
 -- Each answer of an opening, in its condition and in no other

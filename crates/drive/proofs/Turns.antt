@@ -2,12 +2,11 @@
 use mathlib.Core.Path.{_≡_, refl, sym, _∙_, ap, subst}
 use mathlib.Core.Bool.{Bool, true, false, cond}
 use mathlib.Core.List.{List, [], _∷_, _++_}
-use Prim.Native.Nat.{ℕ, zero, suc, _+_, _*_, _≤_, _<_}
-use native.Mathlib.Decide.{decLe}
+use Prim.Native.Nat.{ℕ, zero, suc, _+_, _≤_, _<_}
 use native.Mathlib.Omega.{arith}
 use lib.ListN.{length}
 use lib.Dec.{leb, eqb}
-use borrow.Author.Tests.{le-leb, lt-leb, leb-true}
+use borrow.Author.Tests.{le-leb, leb-true}
 use Rattle.wire.specs.Puts.{Puts}
 use Rattle.wire.specs.Laws.Puts.{puts-none, puts-join}
 use Rattle.run.specs.declared.Run.{Run}
@@ -21,7 +20,8 @@ use Rattle.drive_input.specs.declared.HeadRead.{HeadRead}
 use Rattle.drive_input.specs.declared.Part.{Part}
 use Rattle.drive_input.specs.declared.PartRead.{PartRead}
 use Rattle.drive_records.specs.declared.Record.{Record}
-use Rattle.drive_input.specs.Input.{byteAt, partsAt, head, headOf, askAt, completionAt, outcomeAt, placeAt, partAt}
+use Rattle.drive_input.specs.Input.{byteAt, partsAt, headOf, askAt, completionAt, outcomeAt, placeAt, partAt}
+use Rattle.drive_input.specs.Laws.Whole.{whole-is}
 use Rattle.drive.specs.Drive.{openedBy}
 use Rattle.drive_records.specs.Records.{recordBytes, openingRecord, replyRecord, placeRecord}
 use Rattle.drive.specs.Drive.{onPart, partsFrom, partsOf, partRecord, runAfter, recordsFrom, recordsOf, joined, textOf}
@@ -146,29 +146,6 @@ unfolding partsFrom
 turn-over b at run left e out end = rw e (puts-none out end)
 
 -- ---- the opening
-
-pub record Whole (b : List ℕ) (h : Head) : Type 0 where
-  pub is : h ≡ head b
-  pub fits : partsAt b ≤ length b
-
-pub whole-is : (b : List ℕ) (h : Head) → headOf b ≡ HeadRead.Whole h → Whole b h
-unfolding headOf
-whole-is b h e =
-    elim (decLe (partsAt b) (length b)) [
-      | yes f ↦
-          let w : HeadRead.Whole (head b) ≡ HeadRead.Whole h = rw (le-leb (partsAt b) (length b) f) at e in
-          record { is = cc; fits = f }
-      | no f ↦
-          let w : HeadRead.Ends ≡ HeadRead.Whole h = rw (lt-leb (partsAt b) (length b) (omega arith)) at e in
-          let z : _≡_ {A = ℕ} 0 1 = cc in
-          absurd (omega arith)
-    ]
-
-pub whole-fits : (b : List ℕ) (h : Head) → headOf b ≡ HeadRead.Whole h → h .length + 19 + 8 * h .count ≤ length b
-whole-fits b h e = let w = whole-is b h e in subst (λ (g : Head). g .length + 19 + 8 * g .count ≤ length b) (sym (w .is)) (w .fits)
-
-pub whole-parts : (b : List ℕ) (h : Head) → headOf b ≡ HeadRead.Whole h → h .parts ≤ length b
-whole-parts b h e = let w = whole-is b h e in subst (λ (g : Head). g .parts ≤ length b) (sym (w .is)) (w .fits)
 
 module _ (b : List ℕ) (h : Head) (e : headOf b ≡ HeadRead.Whole h) where
   pub text-whole : textOf b ≡ recordBytes (openingRecord (openedBy b h .opening)) ++ joined (recordsFrom (openedBy b h .run) (partsOf b))

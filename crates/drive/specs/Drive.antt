@@ -3,8 +3,9 @@
 use mathlib.Core.Bool.{cond}
 use mathlib.Core.List.{List, [], _∷_, _++_}
 use Prim.Native.Nat.{ℕ, zero, suc, _+_}
-use lib.ListN.{length, drop}
+use lib.ListN.{length}
 use lib.Dec.{leb}
+use Rattle.wire.specs.Puts.{leftBy}
 use Rattle.run.specs.declared.Run.{Run}
 use Rattle.run.specs.declared.Call.{Call}
 use Rattle.run.specs.declared.Opened.{Opened}
@@ -82,11 +83,13 @@ numberOf NotRecorded.TooShort = 36
 abbrev pub placeOf : NotRecorded → ℕ
 placeOf n = 0
 
--- what is answered: how many bytes were written, or why none were
-unfoldable pub recordedOf : List ℕ → List ℕ → Recorded
-recordedOf b out =
-    cond (leb (length (textOf b)) (length out)) (Recorded.Bytes (length (textOf b))) (Recorded.Refused NotRecorded.TooShort)
+-- what is answered of a text: how many bytes were written, or why none were
+abbrev pub recordedBy : List ℕ → List ℕ → Recorded
+recordedBy text out = cond (leb (length text) (length out)) (Recorded.Bytes (length text)) (Recorded.Refused NotRecorded.TooShort)
 
--- the buffer that is left: all records, and everything after them unchanged; a refusal leaves it as it was
+-- of all records; and the buffer that is left
+unfoldable pub recordedOf : List ℕ → List ℕ → Recorded
+recordedOf b out = recordedBy (textOf b) out
+
 unfoldable pub bufferOf : List ℕ → List ℕ → List ℕ
-bufferOf b out = cond (leb (length (textOf b)) (length out)) (textOf b ++ drop (length (textOf b)) out) out
+bufferOf b out = leftBy (textOf b) out

@@ -27,7 +27,7 @@ pub enum Recorded {
 }
 
 // The opening that has these numbers.
-fn open(input: &[u8], head: Head) -> Opened
+pub fn open(input: &[u8], head: Head) -> Opened
     requires { ⌜ head .length + 19 + 8 * head .count ≤ length (now input) ⌝ }
     ensures { λ r. ⌜ r ≡ openedBy (now (input .entry)) head ⌝ }
 {

@@ -2,9 +2,7 @@
 use basis::u8_to_usize;
 use run::Call;
 use time::Clock;
-use wire::Long;
 use wire::Short;
-use wire::Wide;
 ghost use mathlib.Core.Path.{_≡_};
 ghost use Prim.Native.Nat.{_+_, _*_, _≤_, _<_};
 ghost use lib.ListN.{length, take};
@@ -38,7 +36,7 @@ pub enum PartRead {
     None,
 }
 
-// ---- numbers that are there
+// ---- a number that is there
 
 fn two(input: &[u8], at: usize) -> usize
     requires { ⌜ at + 2 ≤ length (now input) ⌝ }
@@ -48,28 +46,6 @@ fn two(input: &[u8], at: usize) -> usize
     match f {
         Short::Value(x) => x as usize,
         Short::Ends => 0,
-    }
-}
-
-fn four(input: &[u8], at: usize) -> u32
-    requires { ⌜ at + 4 ≤ length (now input) ⌝ }
-    ensures { λ r. ⌜ r ≡ little 4 (now (input .entry)) at ⌝ }
-{
-    let f = wire::long_at(input, at);
-    match f {
-        Long::Value(x) => x,
-        Long::Ends => 0,
-    }
-}
-
-fn eight(input: &[u8], at: usize) -> u64
-    requires { ⌜ at + 8 ≤ length (now input) ⌝ }
-    ensures { λ r. ⌜ r ≡ little 8 (now (input .entry)) at ⌝ }
-{
-    let f = wire::wide_at(input, at);
-    match f {
-        Wide::Value(x) => x,
-        Wide::Ends => 0,
     }
 }
 
@@ -95,8 +71,8 @@ pub fn head_of(input: &[u8]) -> HeadRead
     }
     HeadRead::Whole(Head {
         length: n,
-        psi: Clock(eight(input, n + 2)),
-        slack: eight(input, n + 10),
+        psi: Clock(wire::eight(input, n + 2)),
+        slack: wire::eight(input, n + 10),
         count,
         parts,
     })
@@ -112,7 +88,7 @@ pub fn availabilities(input: &[u8], at: usize, count: u8) -> [u64; 255]
     let mut off = at;
     let n = u8_to_usize(count);
     while i < n {
-        times[i] = eight(input, off);
+        times[i] = wire::eight(input, off);
         off += 8;
         i += 1;
     }
@@ -129,7 +105,7 @@ fn ask_at(input: &[u8], at: usize) -> PartRead
     if input.len() - at < 9 {
         return PartRead::None;
     }
-    let t = Clock(eight(input, at + 1));
+    let t = Clock(wire::eight(input, at + 1));
     PartRead::Some(Part::Call(Call::Ask(t)), at + 9)
 }
 
@@ -141,8 +117,8 @@ fn completion_at(input: &[u8], at: usize) -> PartRead
     if input.len() - at < 14 {
         return PartRead::None;
     }
-    let t = Clock(eight(input, at + 1));
-    let position = four(input, at + 9);
+    let t = Clock(wire::eight(input, at + 1));
+    let position = wire::four(input, at + 9);
     let place = at + 13;
     let node = input[place];
     PartRead::Some(Part::Call(Call::Completion(t, position, node)), at + 14)
@@ -156,8 +132,8 @@ fn outcome_at(input: &[u8], at: usize) -> PartRead
     if input.len() - at < 15 {
         return PartRead::None;
     }
-    let t = Clock(eight(input, at + 1));
-    let position = four(input, at + 9);
+    let t = Clock(wire::eight(input, at + 1));
+    let position = wire::four(input, at + 9);
     let place = at + 13;
     let next = at + 14;
     let node = input[place];
@@ -176,7 +152,7 @@ fn place_at(input: &[u8], at: usize) -> PartRead
     if input.len() - at < 6 {
         return PartRead::None;
     }
-    let position = four(input, at + 1);
+    let position = wire::four(input, at + 1);
     let last = at + 5;
     let node = input[last];
     PartRead::Some(Part::Place(position, node), at + 6)

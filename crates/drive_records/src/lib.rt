@@ -1,13 +1,10 @@
 // A record of 16 bytes for the opening, for each call and for each node's place. Its form is in specs/Records.antt.
 use run::Opening;
-use run::Refusal;
 use run::Reply;
 use run::Stop;
-use run::Unopened;
 ghost use mathlib.Core.Path.{_≡_};
 ghost use Prim.Native.Nat.{_+_, _≤_};
 ghost use lib.ListN.{length};
-ghost use Rattle.run.specs.Numbers.{refusalNumber, openNumber, openPlace};
 ghost use Rattle.wire.specs.Puts.{Puts};
 ghost use Rattle.drive_records.specs.Records.{bare, stopRecord, openingRecord, replyRecord, placeRecord, recordBytes};
 
@@ -35,64 +32,42 @@ fn bare(answer: u8, number: u8, place: u64) -> Record
 
 // ---- the opening
 
-fn unopened_record(u: Unopened) -> Record
-    ensures { λ r. ⌜ r ≡ bare 5 (openNumber u) (openPlace u) ⌝ }
-{
-    match u {
-        Unopened::Plan(f, place) => bare(5, plan::numbers::number_of(f), place as u64),
-        Unopened::Availabilities => bare(5, 30, 0),
-        Unopened::Time => bare(5, 31, 0),
-        Unopened::Slack => bare(5, 32, 0),
-        Unopened::Short(activity) => bare(5, 33, activity as u64),
-        Unopened::Beyond => bare(5, 44, 0),
-        Unopened::Full => bare(5, 43, 0),
-    }
-}
-
 pub fn opening_record(o: Opening) -> Record
     ensures { λ r. ⌜ r ≡ openingRecord o ⌝ }
 {
     match o {
         Opening::Opened => bare(0, 0, 0),
-        Opening::Refused(u) => unopened_record(u),
+        Opening::Refused(u) => bare(
+            5,
+            numbers::opening_number(u),
+            numbers::opening_place(u) as u64,
+        ),
     }
 }
 
 // ---- a call
 
-fn refusal_number(f: Refusal) -> u8
-    ensures { λ r. ⌜ r ≡ refusalNumber f ⌝ }
-{
-    match f {
-        Refusal::OutOfLimits => 50,
-        Refusal::ReadingBelow => 51,
-        Refusal::NoSuchNode => 52,
-        Refusal::NotStarted => 53,
-        Refusal::OtherKind => 54,
-        Refusal::OutcomeLacking => 55,
-    }
-}
-
 fn stop_record(s: Stop) -> Record
     ensures { λ r. ⌜ r ≡ stopRecord s ⌝ }
 {
+    let number = numbers::stop_number(s);
     match s {
         Stop::Late(p, n) => Record {
             answer: 6,
-            number: 41,
+            number,
             node: n,
             position: p,
             place: 0,
         },
         Stop::Overdue(p, n) => Record {
             answer: 6,
-            number: 42,
+            number,
             node: n,
             position: p,
             place: 0,
         },
-        Stop::Full => bare(6, 43, 0),
-        Stop::Beyond => bare(6, 44, 0),
+        Stop::Full => bare(6, number, 0),
+        Stop::Beyond => bare(6, number, 0),
     }
 }
 
@@ -110,7 +85,7 @@ pub fn reply_record(reply: Reply) -> Record
         Reply::Wait => bare(2, 0, 0),
         Reply::Done => bare(3, 0, 0),
         Reply::Taken => bare(4, 0, 0),
-        Reply::Refused(f) => bare(5, refusal_number(f), 0),
+        Reply::Refused(f) => bare(5, numbers::refusal_number(f), 0),
         Reply::Stopped(s) => stop_record(s),
     }
 }

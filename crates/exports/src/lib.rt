@@ -17,6 +17,7 @@ ghost use Rattle.drive.specs.Drive.{recordedOf, bufferOf};
 ghost use Rattle.made_up.specs.Answers.{madeCode, madeBuffer};
 ghost use Rattle.exports.specs.Codes.{codeOf, activitiesCode, writtenCode, backCode, backBuffer, recordedCode};
 
+pub mod messages; // messages of the host link
 pub mod timetables; // the timetable
 
 // Document 01's number of a fault.

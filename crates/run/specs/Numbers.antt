@@ -13,6 +13,9 @@ refusalNumber Refusal.NoSuchNode = 52
 refusalNumber Refusal.NotStarted = 53
 refusalNumber Refusal.OtherKind = 54
 refusalNumber Refusal.OutcomeLacking = 55
+-- of a message that is no call
+refusalNumber Refusal.Unlisted = 61
+refusalNumber Refusal.Length = 62
 
 -- stops: late, overdue, and those of loading, which have no node
 abbrev pub stopNumber : Stop → ℕ

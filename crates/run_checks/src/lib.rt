@@ -32,7 +32,8 @@ pub enum Halt {
     Stopped(Stop),
 }
 
-// Why a call is refused.
+// Why a call, or a message that is none, is refused. Document 01's number for each case is `refusalNumber` in
+// run/specs/Numbers.antt.
 pub enum Refusal {
     // a run in which a stored count, number or time lies outside the limits
     OutOfLimits,
@@ -46,6 +47,10 @@ pub enum Refusal {
     OtherKind,
     // outcome the event lacks
     OutcomeLacking,
+    // a message whose map is not listed for its direction, or with a number that no such answer has: no call gets it
+    Unlisted,
+    // a message that is empty or has another length than its map: no call gets it
+    Length,
 }
 
 // When a call comes: Ψ, the slack, the last reading and this one.

@@ -52,14 +52,14 @@ fn two(bytes: &[u8], at: usize) -> u16
     u8_to_u16(bytes[at]) + 256 * u8_to_u16(bytes[next])
 }
 
-fn four(bytes: &[u8], at: usize) -> u32
+pub fn four(bytes: &[u8], at: usize) -> u32
     requires { ⌜ at + 4 ≤ length (now bytes) ⌝ }
     ensures { λ r. ⌜ (r ≡ little 4 (now (bytes .entry)) at) × (r < 4294967296) ⌝ }
 {
     two(bytes, at) as u32 + 65536 * (two(bytes, at + 2) as u32)
 }
 
-fn eight(bytes: &[u8], at: usize) -> u64
+pub fn eight(bytes: &[u8], at: usize) -> u64
     requires { ⌜ at + 8 ≤ length (now bytes) ⌝ }
     ensures { λ r. ⌜ r ≡ little 8 (now (bytes .entry)) at ⌝ }
 {

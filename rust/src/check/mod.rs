@@ -5,6 +5,7 @@ pub mod claims;
 pub mod demand_3;
 pub mod expected;
 pub mod host;
+pub mod link;
 pub mod log;
 pub mod places;
 pub mod stitching;

@@ -2,6 +2,7 @@
 //! shrinking, and the functions of the Rattle side.
 
 pub mod hits;
+pub mod link;
 pub mod markers;
 pub mod rattle;
 pub mod settings;

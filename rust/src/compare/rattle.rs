@@ -7,6 +7,7 @@
     feature = "rattle_activities",
     feature = "rattle_judge",
     feature = "rattle_drive",
+    feature = "rattle_link",
     feature = "rattle_made_up",
     feature = "rattle_timetable"
 ))]
@@ -22,6 +23,12 @@ mod linked {
         pub fn jidlekuvo_judge(bytes: *const u8, length: usize) -> u64;
         #[cfg(feature = "rattle_drive")]
         pub fn jidlekuvo_drive(input: *const u8, length: usize, out: *mut u8, room: usize) -> usize;
+        #[cfg(feature = "rattle_link")]
+        pub fn jidlekuvo_link(input: *const u8, length: usize, out: *mut u8, room: usize) -> usize;
+        #[cfg(feature = "rattle_link")]
+        pub fn jidlekuvo_message(way: u8, input: *const u8, length: usize, out: *mut u8, room: usize) -> u64;
+        #[cfg(feature = "rattle_link")]
+        pub fn jidlekuvo_send(way: u8, fields: *const u8, length: usize, out: *mut u8, room: usize) -> u64;
         #[cfg(feature = "rattle_made_up")]
         pub fn jidlekuvo_made_up(bytes: *const u8, length: usize, out: *mut u8, room: usize) -> usize;
         #[cfg(feature = "rattle_timetable")]
@@ -62,6 +69,27 @@ pub fn judge(bytes: &[u8]) -> u64 {
 pub fn drive(input: &[u8], out: &mut [u8]) -> usize {
     // SAFETY: the function reads one slice and writes inside the other.
     unsafe { linked::jidlekuvo_drive(input.as_ptr(), input.len(), out.as_mut_ptr(), out.len()) }
+}
+
+/// An opening and messages: how many bytes of answers were written, or 36 * 2^32.
+#[cfg(feature = "rattle_link")]
+pub fn link(input: &[u8], out: &mut [u8]) -> usize {
+    // SAFETY: the function reads one slice and writes inside the other.
+    unsafe { linked::jidlekuvo_link(input.as_ptr(), input.len(), out.as_mut_ptr(), out.len()) }
+}
+
+/// A message read and written back, to the board (0) or to the host: its length, or number * 2^32.
+#[cfg(feature = "rattle_link")]
+pub fn message(way: u8, input: &[u8], out: &mut [u8]) -> u64 {
+    // SAFETY: the function reads one slice and writes inside the other.
+    unsafe { linked::jidlekuvo_message(way, input.as_ptr(), input.len(), out.as_mut_ptr(), out.len()) }
+}
+
+/// A message written from its fields, to the board (0) or to the host: its length, or number * 2^32.
+#[cfg(feature = "rattle_link")]
+pub fn send(way: u8, fields: &[u8], out: &mut [u8]) -> u64 {
+    // SAFETY: the function reads one slice and writes inside the other.
+    unsafe { linked::jidlekuvo_send(way, fields.as_ptr(), fields.len(), out.as_mut_ptr(), out.len()) }
 }
 
 /// Two calls of a made-up run: how many bytes of records were written, or number * 2^32.

@@ -1,8 +1,9 @@
 //! Shrinking that knows what the bytes mean: a plan loses activities, nodes, transitions and states
-//! as a whole, a call list loses calls and questions. What remains is shrunk as bytes.
+//! as a whole, a list loses calls, questions or messages. What remains is shrunk as bytes.
 
 use super::shrink::shrink;
-use crate::drive::{self, Part};
+use crate::drive;
+use crate::link;
 use crate::plan_file::{encode, read, Kind, Plan, Transition};
 use crate::run::Opening;
 use crate::timetable::split;
@@ -151,34 +152,55 @@ fn with_plan(opening: &Opening, plan: &Plan) -> Opening {
     Opening { plan: encode(plan), availabilities, ..opening.clone() }
 }
 
-fn without_parts(opening: &Opening, parts: Vec<Part>, fails: &mut impl FnMut(&[u8]) -> bool) -> Vec<Part> {
-    let mut best = parts;
+fn without_items<Item: Clone>(items: Vec<Item>, mut fails: impl FnMut(&[Item]) -> bool) -> Vec<Item> {
+    let mut best = items;
     let mut at = best.len();
     while at > 0 {
         at -= 1;
         let mut fewer = best.clone();
         fewer.remove(at);
-        if fails(&drive::encode(opening, &fewer)) {
+        if fails(&fewer) {
             best = fewer;
         }
     }
     best
 }
 
-/// The smallest opening and call list found that still fails.
-pub fn smallest_call_list(input: &[u8], mut fails: impl FnMut(&[u8]) -> bool) -> Vec<u8> {
-    let Some((mut opening, parts)) = drive::decode(input) else { return shrink(input, fails) };
-    if !fails(&drive::encode(&opening, &parts)) {
-        return shrink(input, fails);
-    }
-    let parts = without_parts(&opening, parts, &mut fails);
+/// The smallest opening and list of what follows it that still fail, in some form as bytes.
+fn smallest_list<Item: Clone>(
+    mut opening: Opening,
+    items: Vec<Item>,
+    encode: impl Fn(&Opening, &[Item]) -> Vec<u8>,
+    mut fails: impl FnMut(&[u8]) -> bool,
+) -> Vec<u8> {
+    let items = without_items(items, |fewer| fails(&encode(&opening, fewer)));
     if let Ok(plan) = read(&opening.plan) {
-        let plan = shrink_plan(plan, |less| fails(&drive::encode(&with_plan(&opening, less), &parts)));
+        let plan = shrink_plan(plan, |less| fails(&encode(&with_plan(&opening, less), &items)));
         let smaller = with_plan(&opening, &plan);
-        if fails(&drive::encode(&smaller, &parts)) {
+        if fails(&encode(&smaller, &items)) {
             opening = smaller;
         }
     }
-    let parts = without_parts(&opening, parts, &mut fails);
-    drive::encode(&opening, &parts)
+    let items = without_items(items, |fewer| fails(&encode(&opening, fewer)));
+    encode(&opening, &items)
+}
+
+/// The smallest opening and call list found that still fails.
+pub fn smallest_call_list(input: &[u8], mut fails: impl FnMut(&[u8]) -> bool) -> Vec<u8> {
+    match drive::decode(input) {
+        Some((opening, parts)) if fails(&drive::encode(&opening, &parts)) => {
+            smallest_list(opening, parts, drive::encode, fails)
+        }
+        _ => shrink(input, fails),
+    }
+}
+
+/// The smallest opening and list of messages found that still fails.
+pub fn smallest_message_list(input: &[u8], mut fails: impl FnMut(&[u8]) -> bool) -> Vec<u8> {
+    let Some((opening, messages)) = link::decode(input) else { return shrink(input, fails) };
+    let messages: Vec<Vec<u8>> = messages.into_iter().map(<[u8]>::to_vec).collect();
+    match fails(&link::encode(&opening, &messages)) {
+        true => smallest_list(opening, messages, link::encode, fails),
+        false => shrink(input, fails),
+    }
 }

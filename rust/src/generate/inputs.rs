@@ -6,6 +6,7 @@ use super::markers::marker_plan;
 use super::openings::{marker_opening, opening, tying_opening};
 use super::{damage, plans, templates, Random};
 use crate::plan_file::{encode, Plan, Transition};
+use crate::run::Opening;
 use crate::{drive, verdict};
 
 /// A plan file: accepted, damaged in a known way, breaking a rule, or damaged blindly.
@@ -110,15 +111,20 @@ pub fn call_list(random: &mut Random) -> Vec<u8> {
     call_list_of(random, host)
 }
 
-/// The same for one kind of host. Two in three of those that are late or overdue are so where nodes tie; half
-/// of the others that are overdue, and one in three whose reports are nonsense, meet markers.
-pub fn call_list_of(random: &mut Random, host: Host) -> Vec<u8> {
-    let opening = match host {
+/// Two in three of the hosts that are late or overdue are so where nodes tie; half of the others that are
+/// overdue, and one in three whose reports are nonsense, meet markers.
+pub fn opening_for(random: &mut Random, host: Host) -> Opening {
+    match host {
         Host::Late | Host::Overdue if !random.one_in(3) => tying_opening(random),
         Host::Overdue if random.one_in(2) => marker_opening(random),
         Host::Nonsense if random.one_in(3) => marker_opening(random),
         _ => opening(random),
-    };
+    }
+}
+
+/// The same for one kind of host.
+pub fn call_list_of(random: &mut Random, host: Host) -> Vec<u8> {
+    let opening = opening_for(random, host);
     let most = random.pick(&[20, 60, 60, 120]);
     let calls = calls(random, &opening, host, most);
     let mut input = drive::encode_calls(&opening, &calls);

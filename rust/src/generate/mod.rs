@@ -8,6 +8,7 @@ pub mod inputs;
 pub mod layout;
 pub mod made_up;
 pub mod markers;
+pub mod messages;
 pub mod openings;
 pub mod pairs;
 pub mod plans;

@@ -7,6 +7,7 @@ mod demand_3_alone;
 mod files;
 mod graph_timetable;
 mod host_side;
+mod link;
 mod made_up;
 mod made_up_markers;
 mod markers;
@@ -34,6 +35,7 @@ pub const CHECKS: &[(&str, Check)] = &[
     ("made-up runs", |_, _, _| made_up::made_up_runs()),
     ("markers", |_, _, _| markers::markers()),
     ("markers in made-up runs", |_, _, _| made_up_markers::made_up_markers()),
+    ("messages by hand", |_, _, _| link::by_hand()),
     ("accepted plans", files::accepted_plans),
     ("damaged fields", files::damaged_fields),
     ("faulty activities", files::faulty_activities),
@@ -46,6 +48,7 @@ pub const CHECKS: &[(&str, Check)] = &[
     ("call lists", runs::call_lists),
     ("pairs of runs", stitching::pairs_of_runs),
     ("places", places::places_kept),
+    ("messages", link::message_lists_answered),
 ];
 
 /// Judges the table of hits, unless the cases were chosen by hand.

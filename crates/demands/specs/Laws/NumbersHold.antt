@@ -19,6 +19,13 @@ use Rattle.demands.specs.Openings.{OpensBy}
 use Rattle.demands.specs.Laws.OpeningsHold.{opening-by}
 use Rattle.demands.specs.Numbers.{RefusedFor, RefusedWith, StoppedFor, StoppedWith, StatementRefusalNumbers, StatementStopNumbers, UnopenedFor, StatementUnopenedNumbers}
 
+-- no call gets the refusals of a message that is no call
+pub no-unlisted : (run : Run) (c : Call) → Refuses run c Refusal.Unlisted → ⊥
+no-unlisted run c q = elim q [ ]
+
+pub no-length : (run : Run) (c : Call) → Refuses run c Refusal.Length → ⊥
+no-length run c q = elim q [ ]
+
 module _ (run : Run) (c : Call) where
   refused-for : (f : Refusal) → Refuses run c f → RefusedFor run c (refusalNumber f)
   refused-for Refusal.OutOfLimits q = RefusedFor.number50 q
@@ -27,6 +34,8 @@ module _ (run : Run) (c : Call) where
   refused-for Refusal.NotStarted q = RefusedFor.number53 q
   refused-for Refusal.OtherKind q = RefusedFor.number54 q
   refused-for Refusal.OutcomeLacking q = RefusedFor.number55 q
+  refused-for Refusal.Unlisted q = absurd (no-unlisted run c q)
+  refused-for Refusal.Length q = absurd (no-length run c q)
 
   refused-with : (f : Refusal) → Refuses run c f → RefusedWith run c (refusalNumber f)
   refused-with f q = record { refusal = f; answered = refusals run c f .1 q; numbered = refl }

@@ -1,7 +1,7 @@
 -- Counted first: a buffer that is too short stays as it was.
 use native.Mathlib.Omega.{arith}
 use denote.Ref.{now}
-use Rattle.drive.proofs.Turns.{whole-parts}
+use Rattle.drive_input.specs.Laws.Whole.{whole-parts}
 use Rattle.drive.proofs.Fitting.{all-parts, too-short, all-written}
 use borrow.Author.Needs.{needs}
 use Rattle.drive.proofs.if_they_fit.Statement.{statement}

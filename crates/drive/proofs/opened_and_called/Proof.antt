@@ -1,7 +1,8 @@
 -- The opening's record stands first, and the parts begin where the opening ends.
 use native.Mathlib.Omega.{arith}
 use denote.Ref.{now}
-use Rattle.drive.proofs.Turns.{whole-fits, whole-parts, opens}
+use Rattle.drive_input.specs.Laws.Whole.{whole-fits, whole-parts}
+use Rattle.drive.proofs.Turns.{opens}
 use Rattle.drive_records.specs.Laws.Records.{record-length}
 use Rattle.wire.specs.Laws.Puts.{puts-length}
 use borrow.Author.Needs.{needs}

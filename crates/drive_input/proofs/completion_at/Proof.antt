@@ -10,7 +10,7 @@ returns : tie.Need-returns
 returns c = let a = c .before .before .args in completion-cut (now (a .input)) (a .at) (omega arith)
 
 returns-2 : tie.Need-returns-2
-returns-2 c = let a = c .before .before .before .before .before .args in completion-there (now (a .input)) (a .at) _ (c .before .before .eight .ensures) _ (c .before .four .ensures) (omega arith)
+returns-2 c = let a = c .before .before .before .before .before .args in completion-there (now (a .input)) (a .at) _ (c .before .before .eight .ensures) _ (c .before .four .ensures .0) (omega arith)
 
 pub completion-at-spec : {M : Type 1} → statement M
 completion-at-spec =

@@ -10,7 +10,7 @@ returns : tie.Need-returns
 returns c = let a = c .before .before .args in outcome-cut (now (a .input)) (a .at) (omega arith)
 
 returns-2 : tie.Need-returns-2
-returns-2 c = let a = c .before .before .before .before .before .before .args in outcome-there (now (a .input)) (a .at) _ (c .before .before .before .eight .ensures) _ (c .before .before .four .ensures) (omega arith)
+returns-2 c = let a = c .before .before .before .before .before .before .args in outcome-there (now (a .input)) (a .at) _ (c .before .before .before .eight .ensures) _ (c .before .before .four .ensures .0) (omega arith)
 
 pub outcome-at-spec : {M : Type 1} → statement M
 outcome-at-spec =

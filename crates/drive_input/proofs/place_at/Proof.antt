@@ -10,7 +10,7 @@ returns : tie.Need-returns
 returns c = let a = c .before .before .args in place-cut (now (a .input)) (a .at) (omega arith)
 
 returns-2 : tie.Need-returns-2
-returns-2 c = let a = c .before .before .before .before .args in place-there (now (a .input)) (a .at) _ (c .before .four .ensures) (omega arith)
+returns-2 c = let a = c .before .before .before .before .args in place-there (now (a .input)) (a .at) _ (c .before .four .ensures .0) (omega arith)
 
 pub place-at-spec : {M : Type 1} → statement M
 place-at-spec =

@@ -10,9 +10,17 @@ returns c = rw (c .before .enum-told .given .1) (c .bare .ensures)
 
 returns-2 : tie.Need-returns-2
 unfolding openingRecord
-returns-2 c = rw (c .before .before .o .given .1) (c .unopened-record .ensures)
+returns-2 c = rw (c .before .before .before .before .o .given .1, ← c .before .before .opening-number .ensures, ← c .before .opening-place .ensures) (c .bare2 .ensures)
 
 pub opening-record-spec : {M : Type 1} → statement M
 opening-record-spec =
     tie.close
-    (tie.spec (λ c. search needs) (λ c κs. search needs) (λ c. search needs) (λ c κs. search needs) returns returns-2)
+    (tie.spec
+    (λ c. search needs)
+    (λ c κs. search needs)
+    (λ c. search needs)
+    (λ c κs. search needs)
+    (λ c κs. search needs)
+    (λ c κs. search needs)
+    returns
+    returns-2)

@@ -5,7 +5,7 @@ use denote.Ref.{now}
 use Prim.Native.Nat.{_+_, _-_}
 use Rattle.drive_records.specs.Records.{recordBytes}
 use Rattle.drive_records.specs.Laws.Records.{record-length}
-use Rattle.drive_records.proofs.Placed.{placed}
+use Rattle.drive_records.specs.Laws.Placed.{placed}
 use borrow.Author.Needs.{needs}
 use Rattle.drive_records.proofs.put_at.Statement.{statement}
 use Rattle.drive_records.proofs.put_at.Tie as tie

@@ -1,13 +1,14 @@
--- Bytes put one after another join; a buffer keeps its length.
+-- Bytes put one after another join; a buffer keeps its length; what is left of it.
 use mathlib.Core.Path.{_≡_, refl, sym, _∙_, ap, ap₂}
 use mathlib.Core.List.{List, [], _∷_, _++_}
-use Prim.Native.Nat.{ℕ, suc, _+_, _%_, _<_}
-use native.Mathlib.Nat.{add-zero, add-suc, suc-add}
+use Prim.Native.Nat.{ℕ, suc, _+_, _%_, _≤_, _<_}
+use native.Mathlib.Nat.{zero-add, add-zero, add-suc, suc-add}
 use native.Mathlib.Omega.{arith}
 use lib.ListN.{length, set, length-append}
-use lib.Seq.{sets, length-sets}
+use lib.Seq.{sets, length-sets, sets-eq}
+use borrow.Author.Tests.{le-leb, lt-leb}
 use Rattle.wire.specs.Number.{bytesOf}
-use Rattle.wire.specs.Puts.{Puts}
+use Rattle.wire.specs.Puts.{Puts, leftBy}
 
 pub puts-none : (l : List ℕ) (at : ℕ) → Puts l at [] l at
 puts-none l at = record { past = omega arith; left = refl }
@@ -30,3 +31,12 @@ puts-join {l} {m} {n} {at} {mid} {next} {xs} {ys} p q =
 -- the buffer keeps its length
 pub puts-length : {l m : List ℕ} {at next : ℕ} {xs : List ℕ} → Puts l at xs m next → length m ≡ length l
 puts-length {l} {m} {at} {next} {xs} p = ap length (p .left) ∙ length-sets l at xs
+
+-- ---- what is left of a lent buffer
+
+module _ (text out : List ℕ) where
+  pub left-short : length out < length text → out ≡ leftBy text out
+  left-short h = rw (lt-leb (length text) (length out) h)
+
+  pub left-all : length text ≤ length out → {after : List ℕ} {end : ℕ} → Puts out 0 text after end → after ≡ leftBy text out
+  left-all fits p = p .left ∙ sets-eq text out 0 (omega arith) ∙ rw (le-leb (length text) (length out) fits, zero-add)

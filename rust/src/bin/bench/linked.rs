@@ -21,3 +21,4 @@ linked!(write_back, "rattle_write_back", Writer);
 linked!(activities, "rattle_activities", Verdict);
 linked!(judge, "rattle_judge", Verdict);
 linked!(drive, "rattle_drive", Driver);
+linked!(link, "rattle_link", Driver);

@@ -4,7 +4,9 @@ use crate::cases::{Case, Work};
 use crate::linked::{self, Driver};
 use jidlekuvo_reference::drive::{self, drive, RECORD};
 use jidlekuvo_reference::generate::markers::marked_path;
+use jidlekuvo_reference::generate::messages::sent;
 use jidlekuvo_reference::generate::{plan_t, plans};
+use jidlekuvo_reference::link;
 use jidlekuvo_reference::plan_file::{encode, read, Kind, Plan};
 use jidlekuvo_reference::run::{Call, Opening, Reply, Request, Run};
 
@@ -51,6 +53,30 @@ fn calls_in_time(opening: &Opening, count: usize) -> Vec<Call> {
     calls
 }
 
+/// The form in which an opening and calls are put to both builds.
+struct Form {
+    encode: fn(&Opening, &[Call]) -> Vec<u8>,
+    /// The room for the answers to so many calls.
+    room: fn(usize) -> usize,
+    rust: Driver,
+    rattle: Option<Driver>,
+}
+
+/// As calls, answered by records.
+fn called_by_records() -> Form {
+    let room = |calls| (calls + 1) * RECORD;
+    Form { encode: drive::encode_calls, room, rust: drive, rattle: linked::drive() }
+}
+
+/// As messages, answered by messages. With room for the longest answers the Rattle side goes through a list
+/// once.
+fn called_by_messages() -> Form {
+    let encode = |opening: &Opening, calls: &[Call]| {
+        link::encode(opening, &calls.iter().map(|&call| sent(call)).collect::<Vec<_>>())
+    };
+    Form { encode, room: |calls| RECORD + 8 * calls, rust: link::drive, rattle: linked::link() }
+}
+
 /// An opening and calls, answered alike by both builds.
 struct Drive {
     input: Vec<u8>,
@@ -58,17 +84,19 @@ struct Drive {
 }
 
 impl Drive {
-    fn new(opening: &Opening, calls: &[Call]) -> Drive {
-        let made = Drive { input: drive::encode_calls(opening, calls), room: (calls.len() + 1) * RECORD };
-        let answered = made.answers(drive);
+    fn new(form: &Form, opening: &Opening, calls: &[Call]) -> Drive {
+        let made = Drive { input: (form.encode)(opening, calls), room: (form.room)(calls.len()) };
+        let answered = made.answers(form.rust);
         assert!(answered[0] == 0, "the opening is refused");
-        linked::drive().iter().for_each(|&rattle| assert!(answered == made.answers(rattle)));
+        form.rattle.iter().for_each(|&rattle| assert!(answered == made.answers(rattle)));
         made
     }
 
     fn answers(&self, function: Driver) -> Vec<u8> {
         let mut out = vec![0; self.room];
-        assert_eq!(function(&self.input, &mut out), self.room);
+        let written = function(&self.input, &mut out);
+        assert!((1..=self.room).contains(&written), "{written}");
+        out.truncate(written);
         out
     }
 
@@ -78,17 +106,22 @@ impl Drive {
 }
 
 fn driving(name: &str, opening: &Opening, calls: &[Call]) -> Case {
-    let drives = Drive::new(opening, calls);
-    let rattle = linked::drive().map(|function| drives.work(function));
-    Case { name: name.to_string(), units: 1.0, rust: drives.work(drive), rattle }
+    let form = called_by_records();
+    let drives = Drive::new(&form, opening, calls);
+    let rattle = form.rattle.map(|function| drives.work(function));
+    Case { name: name.to_string(), units: 1.0, rust: drives.work(form.rust), rattle }
 }
 
 /// One call: a drive with the calls without one with the first `before` of them.
 fn calling(name: &str, opening: &Opening, calls: &[Call], before: usize) -> Case {
-    let (all, few) = (Drive::new(opening, calls), Drive::new(opening, &calls[..before]));
+    calling_by(called_by_records(), name, opening, calls, before)
+}
+
+fn calling_by(form: Form, name: &str, opening: &Opening, calls: &[Call], before: usize) -> Case {
+    let (all, few) = (Drive::new(&form, opening, calls), Drive::new(&form, opening, &calls[..before]));
     let work = |function: Driver| all.work(function).without(few.work(function));
     let units = (calls.len() - before) as f64;
-    Case { name: name.to_string(), units, rust: work(drive), rattle: linked::drive().map(work) }
+    Case { name: name.to_string(), units, rust: work(form.rust), rattle: form.rattle.map(work) }
 }
 
 fn loading_opening() -> Opening {
@@ -120,6 +153,18 @@ fn ask_over_full_window() -> Case {
     calling("ask over a full window (wait)", &full, &repeated(&full, Request::Ask), 0)
 }
 
+/// Asks of plan T as calls and as messages, and of a full window as messages.
+fn asks_over_the_link() -> Vec<Case> {
+    let (t, full) = (opening_of(&plan_t_read()), full_opening());
+    let (of_t, of_full) = (repeated(&t, Request::Ask), repeated(&full, Request::Ask));
+    let linked = |name, opening, calls| calling_by(called_by_messages(), name, opening, calls, 0);
+    vec![
+        calling("ask of plan T (wait)", &t, &of_t, 0),
+        linked("read, ask of plan T, write over the link (wait)", &t, &of_t),
+        linked("read, ask over a full window, write over the link (wait)", &full, &of_full),
+    ]
+}
+
 fn report_over_full_window() -> Case {
     let full = full_opening();
     let absent = Request::Completion { position: 77, node: 1 };
@@ -143,7 +188,7 @@ fn outcome_over_full_window() -> Case {
 pub fn cases() -> Vec<Case> {
     let loading = loading_opening();
     let tenths: Vec<usize> = (0..10).map(|n| (75 + n) / 10).collect();
-    vec![
+    let mut cases = vec![
         driving("open plan T", &opening_of(&plan_t_read()), &[]),
         driving("open the largest accepted plan", &opening_of(&plans::largest_plan()), &[]),
         calling("an outcome that loads a path of 75 nodes", &loading, &calls_in_time(&loading, 2), 1),
@@ -157,7 +202,9 @@ pub fn cases() -> Vec<Case> {
         ask_over_full_window(),
         report_over_full_window(),
         start_over_full_window(),
-    ]
+    ];
+    cases.extend(asks_over_the_link());
+    cases
 }
 
 /// Openings, for the stack that they need.

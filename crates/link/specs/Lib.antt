@@ -1,0 +1,2 @@
+-- A run that is driven by messages.
+pub mod Receive

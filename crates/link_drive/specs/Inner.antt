@@ -1,0 +1,2 @@
+-- Definitions that only inner contracts cite.
+pub mod Answers
