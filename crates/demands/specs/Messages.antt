@@ -3,7 +3,7 @@
 use mathlib.Core.Path.{_≡_}
 use mathlib.Core.List.{List, [], _∷_, _++_}
 use mathlib.Core.Logic.{_↔_}
-use Prim.Native.Nat.{ℕ, _-_, _^_, _≤_, _<_}
+use Prim.Native.Nat.{ℕ, _-_, _≤_, _<_}
 use lib.ListN.{length, getD, take, drop}
 use Rattle.wire.specs.Number.{bytesOf}
 use Rattle.time.specs.declared.Clock.{Clock}
@@ -22,7 +22,7 @@ use Rattle.link_messages.specs.declared.NotSent.{NotSent}
 use Rattle.link_messages.specs.declared.Sent.{Sent}
 use Rattle.format.specs.Format.{print}
 use Rattle.link_messages.specs.Message.{lengthOf, Direction, message}
-use Rattle.link_messages.specs.Writing.{numberOf, placeOf, sentOf, bufferOf}
+use Rattle.link_messages.specs.Writing.{Fits, numberOf, placeOf, sentOf, bufferOf}
 use Rattle.link_calls.specs.declared.CallRead.{CallRead}
 use Rattle.link_calls.specs.declared.AnswerRead.{AnswerRead}
 use Rattle.link_calls.specs.Calls.{toBoard, ofCall, encodeCall, readCall}
@@ -68,30 +68,13 @@ StatementCallBytes = (c : Call) → encodeCall c ≡ callBytes c
 abbrev pub StatementReplyBytes : Type 0
 StatementReplyBytes = (r : Reply) → encodeReply r ≡ replyBytes r
 
--- ---- reading: bytes are read as a call, or reply, exactly where they are its bytes
-
--- numbers that their fields hold
-abbrev pub FitsCall : Call → Type 0
-FitsCall (Call.Ask t) = t .0 < 256 ^ 8
-FitsCall (Call.Completion t p n) = (t .0 < 256 ^ 8) × (p < 256 ^ 4) × (n < 256)
-FitsCall (Call.Outcome t p n o) = (t .0 < 256 ^ 8) × (p < 256 ^ 4) × (n < 256) × (o < 256)
-
-abbrev pub FitsReply : Reply → Type 0
-FitsReply (Reply.Start p a n) = (p < 256 ^ 4) × (a < 256) × (n < 256)
-FitsReply Reply.Wait = Unit {0}
-FitsReply Reply.Done = Unit {0}
-FitsReply Reply.Taken = Unit {0}
-FitsReply (Reply.Refused f) = Unit {0}
-FitsReply (Reply.Stopped (Stop.Late p n)) = (p < 256 ^ 4) × (n < 256)
-FitsReply (Reply.Stopped (Stop.Overdue p n)) = (p < 256 ^ 4) × (n < 256)
-FitsReply (Reply.Stopped Stop.Full) = Unit {0}
-FitsReply (Reply.Stopped Stop.Beyond) = Unit {0}
+-- ---- reading: bytes are read as a call, or reply, whose numbers their fields hold exactly where they are its bytes
 
 abbrev pub StatementCallMessage : Type 0
-StatementCallMessage = (b : List ℕ) → Bytes b → (c : Call) → FitsCall c → (readCall b ≡ CallRead.Call c) ↔ (encodeCall c ≡ b)
+StatementCallMessage = (b : List ℕ) → Bytes b → (c : Call) → Fits (ofCall c) → (readCall b ≡ CallRead.Call c) ↔ (encodeCall c ≡ b)
 
 abbrev pub StatementAnswerMessage : Type 0
-StatementAnswerMessage = (b : List ℕ) → Bytes b → (r : Reply) → FitsReply r → (readAnswer b ≡ AnswerRead.Reply r) ↔ (encodeReply r ≡ b)
+StatementAnswerMessage = (b : List ℕ) → Bytes b → (r : Reply) → Fits (ofReply r) → (readAnswer b ≡ AnswerRead.Reply r) ↔ (encodeReply r ≡ b)
 
 -- whatever call, or reply, bytes are read as, they are its bytes
 abbrev pub StatementCallWritten : Type 0

@@ -3,8 +3,7 @@
 use mathlib.Core.Path.{_≡_, refl, sym, _∙_, ap, subst}
 use mathlib.Core.Bool.{Bool, true, false, cond}
 use mathlib.Core.List.{List, append-nil}
-use Prim.Native.Nat.{ℕ, _^_, _<_}
-use native.Mathlib.Omega.{arith}
+use Prim.Native.Nat.{ℕ}
 use lib.ListN.{getD}
 use Rattle.wire.specs.Number.{bytesOf}
 use Rattle.format.specs.Format.{print, result}
@@ -12,9 +11,8 @@ use Rattle.run.specs.declared.Call.{Call}
 use Rattle.run.specs.declared.Reply.{Reply}
 use Rattle.run_checks.specs.declared.Refusal.{Refusal}
 use Rattle.run_checks.specs.declared.Stop.{Stop}
-use Rattle.run.specs.Numbers.{refusalNumber}
 use Rattle.link_messages.specs.Message.{hasLength, readBy, message}
-use Rattle.link_messages.specs.Writing.{Fits, permits}
+use Rattle.link_messages.specs.Writing.{permits}
 use Rattle.link_messages.specs.Inner.Bytes.{messageBytes}
 use Rattle.link_messages.specs.Laws.Printed.{message-print}
 use Rattle.link_messages.specs.Laws.Reading.{fieldsAt, read-by}
@@ -25,7 +23,7 @@ use Rattle.link_calls.specs.Calls.{toBoard, ofCall, encodeCall, refusalOf, call
 use Rattle.link_calls.specs.Replies.{toHost, ofReply, encodeReply, replyFrom, readAnswer}
 use Rattle.link_calls.specs.Laws.Listed.{call-permitted, reply-permitted}
 use Rattle.link_calls.specs.Laws.Same.{no-call, no-reply, call-same, call-from, reply-same, reply-from}
-use Rattle.demands.specs.Messages.{replyBytes, FitsCall, FitsReply, StatementCallBytes, StatementReplyBytes, StatementCallMessage, StatementAnswerMessage, StatementCallWritten, StatementReplyWritten}
+use Rattle.demands.specs.Messages.{replyBytes, StatementCallBytes, StatementReplyBytes, StatementCallMessage, StatementAnswerMessage, StatementCallWritten, StatementReplyWritten}
 
 -- ---- the bytes of each message
 
@@ -62,14 +60,6 @@ reply-bytes (Reply.Stopped Stop.Beyond) = reply-print (Reply.Stopped Stop.Beyond
 
 -- ---- reading
 
-zeros : 0 < 256
-zeros = omega arith
-
-call-fits : (c : Call) → FitsCall c → Fits (ofCall c)
-call-fits (Call.Ask t) h = record { map = omega arith; reading = h; position = omega arith; node = zeros; outcome = zeros; activity = zeros; number = zeros }
-call-fits (Call.Completion t p n) h = record { map = omega arith; reading = h .0; position = h .1; node = h .2; outcome = zeros; activity = zeros; number = zeros }
-call-fits (Call.Outcome t p n o) h = record { map = omega arith; reading = h .0; position = h .1; node = h .2; outcome = h .3; activity = zeros; number = zeros }
-
 -- the result of a call's message is that message: its other fields are 0
 call-result : (c : Call) → result (message toBoard) (ofCall c) ≡ ofCall c
 unfolding result
@@ -97,33 +87,8 @@ call-message b bytes c fits = (
   call-written b bytes c,
   (λ e.
       subst (λ (l : List ℕ). readBy toBoard l callFrom (λ n. CallRead.Refused (refusalOf n)) ≡ CallRead.Call c) e
-      (read-back toBoard (ofCall c) (call-fits c fits) (call-permitted c) callFrom (λ n. CallRead.Refused (refusalOf n)) ∙ ap callFrom (call-result c) ∙ call-from c)),
+      (read-back toBoard (ofCall c) fits (call-permitted c) callFrom (λ n. CallRead.Refused (refusalOf n)) ∙ ap callFrom (call-result c) ∙ call-from c)),
 )
-
--- a message without reading and outcome
-fits : {m p n a x : ℕ} → m < 256 → p < 256 ^ 4 → n < 256 → a < 256 → x < 256 → Fits (record { map = m; reading = 0; position = p; node = n; outcome = 0; activity = a; number = x })
-fits h i j k l = record { map = h; reading = omega arith; position = i; node = j; outcome = zeros; activity = k; number = l }
-
-refusal-fits : (f : Refusal) → refusalNumber f < 256
-refusal-fits Refusal.OutOfLimits = omega arith
-refusal-fits Refusal.ReadingBelow = omega arith
-refusal-fits Refusal.NoSuchNode = omega arith
-refusal-fits Refusal.NotStarted = omega arith
-refusal-fits Refusal.OtherKind = omega arith
-refusal-fits Refusal.OutcomeLacking = omega arith
-refusal-fits Refusal.Unlisted = omega arith
-refusal-fits Refusal.Length = omega arith
-
-reply-fits : (r : Reply) → FitsReply r → Fits (ofReply r)
-reply-fits (Reply.Start p a n) h = fits (omega arith) (h .0) (h .2) (h .1) zeros
-reply-fits Reply.Wait h = fits (omega arith) (omega arith) zeros zeros zeros
-reply-fits Reply.Done h = fits (omega arith) (omega arith) zeros zeros zeros
-reply-fits Reply.Taken h = fits (omega arith) (omega arith) zeros zeros zeros
-reply-fits (Reply.Refused f) h = fits (omega arith) (omega arith) zeros zeros (refusal-fits f)
-reply-fits (Reply.Stopped (Stop.Late p n)) h = fits (omega arith) (h .0) (h .1) zeros (omega arith)
-reply-fits (Reply.Stopped (Stop.Overdue p n)) h = fits (omega arith) (h .0) (h .1) zeros (omega arith)
-reply-fits (Reply.Stopped Stop.Full) h = fits (omega arith) (omega arith) zeros zeros (omega arith)
-reply-fits (Reply.Stopped Stop.Beyond) h = fits (omega arith) (omega arith) zeros zeros (omega arith)
 
 reply-result : (r : Reply) → result (message toHost) (ofReply r) ≡ ofReply r
 unfolding result
@@ -157,5 +122,5 @@ answer-message b bytes r fits = (
   reply-written b bytes r,
   (λ e.
       subst (λ (l : List ℕ). readBy toHost l replyFrom (λ n. AnswerRead.Refused (refusalOf n)) ≡ AnswerRead.Reply r) e
-      (read-back toHost (ofReply r) (reply-fits r fits) (reply-permitted r) replyFrom (λ n. AnswerRead.Refused (refusalOf n)) ∙ ap replyFrom (reply-result r) ∙ reply-from r)),
+      (read-back toHost (ofReply r) fits (reply-permitted r) replyFrom (λ n. AnswerRead.Refused (refusalOf n)) ∙ ap replyFrom (reply-result r) ∙ reply-from r)),
 )

@@ -24,7 +24,7 @@ board-permits m x = go (eqb m 0x01) refl (eqb m 0x07) refl (eqb m 0x0F) refl
     go false e false f true g = rw (eqb-true m 0x0F g)
     go false e false f false g = refl
 
--- "of_call .. never give 61"
+-- the message of a call, or of a reply, is one that its direction has
 pub call-permitted : (c : Call) → permits toBoard (ofCall c .map) (ofCall c .number) ≡ true
 call-permitted (Call.Ask t) = refl
 call-permitted (Call.Completion t p n) = refl
