@@ -8,6 +8,7 @@ usage: ./plan bytes TEXT [-o FILE]                     the plan file of a text (
        ./plan timetable PLAN [OUTCOME..] [--names TEXT] [-o FILE]
        ./plan picture PLAN [OUTCOME..] [--names TEXT] [-o FILE]   an SVG file
        ./plan trace PLAN [OUTCOME..] [--names TEXT] [-o FILE]     JSON for Chrome and Perfetto
+       ./plan number N                                 who causes the number N of a refusal or a stop, and what it says
 PLAN is text, hexadecimal, binary, or - for the standard input. Outcomes go by name or number.
 Exit status: 0; 1 refused; 2 no answer.";
 
@@ -20,15 +21,17 @@ pub enum Command {
     Timetable,
     Picture,
     Trace,
+    Number,
 }
 
-const COMMANDS: [(&str, Command); 6] = [
+const COMMANDS: [(&str, Command); 7] = [
     ("bytes", Command::Bytes),
     ("text", Command::Text),
     ("judge", Command::Judge),
     ("timetable", Command::Timetable),
     ("picture", Command::Picture),
     ("trace", Command::Trace),
+    ("number", Command::Number),
 ];
 
 /// The times of an opening, where one is asked for.
@@ -109,8 +112,8 @@ fn fits(given: &Arguments) -> Result<Arguments, String> {
     if given.times != Times::default() && given.command != Command::Judge {
         return Err(format!("--start, --slack and --available belong to judge\n{USAGE}"));
     }
-    if given.names.is_some() && given.command == Command::Bytes {
-        return Err(format!("--names does not belong to bytes\n{USAGE}"));
+    if given.names.is_some() && matches!(given.command, Command::Bytes | Command::Number) {
+        return Err(format!("--names belongs to neither bytes nor number\n{USAGE}"));
     }
     Ok(given.clone())
 }

@@ -1,9 +1,10 @@
-//! The six commands. Each answers with an exit status (0, or 1 refused) or with a message (no answer, 2).
+//! The seven commands. Each answers with an exit status (0, or 1 refused) or with a message (no answer, 2).
 
 use crate::arguments::{Arguments, Command, Times};
 use crate::explain::{self, opening, outcomes};
 use crate::input::{content, from_text, load, Content, Source};
 use crate::names::Names;
+use crate::numbers::Number;
 use crate::output::Output;
 use crate::picture::{svg, trace, Story};
 use crate::table::{self, Columns, End};
@@ -22,6 +23,7 @@ pub fn run(given: &Arguments) -> Status {
         Command::Judge => judge(given),
         Command::Timetable => timetable(given),
         Command::Picture | Command::Trace => drawn(given),
+        Command::Number => number(given),
     }
 }
 
@@ -35,10 +37,15 @@ fn write(given: &Arguments, bytes: &[u8]) -> Result<(), String> {
     out.finish()
 }
 
-/// The line of a refusal and its sentence, where a finding passed its check.
+/// What is said of a refusal: the sentence of a finding that passed its check, otherwise that of the number.
+fn said(fault: Fault, sentence: Option<String>) -> String {
+    let general = || Number::of(fault.number).map(|number| number.sentence().to_string());
+    sentence.or_else(general).map_or(String::new(), |sentence| sentence + "\n")
+}
+
+/// The line of a refusal, and what is said of it.
 pub fn refusal(fault: Fault, sentence: Option<String>) -> String {
-    let line = format!("refused {} {}\n", fault.number, fault.place);
-    line + &sentence.map_or(String::new(), |sentence| sentence + "\n")
+    format!("refused {} {}\n{}", fault.number, fault.place, said(fault, sentence))
 }
 
 /// The bytes of a text, once the text printed from them says the same.
@@ -178,7 +185,7 @@ fn timetable(given: &Arguments) -> Status {
     out.write_all(columns.closing(&closing).as_bytes()).map_err(told)?;
     let mut status = 0;
     if let End::Refused(fault) = closing.end {
-        let sentence = asked.sentence(closing.latest, fault).map_or(String::new(), |said| said + "\n");
+        let sentence = said(fault, asked.sentence(closing.latest, fault));
         out.write_all(sentence.as_bytes()).map_err(told)?;
         status = 1;
     }
@@ -204,5 +211,24 @@ fn drawn(given: &Arguments) -> Status {
         _ => svg(&asked.plan, &names, &story, &mut out).map_err(told)?,
     }
     out.finish()?;
+    Ok(0)
+}
+
+/// What a number says: who causes it, what its place counts, and its sentence.
+pub fn number_line(word: &str) -> Result<String, String> {
+    let number = word
+        .parse()
+        .ok()
+        .and_then(Number::of)
+        .ok_or(format!("{word} is no number of a refusal or a stop"))?;
+    let place = match number.place() {
+        "" => String::new(),
+        counted => format!(" (its place: the {counted})"),
+    };
+    Ok(format!("{} {}: {}{place}\n", number as u8, number.who(), number.sentence()))
+}
+
+fn number(given: &Arguments) -> Status {
+    write(given, number_line(&given.plan)?.as_bytes())?;
     Ok(0)
 }

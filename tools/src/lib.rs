@@ -6,6 +6,9 @@ pub mod commands;
 pub mod explain;
 pub mod input;
 pub mod names;
+// made by host/make, for the host and the tools
+#[path = "../../host/rust/src/numbers.rs"]
+pub mod numbers;
 pub mod output;
 pub mod picture;
 pub mod proved;

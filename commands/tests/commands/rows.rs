@@ -106,7 +106,7 @@ pub const ROWS: &[Row] = &[
         set_up::changed_crate,
         &[
             setup("is_ready program \"$file\" \"$sources\" &&", "[ -e \"$file\" ] &&"),
-            setup("is_ready library \"$file\" \"$sources\" &&", "[ -e \"$file\" ] &&"),
+            setup("is_ready \"$what\" \"$file\" \"$sources\" &&", "[ -e \"$file\" ] &&"),
             setup("$(sum crates crates.txt)", "$(sum crates)"),
             setup("\n    built program \"$sources\"", ""),
         ],

@@ -57,3 +57,4 @@ pub mod MessagesDrive
 pub mod MessagesGood
 pub mod MessagesRefused
 pub mod MessagesSent
+pub mod HostedHolds

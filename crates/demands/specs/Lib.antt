@@ -45,3 +45,5 @@ pub mod Inputs
 pub mod Cases
 -- The exported drive
 pub mod DriveRecords
+-- The exported functions of a host in C or Rust
+pub mod Hosted

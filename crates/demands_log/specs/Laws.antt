@@ -2,3 +2,4 @@
 pub mod Kept
 pub mod ByCases
 pub mod Latest
+pub mod PlanStays

@@ -1,20 +1,15 @@
 -- Answers as numbers, for callers in another language.
 use mathlib.Core.List.{List}
-use Prim.Native.Nat.{ℕ, _+_, _*_, min}
-use Rattle.plan.specs.Fault.{numberOf}
+use Prim.Native.Nat.{ℕ, _*_}
 use Rattle.plan.specs.declared.Verdict.{Verdict}
 use Rattle.plan.specs.declared.PlanRead.{PlanRead}
 use Rattle.activity.specs.Number.{activitiesVerdict}
 use Rattle.judge.specs.Judge.{onVerdict}
+use Rattle.numbers.specs.Codes.{codeOf}
 use Rattle.plan_write.specs.Writing.{writtenOf, bufferOf, numberOf as numberOfWriter}
 use Rattle.plan_write.specs.declared.Written.{Written}
 use Rattle.drive.specs.Drive.{numberOf as numberOfDrive}
 use Rattle.drive.specs.declared.Recorded.{Recorded}
-
--- 0 for an accepted plan; otherwise its number times 2^32 plus its place, or plus 2^32 - 1 where the place is larger
-unfoldable pub codeOf : Verdict → ℕ
-codeOf Verdict.Accepted = 0
-codeOf (Verdict.Refused f place) = numberOf f * 4_294_967_296 + min place 4_294_967_295
 
 -- reading, and the rules of the activities
 unfoldable pub activitiesCode : PlanRead → ℕ

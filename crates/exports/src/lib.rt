@@ -1,51 +1,23 @@
 // What Rust and C link: functions on numbers and byte slices.
 use drive::NotRecorded;
 use drive::Recorded;
-use plan::Fault;
+use numbers::codes::code;
 use plan::Plan;
 use plan::Verdict;
 use plan_write::NotWritten;
 use plan_write::Written;
 ghost use mathlib.Core.Path.{_≡_};
-ghost use Prim.Native.Nat.{_<_, min};
-ghost use Rattle.plan.specs.Fault.{numberOf};
 ghost use Rattle.plan.specs.Reading.{readPlan};
 ghost use Rattle.plan.specs.Limits.{InLimits};
 ghost use Rattle.activity.specs.Number.{activitiesVerdict};
 ghost use Rattle.judge.specs.Judge.{judgeOf};
+ghost use Rattle.numbers.specs.Codes.{codeOf};
 ghost use Rattle.drive.specs.Drive.{recordedOf, bufferOf};
 ghost use Rattle.made_up.specs.Answers.{madeCode, madeBuffer};
-ghost use Rattle.exports.specs.Codes.{codeOf, activitiesCode, writtenCode, backCode, backBuffer, recordedCode};
+ghost use Rattle.exports.specs.Codes.{activitiesCode, writtenCode, backCode, backBuffer, recordedCode};
 
 pub mod messages; // messages of the host link
 pub mod timetables; // the timetable
-
-// Document 01's number of a fault.
-fn number(f: Fault) -> u64
-    ensures { λ r. ⌜ (r ≡ numberOf f) × (r < 256) ⌝ }
-{
-    plan::numbers::number_of(f) as u64
-}
-
-// The place, or 2^32 - 1 where it is larger.
-fn short_place(place: usize) -> u64
-    ensures { λ r. ⌜ r ≡ min place 4_294_967_295 ⌝ }
-{
-    if place < 4294967295 {
-        place as u64
-    } else {
-        4294967295
-    }
-}
-
-fn code(v: Verdict) -> u64
-    ensures { λ r. ⌜ r ≡ codeOf v ⌝ }
-{
-    match v {
-        Verdict::Accepted => 0,
-        Verdict::Refused(f, place) => number(f) * 4294967296 + short_place(place),
-    }
-}
 
 // Reading alone: 0 if the bytes read as a plan, otherwise number and place.
 #[no_mangle]

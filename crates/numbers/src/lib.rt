@@ -5,6 +5,8 @@ use run::Unopened;
 ghost use mathlib.Core.Path.{_≡_};
 ghost use Rattle.run.specs.Numbers.{refusalNumber, stopNumber, openNumber, openPlace};
 
+pub mod codes; // a verdict as one number
+
 pub fn refusal_number(f: Refusal) -> u8
     ensures { λ r. ⌜ r ≡ refusalNumber f ⌝ }
 {

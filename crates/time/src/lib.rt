@@ -6,10 +6,12 @@ ghost use Rattle.time.specs.Time.{toClock, horizon};
 // The largest time that an opening gives or a path reaches: 10^15.
 pub const HORIZON: u64 = 1_000_000_000_000_000;
 
-// Specified time: counts from zero.
+// Specified time: counts from zero. Both kinds are a `uint64_t` to a host in C.
+#[repr(C)]
 pub struct Specified(pub u64);
 
 // Clock time: what the host's counter shows.
+#[repr(C)]
 pub struct Clock(pub u64);
 
 // The clock time of a specified time, for a run that starts at Ψ.

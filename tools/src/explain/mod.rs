@@ -1,5 +1,5 @@
 //! A sentence for each refusal. A search finds what breaks the rule, a second function that shares nothing with it
-//! checks the finding, and only then it is worded; otherwise number and place stand alone.
+//! checks the finding, and only then it is worded; otherwise the number has its general sentence (host/numbers.txt).
 
 mod activities;
 mod chain;

@@ -3,6 +3,7 @@
 mod explanations;
 mod markers;
 mod mutations;
+mod numbers;
 mod openings;
 mod outcomes;
 mod pictures;

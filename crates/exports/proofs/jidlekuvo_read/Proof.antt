@@ -1,6 +1,6 @@
 use mathlib.Core.Path.{ap, _∙_}
 use Rattle.plan.specs.declared.PlanRead.{PlanRead}
-use Rattle.exports.specs.Codes.{codeOf}
+use Rattle.numbers.specs.Codes.{codeOf}
 use borrow.Author.Needs.{needs}
 use Rattle.exports.proofs.jidlekuvo_read.Statement.{statement}
 use Rattle.exports.proofs.jidlekuvo_read.Tie as tie

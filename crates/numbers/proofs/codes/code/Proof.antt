@@ -1,8 +1,8 @@
 use native.Mathlib.Omega.{arith}
-use Rattle.exports.specs.Codes.{codeOf}
+use Rattle.numbers.specs.Codes.{codeOf}
 use borrow.Author.Needs.{needs}
-use Rattle.exports.proofs.code.Statement.{statement}
-use Rattle.exports.proofs.code.Tie as tie
+use Rattle.numbers.proofs.codes.code.Statement.{statement}
+use Rattle.numbers.proofs.codes.code.Tie as tie
 
 mul-result : tie.Need-mul-result
 mul-result c = omega (arith, c .number .ensures .1)

@@ -1,0 +1,27 @@
+-- A list whose elements are filled in one after the other, each from the element of another list at its place.
+use mathlib.Core.Path.{_≡_, refl, sym, _∙_, ap, subst}
+use mathlib.Core.List.{List, [], _∷_, _++_, map, append-nil}
+use Prim.Native.Nat.{ℕ, zero, suc, _+_, _≤_, _<_}
+use native.Mathlib.Nat.{le-of-suc-le-suc, not-suc-le-zero, suc-inj}
+use native.Mathlib.Numerals.{add-one}
+use lib.ListN.{length, getD, take, drop, set, length-map, drop-of-length-le}
+use lib.Seq.{take-all}
+
+pub unmapped : (X Y : Type 0) (f : X → Y) (l : List X) (n : ℕ) → length (map f l) ≡ n → length l ≡ n
+unmapped X Y f l n e = sym (length-map l f) ∙ e
+
+-- w's first i, mapped, over the rest of v
+abbrev pub filled : (X Y : Type 0) → (X → Y) → List X → List Y → ℕ → List Y
+filled X Y f w v i = map f (take i w) ++ drop i v
+
+turn : (X Y : Type 0) (f : X → Y) (w : List X) (v : List Y) (d : X) (i : ℕ) → i < length w → length w ≡ length v → set (filled X Y f w v i) i (f (getD w i d)) ≡ filled X Y f w v (suc i)
+turn X Y f [] v d i h e = absurd (not-suc-le-zero h)
+turn X Y f (x ∷ w) [] d i h e = absurd (not-suc-le-zero (subst (λ (n : ℕ). i < n) e h))
+turn X Y f (x ∷ w) (y ∷ v) d zero h e = refl
+turn X Y f (x ∷ w) (y ∷ v) d (suc i) h e = ap (λ (l : List Y). f x ∷ l) (turn X Y f w v d i (le-of-suc-le-suc h) (suc-inj e))
+
+pub fill-turn : (X Y : Type 0) (f : X → Y) (w : List X) (v u : List Y) (d : X) (i : ℕ) → i < length w → length w ≡ length v → u ≡ filled X Y f w v i → set u i (f (getD w i d)) ≡ filled X Y f w v (i + 1)
+fill-turn X Y f w v u d i h e p = ap (λ (l : List Y). set l i (f (getD w i d))) p ∙ turn X Y f w v d i h e ∙ rw add-one
+
+pub fill-end : (X Y : Type 0) (f : X → Y) (w : List X) (v : List Y) (i : ℕ) → length w ≤ i → length w ≡ length v → filled X Y f w v i ≡ map f w
+fill-end X Y f w v i h e = rw (take-all i w h, drop-of-length-le v (subst (λ (n : ℕ). n ≤ i) e h), append-nil (map f w))

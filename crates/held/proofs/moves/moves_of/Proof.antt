@@ -1,0 +1,45 @@
+use borrow.Author.Needs.{needs}
+use native.Mathlib.Omega.{arith}
+use mathlib.Core.Path.{_≡_, refl, _∙_}
+use Prim.Native.Nat.{_≤_, _-_}
+use lib.ListN.{length}
+use Rattle.held.specs.declared.HeldMove.{HeldMove}
+use Rattle.plan.specs.declared.Transition.{Transition}
+use Rattle.held.specs.Held.{moveOf}
+use Rattle.held.proofs.Filled.{filled, fill-turn, fill-end}
+use Rattle.held.proofs.moves.moves_of.Statement.{statement}
+use Rattle.held.proofs.moves.moves_of.Tie as tie
+
+abbrev Inv-loop : tie.InvT-loop
+Inv-loop held moves₀ i₀ moves i = (i ≤ 256) × (length moves₀ ≡ 256) × (moves ≡ filled HeldMove Transition moveOf held moves₀ i)
+
+abbrev μ-loop : tie.MeasureT-loop
+μ-loop held moves₀ i₀ moves i = 256 - i
+
+long : (c : tie.Start Inv-loop μ-loop) → length (c .args .t1) ≡ 256
+long c = search needs
+
+loop-again : tie.Need-loop-again Inv-loop μ-loop
+loop-again c =
+    let start = c .before .before .before .before in
+    (omega arith, refl, rw (c .move-of .ensures) (fill-turn HeldMove Transition moveOf (start .args .t1) _ _ _ _ (omega (arith, long start)) (long start) (c .before .before .before .loop .inv .2)))
+
+returns : tie.Need-returns Inv-loop μ-loop
+returns c = simp (c .before .loop .inv .2 ∙ fill-end HeldMove Transition moveOf (c .before .before .args .t1) _ (c .before .loop .i) (omega (arith, long (c .before .before))) (long (c .before .before)))
+
+pub moves-of-spec : {M : Type 1} → statement M
+moves-of-spec =
+    tie.close
+    (tie.spec
+    Inv-loop
+    μ-loop
+    (λ c. (omega arith, refl, refl))
+    (λ c. search needs)
+    (λ c. search needs)
+    (λ c κs. search needs)
+    (λ c. search needs)
+    (λ c. search needs)
+    (λ c. search needs)
+    (λ c. search needs)
+    loop-again
+    returns)

@@ -1,0 +1,46 @@
+use borrow.Author.Needs.{needs}
+use native.Mathlib.Omega.{arith}
+use mathlib.Core.Path.{_≡_, refl, _∙_}
+use Prim.Native.Nat.{_≤_, _-_}
+use lib.ListN.{length}
+use Rattle.held.specs.declared.HeldEntry.{HeldEntry}
+use Rattle.run_window.specs.declared.Entry.{Entry}
+use Rattle.held.specs.Held.{entryOf}
+use Rattle.held.proofs.Filled.{filled, fill-turn, fill-end}
+use Rattle.held.proofs.places.window_of.Statement.{statement}
+use Rattle.held.proofs.places.window_of.Tie as tie
+
+abbrev Inv-loop : tie.InvT-loop
+Inv-loop held window₀ i₀ window i = (i ≤ 512) × (length window₀ ≡ 512) × (window ≡ filled HeldEntry Entry entryOf held window₀ i)
+
+abbrev μ-loop : tie.MeasureT-loop
+μ-loop held window₀ i₀ window i = 512 - i
+
+long : (c : tie.Start Inv-loop μ-loop) → length (c .args .t1) ≡ 512
+long c = search needs
+
+loop-again : tie.Need-loop-again Inv-loop μ-loop
+loop-again c =
+    let start = c .before .before .before .before .before in
+    (omega arith, refl, rw (c .entry-of .ensures) (fill-turn HeldEntry Entry entryOf (start .args .t1) _ _ _ _ (omega (arith, long start)) (long start) (c .before .before .before .loop .inv .2)))
+
+returns : tie.Need-returns Inv-loop μ-loop
+returns c = simp (c .before .loop .inv .2 ∙ fill-end HeldEntry Entry entryOf (c .before .before .before .args .t1) _ (c .before .loop .i) (omega (arith, long (c .before .before .before))) (long (c .before .before .before)))
+
+pub window-of-spec : {M : Type 1} → statement M
+window-of-spec =
+    tie.close
+    (tie.spec
+    Inv-loop
+    μ-loop
+    (λ c κs. search needs)
+    (λ c. (omega arith, refl, refl))
+    (λ c. search needs)
+    (λ c. search needs)
+    (λ c κs. search needs)
+    (λ c. search needs)
+    (λ c. search needs)
+    (λ c. search needs)
+    (λ c. search needs)
+    loop-again
+    returns)

@@ -1,0 +1,231 @@
+// A run as numbers, for a host in C. No enum has a layout that C may know, so each is a number and the fields of its cases; a
+// number that no case has is read as case 0, so that all bytes are a run. The meaning of each number is in specs/Held.antt.
+// Fields stand by falling size and spare bytes are named: there is no padding.
+use plan::Automaton;
+use plan::NODES;
+use plan::Plan;
+use run::Run;
+use run_window::WINDOW;
+use time::Clock;
+use time::Specified;
+ghost use mathlib.Core.Path.{_≡_};
+ghost use Rattle.held.specs.Held.{planOf, runOf, heldPlan, restOf, heldOf};
+
+pub mod halts; // why a run has stopped
+pub mod moves; // transitions
+pub mod nodes; // the plan's nodes
+pub mod places; // the window
+pub mod progresses; // where the behaviour stands
+
+#[repr(C)]
+pub struct HeldNode {
+    pub duration: u32,
+    pub kind: u8,
+    pub number: u8,
+    pub peripheral: u8,
+    pub count: u8,
+    pub preds: [u8; 8],
+}
+
+#[repr(C)]
+pub struct HeldMove {
+    pub from: u8,
+    pub to: u8,
+    pub input: u8,
+    pub event: u8,
+    pub outcome: u8,
+    pub output: u8,
+    pub activity: u8,
+    pub spare: u8,
+}
+
+#[repr(C)]
+pub struct HeldPlan {
+    pub finals: u64,
+    pub nodes: [HeldNode; NODES],
+    pub count: u16,
+    pub moves: [HeldMove; 256],
+    pub belongs: [u8; 64],
+    pub sizes: [u8; 32],
+    pub outcomes: [u8; 16],
+    pub resources: u8,
+    pub peripherals: u8,
+    pub events: u8,
+    pub activities: u8,
+    pub states: u8,
+    pub initial: u8,
+}
+
+#[repr(C)]
+pub struct HeldEntry {
+    pub start: Specified,
+    pub end: Specified,
+    pub position: u32,
+    pub activity: u8,
+    pub node: u8,
+    pub phase: u8,
+    pub spare: u8,
+}
+
+#[repr(C)]
+pub struct HeldInstance {
+    pub end: Specified,
+    pub position: u32,
+    pub node: u8,
+    pub told: u8,
+    pub outcome: u8,
+    pub spare: u8,
+}
+
+#[repr(C)]
+pub struct HeldProgress {
+    pub available: [Specified; 16],
+    pub latest: [Specified; 16],
+    pub pending: [HeldInstance; 128],
+    pub position: u32,
+    pub lengths: [u8; 16],
+    pub state: u8,
+    pub spare: [u8; 3],
+}
+
+#[repr(C)]
+pub struct HeldHalt {
+    pub position: u32,
+    pub node: u8,
+    pub halt: u8,
+    pub spare: [u8; 2],
+}
+
+// All of a run but its plan: what a call may change.
+#[repr(C)]
+pub struct HeldRest {
+    pub psi: Clock,
+    pub slack: u64,
+    pub last: Clock,
+    pub window: [HeldEntry; WINDOW],
+    pub progress: HeldProgress,
+    pub halt: HeldHalt,
+}
+
+#[repr(C)]
+pub struct Held {
+    pub rest: HeldRest,
+    pub plan: HeldPlan,
+}
+
+// ---- from numbers
+
+pub fn plan_of(h: HeldPlan) -> Plan
+    ensures { λ r. ⌜ r ≡ planOf h ⌝ }
+{
+    let held_nodes = h.nodes;
+    let held_moves = h.moves;
+    let nodes = nodes::nodes_of(held_nodes);
+    let moves = moves::moves_of(held_moves);
+    let belongs = h.belongs;
+    let sizes = h.sizes;
+    let outcomes = h.outcomes;
+    Plan {
+        resources: h.resources,
+        peripherals: h.peripherals,
+        belongs,
+        events: h.events,
+        outcomes,
+        activities: h.activities,
+        sizes,
+        nodes,
+        automaton: Automaton {
+            states: h.states,
+            initial: h.initial,
+            finals: h.finals,
+            count: h.count,
+            moves,
+        },
+    }
+}
+
+pub fn run_of(h: Held) -> Run
+    ensures { λ r. ⌜ r ≡ runOf h ⌝ }
+{
+    let held_plan = h.plan;
+    let rest = h.rest;
+    let held_progress = rest.progress;
+    let held_window = rest.window;
+    let held_halt = rest.halt;
+    let plan = plan_of(held_plan);
+    let progress = progresses::progress_of(held_progress);
+    let window = places::window_of(held_window);
+    let halt = halts::halt_of(held_halt);
+    let psi = rest.psi;
+    let last = rest.last;
+    Run {
+        plan,
+        psi,
+        slack: rest.slack,
+        progress,
+        window,
+        last,
+        halt,
+    }
+}
+
+// ---- as numbers
+
+pub fn hold_plan(p: Plan) -> HeldPlan
+    ensures { λ r. ⌜ r ≡ heldPlan p ⌝ }
+{
+    let automaton = p.automaton;
+    let plan_nodes = p.nodes;
+    let plan_moves = automaton.moves;
+    let nodes = nodes::hold_nodes(plan_nodes);
+    let moves = moves::hold_moves(plan_moves);
+    let belongs = p.belongs;
+    let sizes = p.sizes;
+    let outcomes = p.outcomes;
+    HeldPlan {
+        finals: automaton.finals,
+        nodes,
+        count: automaton.count,
+        moves,
+        belongs,
+        sizes,
+        outcomes,
+        resources: p.resources,
+        peripherals: p.peripherals,
+        events: p.events,
+        activities: p.activities,
+        states: automaton.states,
+        initial: automaton.initial,
+    }
+}
+
+// All of a run but its plan.
+pub fn rest_of(run: Run) -> HeldRest
+    ensures { λ r. ⌜ r ≡ restOf run ⌝ }
+{
+    let run_progress = run.progress;
+    let run_window = run.window;
+    let run_halt = run.halt;
+    let progress = progresses::hold_progress(run_progress);
+    let window = places::hold_window(run_window);
+    let halt = halts::hold_halt(run_halt);
+    let psi = run.psi;
+    let last = run.last;
+    HeldRest {
+        psi,
+        slack: run.slack,
+        last,
+        window,
+        progress,
+        halt,
+    }
+}
+
+pub fn hold_run(run: Run) -> Held
+    ensures { λ r. ⌜ r ≡ heldOf run ⌝ }
+{
+    let run_plan = run.plan;
+    let rest = rest_of(run);
+    let plan = hold_plan(run_plan);
+    Held { rest, plan }
+}

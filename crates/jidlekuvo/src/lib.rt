@@ -1,0 +1,142 @@
+// What a host in C or Rust links: a run that it keeps between two calls. The run crosses as numbers (crate held), and so do the
+// replies; the header is host/include/jidlekuvo.h.
+use held::Held;
+use held::HeldRest;
+use run::Call;
+use run::Run;
+use time::Clock;
+ghost use mathlib.Core.Path.{_≡_};
+ghost use Rattle.judge.specs.Judge.{judgeOf};
+ghost use Rattle.numbers.specs.Codes.{codeOf};
+ghost use Rattle.run.specs.Calls.{callOf, askOf, completionOf, outcomeOf};
+ghost use Rattle.run.specs.Opening.{openOf};
+ghost use Rattle.held.specs.Held.{runOf};
+ghost use Rattle.jidlekuvo.specs.Replies.{toldOf};
+ghost use Rattle.jidlekuvo.specs.Host.{abi, clock, openedAs, heldAfter, steppedTo, askStep, completionStep, outcomeStep};
+
+pub mod replies; // what is answered, as numbers
+
+// What is answered: its kind; the number and place of a refusal; position, activity and node of a start; position and node of a stop.
+#[repr(C)]
+pub struct HostReply {
+    pub place: u64,
+    pub position: u32,
+    pub kind: u8,
+    pub number: u8,
+    pub activity: u8,
+    pub node: u8,
+}
+
+// The answer to an opening; a refused one hands back a run of zeros.
+#[repr(C)]
+pub struct HeldOpened {
+    pub run: Held,
+    pub reply: HostReply,
+}
+
+// The answer to a call, and all of the run but its plan after it.
+pub struct Stepped {
+    pub rest: HeldRest,
+    pub reply: HostReply,
+}
+
+// ---- a call
+
+fn step(h: Held, c: Call) -> Stepped
+    ensures { λ r. ⌜ r ≡ steppedTo h (callOf (runOf h) c) ⌝ }
+{
+    let run = held::run_of(h);
+    let halt = run.halt;
+    let answer = run.call(c);
+    let told = answer.reply;
+    let reply = replies::told(told);
+    if replies::is_kept(halt, told) {
+        let rest = h.rest;
+        return Stepped { rest, reply };
+    }
+    let after = answer.run;
+    let rest = held::rest_of(after);
+    Stepped { rest, reply }
+}
+
+fn ask(h: Held, t: u64) -> Stepped
+    ensures { λ r. ⌜ r ≡ askStep h t ⌝ }
+{
+    step(h, Call::Ask(Clock(t)))
+}
+
+fn completion(h: Held, t: u64, position: u32, node: u8) -> Stepped
+    ensures { λ r. ⌜ r ≡ completionStep h t position node ⌝ }
+{
+    step(h, Call::Completion(Clock(t), position, node))
+}
+
+fn outcome(h: Held, t: u64, position: u32, node: u8, o: u8) -> Stepped
+    ensures { λ r. ⌜ r ≡ outcomeStep h t position node o ⌝ }
+{
+    step(h, Call::Outcome(Clock(t), position, node, o))
+}
+
+// ---- what the host calls
+
+// Changes whenever a run's bytes, or what they mean, change: a host built for another number must not call.
+#[no_mangle]
+pub extern "C" fn jidlekuvo_abi() -> u32
+    ensures { λ r. ⌜ r ≡ abi ⌝ }
+{
+    1
+}
+
+// The whole verdict: 0 if the plan is accepted, otherwise number and place.
+#[no_mangle]
+pub extern "C" fn jidlekuvo_judge(bytes: &[u8]) -> u64
+    ensures { λ r. ⌜ r ≡ codeOf (judgeOf (now (bytes .entry)) .verdict) ⌝ }
+{
+    numbers::codes::code(judge::verdict(bytes))
+}
+
+#[no_mangle]
+pub extern "C" fn jidlekuvo_open(plan: &[u8], psi: u64, slack: u64, available: &[u64]) -> HeldOpened
+    ensures { λ r. ⌜ r ≡ openedAs (openOf (now (plan .entry)) (clock psi) slack (now (available .entry))) ⌝ }
+{
+    let opened = Run::open(plan, Clock(psi), slack, available);
+    let opening = opened.opening;
+    let reply = replies::told_opening(opening);
+    let made = opened.run;
+    let run = held::hold_run(made);
+    HeldOpened { run, reply }
+}
+
+// A call writes all of the run but its plan.
+#[no_mangle]
+pub extern "C" fn jidlekuvo_ask(run: &mut Held, t: u64) -> HostReply
+    ensures { λ r. ⌜ (r ≡ toldOf (askOf (runOf (now (run .entry))) (clock t) .reply)) × (now (run .exit) ≡ heldAfter (now (run .entry)) (askOf (runOf (now (run .entry))) (clock t))) ⌝ }
+{
+    let s = ask(*run, t);
+    run.rest = s.rest;
+    s.reply
+}
+
+#[no_mangle]
+pub extern "C" fn jidlekuvo_completion(run: &mut Held, t: u64, position: u32, node: u8) -> HostReply
+    ensures { λ r. ⌜ (r ≡ toldOf (completionOf (runOf (now (run .entry))) (clock t) position node .reply)) × (now (run .exit) ≡ heldAfter (now (run .entry)) (completionOf (runOf (now (run .entry))) (clock t) position node)) ⌝ }
+{
+    let s = completion(*run, t, position, node);
+    run.rest = s.rest;
+    s.reply
+}
+
+#[no_mangle]
+pub extern "C" fn jidlekuvo_outcome(
+    run: &mut Held,
+    t: u64,
+    position: u32,
+    node: u8,
+    o: u8,
+) -> HostReply
+    ensures { λ r. ⌜ (r ≡ toldOf (outcomeOf (runOf (now (run .entry))) (clock t) position node o .reply)) × (now (run .exit) ≡ heldAfter (now (run .entry)) (outcomeOf (runOf (now (run .entry))) (clock t) position node o)) ⌝ }
+{
+    let s = outcome(*run, t, position, node, o);
+    run.rest = s.rest;
+    s.reply
+}

@@ -1,0 +1,2 @@
+-- Answers as numbers, for callers in another language.
+pub mod Codes
