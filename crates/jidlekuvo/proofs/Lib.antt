@@ -1,3 +1,2 @@
 -- What the proofs share.
 pub mod Stepping
-pub mod Store

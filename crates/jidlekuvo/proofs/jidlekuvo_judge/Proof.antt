@@ -9,5 +9,3 @@ returns c = c .code .ensures ∙ ap codeOf (c .before .verdict .ensures)
 
 pub jidlekuvo-judge-spec : {M : Type 1} → statement M
 jidlekuvo-judge-spec = tie.close (tie.spec (λ c κs. search needs) (λ c κs. search needs) returns)
-
--- x

@@ -1,6 +1,5 @@
 use borrow.Author.Needs.{needs}
-use mathlib.Core.Path.{_∙_, ap}
-use Rattle.run.specs.declared.Opened.{Opened}
+use mathlib.Core.Path.{ap}
 use Rattle.jidlekuvo.specs.Host.{openedAs}
 use Rattle.jidlekuvo.proofs.jidlekuvo_open.Statement.{statement}
 use Rattle.jidlekuvo.proofs.jidlekuvo_open.Tie as tie
