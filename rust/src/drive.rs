@@ -129,7 +129,7 @@ fn encode_call(call: &Call, out: &mut Vec<u8>) {
     }
 }
 
-fn record(answer: u8, second: u8, node: u8, position: u32, place: u64) -> [u8; RECORD] {
+pub(crate) fn record(answer: u8, second: u8, node: u8, position: u32, place: u64) -> [u8; RECORD] {
     let mut record = [answer, second, node, 0, 0, 0, 0, 0, 0, 0, 0, 0, 0, 0, 0, 0];
     record[4..8].copy_from_slice(&position.to_le_bytes());
     record[8..].copy_from_slice(&place.to_le_bytes());

@@ -9,6 +9,8 @@
 ))]
 
 use jidlekuvo_reference::compare::hits::{wanted_of_fields, wanted_of_files, Hits};
+#[cfg(feature = "rattle_host")]
+use jidlekuvo_reference::compare::host;
 use jidlekuvo_reference::compare::smaller::smallest_file;
 use jidlekuvo_reference::compare::threads::in_threads;
 use jidlekuvo_reference::compare::{rattle, settings, Failure};
@@ -28,8 +30,11 @@ fn difference(bytes: &[u8]) -> Option<String> {
     pairs.push(("read", word(read(bytes)), rattle::read(bytes)));
     #[cfg(feature = "rattle_activities")]
     pairs.push(("activities", word(verdict::read_and_judge_activities(bytes)), rattle::activities(bytes)));
+    let whole = word(verdict::judge(bytes));
     #[cfg(feature = "rattle_judge")]
-    pairs.push(("judge", word(verdict::judge(bytes)), rattle::judge(bytes)));
+    pairs.push(("judge", whole, rattle::judge(bytes)));
+    #[cfg(feature = "rattle_host")]
+    pairs.push(("judge, for a host", whole, host::judge(bytes)));
     let (what, rust, rattle) = pairs.into_iter().find(|(_, rust, rattle)| rust != rattle)?;
     let told = |word: u64| format!("{} at {}", word >> 32, word & 0xFFFF_FFFF);
     Some(format!("{what}: Rust {}, Rattle {}", told(rust), told(rattle)))

@@ -1,5 +1,5 @@
-//! Openings and call lists of every kind of host through both builds. The Rattle side's log is
-//! also checked by itself against demand 3, now and then.
+//! Openings and call lists of every kind of host through both builds, and through the functions that a host
+//! links. The Rattle side's log is also checked by itself against demand 3, now and then.
 
 #![cfg(feature = "rattle_drive")]
 
@@ -49,6 +49,27 @@ fn compared(input: &[u8], length: usize) -> Result<(Vec<u8>, Ties), Failure> {
     })
 }
 
+/// The functions that a host links, each call given the run that the one before left, answer as both builds do.
+#[cfg(feature = "rattle_host")]
+fn host_agrees(input: &[u8], records: &[u8]) -> Result<(), Failure> {
+    use jidlekuvo_reference::compare::host::{difference, LINKED};
+    if difference(LINKED, input, records).is_none() {
+        return Ok(());
+    }
+    let again = |tried: &[u8]| {
+        let mut ours = buffer(length_of(tried));
+        rattle::drive(tried, &mut ours);
+        difference(LINKED, tried, &ours)
+    };
+    let smallest = smallest_call_list(input, |tried| again(tried).is_some());
+    Err(Failure::new(again(&smallest).unwrap_or_default(), &smallest))
+}
+
+#[cfg(not(feature = "rattle_host"))]
+fn host_agrees(_: &[u8], _: &[u8]) -> Result<(), Failure> {
+    Ok(())
+}
+
 /// A buffer that is too short: 36, and it stays as it was.
 fn refused_for(input: &[u8], length: usize) -> Result<(), Failure> {
     let mut out = buffer(length);
@@ -96,6 +117,7 @@ fn call_lists_agree() {
     let case = |random: &mut Random, hits: &mut Hits| {
         let input = inputs::call_list(random);
         let (records, ties) = buffers_compared(random, &input)?;
+        host_agrees(&input, &records)?;
         ties.count_of_an_opening(hits).map_err(|what| Failure::new(what, &input))?;
         demand_3_holds(&input, &records, hits)
     };

@@ -2,12 +2,15 @@
 //! shrinking, and the functions of the Rattle side.
 
 pub mod hits;
+#[cfg(feature = "rattle_host")]
+pub mod host;
 pub mod link;
 pub mod markers;
 pub mod rattle;
 pub mod settings;
 pub mod shrink;
 pub mod smaller;
+pub mod stack;
 pub mod threads;
 pub mod ties;
 

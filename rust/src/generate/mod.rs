@@ -4,6 +4,7 @@ pub mod activity;
 pub mod automaton;
 pub mod damage;
 pub mod hosts;
+pub mod in_time;
 pub mod inputs;
 pub mod layout;
 pub mod made_up;

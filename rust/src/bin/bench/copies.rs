@@ -112,7 +112,9 @@ pub fn print() -> Result<()> {
     let take = taking().ok_or_else(|| Error::other("memcpy is not counted: run rust/copies"))?;
     let own = Names::of(&std::env::current_exe()?)?;
     let mut table = vec![];
-    for Case { name, units, rattle, .. } in files::cases().into_iter().chain(runs::cases()) {
+    let for_a_host = |case: Case| Case { name: format!("{}, for a host", case.name), ..case };
+    let held = runs::held().into_iter().map(for_a_host);
+    for Case { name, units, rattle, .. } in files::cases().into_iter().chain(runs::cases()).chain(held) {
         let Some(mut work) = rattle else { continue };
         table.push(told(&name, &of_work(&mut work, units, take), &own));
     }

@@ -22,3 +22,12 @@ linked!(activities, "rattle_activities", Verdict);
 linked!(judge, "rattle_judge", Verdict);
 linked!(drive, "rattle_drive", Driver);
 linked!(link, "rattle_link", Driver);
+
+/// The functions that a host links, in the form of `drive`.
+pub fn host() -> Option<Driver> {
+    #[cfg(feature = "rattle_host")]
+    let found: Option<Driver> = Some(jidlekuvo_reference::compare::host::drive);
+    #[cfg(not(feature = "rattle_host"))]
+    let found: Option<Driver> = None;
+    found
+}

@@ -2,7 +2,7 @@
 //! orientation. docs/BENCHMARKS.md says how to read them.
 
 use cases::Case;
-use rows::{print_head, print_markdown, Row, Section};
+use rows::{print_head, print_markdown, Columns, Row, Section, BUILDS};
 use std::io::Result;
 use std::process::ExitCode;
 
@@ -18,21 +18,37 @@ mod stack;
 mod typical;
 
 const USAGE: &str =
-    "usage: bench [--runs N] [GROUP..]   (groups: files, runs, programs, stack, growth; without one: all)";
+    "usage: bench [--runs N] [GROUP..]   (groups: files, runs, host, programs, stack, growth; without one: all)";
 
 /// Rows of one unit, told as they are measured.
 struct Group {
     name: &'static str,
     title: &'static str,
+    columns: Columns,
     rows: fn(&mut dyn FnMut(Row)) -> Result<()>,
 }
 
-const GROUPS: [Group; 5] = [
-    Group { name: "files", title: "plan files, microseconds", rows: |tell| timed(files::cases(), tell) },
-    Group { name: "runs", title: "runs, microseconds", rows: |tell| timed(runs::cases(), tell) },
-    Group { name: "programs", title: "programs, microseconds", rows: programs::rows },
-    Group { name: "stack", title: "stack, thousands of bytes", rows: stacks },
-    Group { name: "growth", title: "growth, microseconds", rows: |tell| timed(files::growth(), tell) },
+/// A group whose columns are the builds.
+const fn of_builds(
+    name: &'static str,
+    title: &'static str,
+    rows: fn(&mut dyn FnMut(Row)) -> Result<()>,
+) -> Group {
+    Group { name, title, columns: BUILDS, rows }
+}
+
+const GROUPS: [Group; 6] = [
+    of_builds("files", "plan files, microseconds", |tell| timed(files::cases(), tell)),
+    of_builds("runs", "runs, microseconds", |tell| timed(runs::cases(), tell)),
+    Group {
+        name: "host",
+        title: "the proved build by a list of calls and for a host, microseconds",
+        columns: ["Run", "Held"],
+        rows: |tell| timed(runs::held(), tell),
+    },
+    of_builds("programs", "programs, microseconds", programs::rows),
+    of_builds("stack", "stack, thousands of bytes", stacks),
+    of_builds("growth", "growth, microseconds", |tell| timed(files::growth(), tell)),
 ];
 
 fn timed(cases: Vec<Case>, tell: &mut dyn FnMut(Row)) -> Result<()> {
@@ -63,13 +79,13 @@ fn wanted(mut arguments: impl Iterator<Item = String>) -> Option<(usize, Vec<&'s
 }
 
 fn section(group: &Group) -> Result<Section> {
-    print_head(group.title);
+    print_head(group.title, group.columns);
     let mut rows = vec![];
     (group.rows)(&mut |row| {
         row.print();
         rows.push(row);
     })?;
-    Ok(Section { title: group.title, rows })
+    Ok(Section { title: group.title, columns: group.columns, rows })
 }
 
 fn measured(runs: usize, groups: &[&Group]) -> Result<Vec<Vec<Section>>> {

@@ -8,10 +8,16 @@ pub struct Row {
     pub rattle: Option<f64>,
 }
 
+/// What the two columns of figures hold.
+pub type Columns = [&'static str; 2];
+
+pub const BUILDS: Columns = ["Rust", "Rattle"];
+
 /// The rows of one unit.
 #[derive(Clone)]
 pub struct Section {
     pub title: &'static str,
+    pub columns: Columns,
     pub rows: Vec<Row>,
 }
 
@@ -20,7 +26,7 @@ impl Row {
         Row { name: name.to_string(), rust, rattle }
     }
 
-    /// Rattle to Rust; none where either lacks or Rust is not above 0.
+    /// The second column to the first; none where either lacks or the first is not above 0.
     fn ratio(&self) -> Option<f64> {
         let rust = self.rust.filter(|&rust| rust > 0.0)?;
         Some(self.rattle? / rust)
@@ -32,8 +38,8 @@ impl Row {
     }
 }
 
-pub fn print_head(title: &str) {
-    println!("{title:<60} {:>11} {:>11} {:>7}", "Rust", "Rattle", "ratio");
+pub fn print_head(title: &str, [first, second]: Columns) {
+    println!("{title:<60} {first:>11} {second:>11} {:>7}", "ratio");
 }
 
 fn nothing() -> String {
@@ -80,7 +86,8 @@ fn joined(runs: &[&Row]) -> String {
 /// The tables of some runs, which have the same sections and rows.
 pub fn print_markdown(runs: &[Vec<Section>]) {
     for (at, section) in runs[0].iter().enumerate() {
-        println!("\n| {} | Rust | Rattle | ratio |\n|---|---|---|---|", section.title);
+        let [first, second] = section.columns;
+        println!("\n| {} | {first} | {second} | ratio |\n|---|---|---|---|", section.title);
         for row in 0..section.rows.len() {
             let of_runs: Vec<&Row> = runs.iter().map(|run| &run[at].rows[row]).collect();
             println!("{}", joined(&of_runs));

@@ -3,55 +3,15 @@
 use crate::cases::{Case, Work};
 use crate::linked::{self, Driver};
 use jidlekuvo_reference::drive::{self, drive, RECORD};
+use jidlekuvo_reference::generate::in_time::{calls_in_time, opening_of, plan_t_read};
 use jidlekuvo_reference::generate::markers::marked_path;
 use jidlekuvo_reference::generate::messages::sent;
-use jidlekuvo_reference::generate::{plan_t, plans};
+use jidlekuvo_reference::generate::plans;
 use jidlekuvo_reference::link;
-use jidlekuvo_reference::plan_file::{encode, read, Kind, Plan};
-use jidlekuvo_reference::run::{Call, Opening, Reply, Request, Run};
+use jidlekuvo_reference::run::{Call, Opening, Request};
 
 /// How many calls a row over a full window takes.
 const CALLS: usize = 20;
-
-fn opening_of(plan: &Plan) -> Opening {
-    let availabilities = vec![0; plan.resources as usize];
-    Opening { plan: encode(plan), psi: 1_000_000, slack: 500, availabilities }
-}
-
-fn plan_t_read() -> Plan {
-    read(&plan_t()).expect("T reads")
-}
-
-/// The next call of a host that starts and reports every node in time; none at the end.
-fn next_in_time(run: &Run, opening: &Opening) -> Option<Call> {
-    let window = run.window();
-    let start = window.iter().filter(|e| !e.started).map(|e| e.time.start).min();
-    let end = window.iter().filter(|e| e.started).min_by_key(|e| e.time.completion);
-    let Some(end) = end.filter(|e| start.is_none_or(|start| start >= e.time.completion)) else {
-        return start.map(|start| Call { reading: opening.psi + start, request: Request::Ask });
-    };
-    let (position, node) = (end.time.position as u32, end.time.node);
-    let kind = run.plan().activities[end.time.activity as usize][node as usize].kind;
-    let request = match kind {
-        Kind::Event(_) => Request::Outcome { position, node, outcome: 0 },
-        _ => Request::Completion { position, node },
-    };
-    Some(Call { reading: opening.psi + end.time.completion - 1, request })
-}
-
-/// The first calls of such a host.
-fn calls_in_time(opening: &Opening, count: usize) -> Vec<Call> {
-    let (_, mut run) = Run::open(opening);
-    let mut calls = Vec::new();
-    while calls.len() < count {
-        let Some(call) = next_in_time(&run, opening) else { break };
-        let (reply, next) = run.call(call);
-        assert!(matches!(reply, Reply::Start { .. } | Reply::Taken), "{reply:?}");
-        run = next;
-        calls.push(call);
-    }
-    calls
-}
 
 /// The form in which an opening and calls are put to both builds.
 struct Form {
@@ -106,7 +66,10 @@ impl Drive {
 }
 
 fn driving(name: &str, opening: &Opening, calls: &[Call]) -> Case {
-    let form = called_by_records();
+    driving_by(called_by_records(), name, opening, calls)
+}
+
+fn driving_by(form: Form, name: &str, opening: &Opening, calls: &[Call]) -> Case {
     let drives = Drive::new(&form, opening, calls);
     let rattle = form.rattle.map(|function| drives.work(function));
     Case { name: name.to_string(), units: 1.0, rust: drives.work(form.rust), rattle }
@@ -205,6 +168,38 @@ pub fn cases() -> Vec<Case> {
     ];
     cases.extend(asks_over_the_link());
     cases
+}
+
+/// The proved build by `jidlekuvo_drive`, which keeps a `Run`, beside the functions that a host links, over a `Held`.
+fn called_for_a_host() -> Option<Form> {
+    let for_a_host = linked::host()?;
+    let by_records = called_by_records();
+    Some(Form { rust: by_records.rattle?, rattle: Some(for_a_host), ..by_records })
+}
+
+/// Openings, asks, reports and outcomes in both ways; none where one of them is not there.
+pub fn held() -> Vec<Case> {
+    let (t, largest) = (opening_of(&plan_t_read()), opening_of(&plans::largest_plan()));
+    let (full, loading) = (full_opening(), loading_opening());
+    let absent = Request::Completion { position: 77, node: 1 };
+    let rows = [
+        ("open plan T", &t, vec![], 0),
+        ("open the largest accepted plan", &largest, vec![], 0),
+        ("ask of plan T (wait)", &t, repeated(&t, Request::Ask), 0),
+        ("ask over a full window (wait)", &full, repeated(&full, Request::Ask), 0),
+        ("report over a full window (52)", &full, repeated(&full, absent), 0),
+        ("start or report while a full window empties", &full, calls_in_time(&full, 3 + CALLS), 3),
+        ("an outcome that loads a path of 75 nodes", &loading, calls_in_time(&loading, 2), 1),
+        ("an outcome that loads 1 node into a window of 511", &full, calls_in_time(&full, 3), 2),
+    ];
+    let row = |(name, opening, calls, before): (&str, &Opening, Vec<Call>, usize)| {
+        let form = called_for_a_host()?;
+        Some(match calls.is_empty() {
+            true => driving_by(form, name, opening, &calls),
+            false => calling_by(form, name, opening, &calls, before),
+        })
+    };
+    rows.into_iter().filter_map(row).collect()
 }
 
 /// Openings, for the stack that they need.
