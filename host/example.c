@@ -247,7 +247,7 @@ static ending answer(host *it, int count, char **words)
     }
     free(bytes);
     free(it->table.rows);
-    return fflush(stdout) == 0 ? ending : NO_ANSWER;
+    return fflush(stdout) == 0 && !ferror(stdout) ? ending : NO_ANSWER;
 }
 
 int main(int count, char **words)
@@ -258,12 +258,13 @@ int main(int count, char **words)
     it.mode = count > 1 ? mode_of(words[1]) : IN_TIME;
     words += it.mode == IN_TIME ? 1 : 2;
     count -= it.mode == IN_TIME ? 1 : 2;
-    it.given = outcomes;
-    it.events = outcomes + count;
-    if (outcomes != NULL && count > 0 && words[0][0] != '-' && read_outcomes(outcomes, words + 1, count - 1))
+    if (outcomes != NULL && count > 0 && words[0][0] != '-' && read_outcomes(outcomes, words + 1, count - 1)) {
+        it.given = outcomes;
+        it.events = outcomes + count;
         ending = answer(&it, count, words);
-    else
+    } else {
         fprintf(stderr, "usage: ./timetable PLAN [OUTCOME..] | example [--late|--overdue|--silent] PLAN [OUTCOME..]\n");
+    }
     free(outcomes);
     return (int)ending;
 }

@@ -32,6 +32,11 @@ static uint8_t *load_bytes(const char *name, size_t *length)
     return bytes;
 }
 
+static bool is_white(uint8_t byte)
+{
+    return byte == ' ' || byte == '\t' || byte == '\n' || byte == '\r' || byte == '\f';
+}
+
 static int digit_of(int c)
 {
     return isdigit(c) ? c - '0' : tolower(c) - 'a' + 10;
@@ -45,7 +50,7 @@ static size_t from_hexadecimal(uint8_t *text, size_t length)
     for (size_t n = 0; n < length; n++) {
         uint8_t byte = text[n];
         is_comment = byte == '#' || (is_comment && byte != '\n');
-        if (is_comment || isspace(byte))
+        if (is_comment || is_white(byte))
             continue;
         if (!isxdigit(byte))
             return SIZE_MAX;
@@ -58,7 +63,7 @@ static size_t from_hexadecimal(uint8_t *text, size_t length)
 uint8_t *plan_load(const char *name, size_t *length)
 {
     uint8_t *bytes = load_bytes(name, length);
-    if (bytes == NULL || *length == 0 || !(isxdigit(*bytes) || isspace(*bytes) || *bytes == '#'))
+    if (bytes == NULL || *length == 0 || !(isxdigit(*bytes) || is_white(*bytes) || *bytes == '#'))
         return bytes;
     *length = from_hexadecimal(bytes, *length);
     if (*length != SIZE_MAX)

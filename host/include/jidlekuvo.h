@@ -5,7 +5,7 @@
  *     initialised; a run and availabilities are aligned to 8 bytes, as their types ask
  *   - while a call lasts, nobody else reads or writes its run, and nobody writes its bytes or availabilities
  *   - jidlekuvo_abi() equals JIDLEKUVO_ABI
- *   - the stack has the room that docs/HOST.md gives for each function
+ *   - the stack has the room that host/stack.txt gives for each function (docs/HOST.md, "Stack")
  * Nothing else: every function answers whatever numbers and bytes it is given, a run of any bytes too. A run may be copied,
  * moved and stored as bytes; there is nothing to free. The library has no data of its own, so calls for different runs may go
  * on at the same time.
@@ -32,7 +32,7 @@ extern "C" {
 #define JIDLEKUVO_WAIT 2    /* nothing is due */
 #define JIDLEKUVO_DONE 3    /* the plan has ended, and everything was reported */
 #define JIDLEKUVO_TAKEN 4   /* the report counts */
-#define JIDLEKUVO_REFUSED 5 /* number; place, of an opening; the run is as it was */
+#define JIDLEKUVO_REFUSED 5 /* number; of a call, the run is as it was; of an opening, place, and the run is one of zeros */
 #define JIDLEKUVO_STOPPED 6 /* number; position and node, of 41 and 42; every later call answers the same */
 
 typedef struct jidlekuvo_reply {

@@ -85,7 +85,7 @@ static inline jidlekuvo_meaning jidlekuvo_meaning_of(uint8_t number)
         {25, "plan's author", "", "on a path an event is processed before it is emitted, or left over at the end"},
         {26, "plan's author", "", "on a path more than 8 of one event are pending"},
         {30, "host that opens", "", "there must be one availability for each resource of the plan"},
-        {31, "host that opens", "", "the start time or an availability is above 10^15"},
+        {31, "host that opens", "", "psi, the start time, or an availability is above 10^15"},
         {32, "host that opens", "", "the slack must be 1 to 1,000,000"},
         {33, "host that opens", "activity", "an action or event does not last longer than the slack"},
         {36, "host that lends", "", "the buffer is too short, and is left as it was"},

@@ -1,4 +1,5 @@
-//! Links libjidlekuvo.a: from the folder that JIDLEKUVO_LIB_DIR names, otherwise from the repository's target/staticlib.
+//! Links libjidlekuvo.a: from the folder that JIDLEKUVO_LIB_DIR names by an absolute path, otherwise from the repository's
+//! target/staticlib.
 
 use std::env;
 use std::path::PathBuf;
@@ -11,6 +12,7 @@ fn main() {
         None => PathBuf::from(env::var_os("CARGO_MANIFEST_DIR").expect("cargo sets it"))
             .join("../../target/staticlib"),
     };
+    assert!(folder.is_absolute(), "JIDLEKUVO_LIB_DIR is no absolute path: {}", folder.display());
     let library = folder.join("libjidlekuvo.a");
     if !library.exists() {
         panic!("{} is not there: build it first (rt staticlib jidlekuvo)", library.display());

@@ -31,9 +31,6 @@ static int is_written_whole(void)
 
 int main(void)
 {
-    _Static_assert(sizeof(jidlekuvo_run) == JIDLEKUVO_RUN_SIZE, "the run's size is the made one");
-    _Static_assert(sizeof(jidlekuvo_reply) == 16, "a reply has 16 bytes");
-    _Static_assert(alignof(jidlekuvo_run) == 8, "a run is aligned to 8");
     CHECK(written(PLAN_T, sizeof PLAN_T) == sizeof(jidlekuvo_opened) && is_written_whole());
     CHECK(written(PLAN_T, 5) == sizeof(jidlekuvo_opened) && is_written_whole());
     printf("run %zu opened %zu reply %zu align %zu\n", sizeof(jidlekuvo_run), sizeof(jidlekuvo_opened), sizeof(jidlekuvo_reply),

@@ -76,7 +76,8 @@ pub fn arguments(words: &[String]) -> Result<Arguments, String> {
         option(&mut given, word, value)?;
     }
     if plain.is_empty() {
-        return Err(format!("no plan is named\n{USAGE}"));
+        let lacking = if *command == Command::Number { "no number is given" } else { "no plan is named" };
+        return Err(format!("{lacking}\n{USAGE}"));
     }
     given.plan = plain.remove(0);
     given.outcomes = plain;

@@ -61,7 +61,7 @@ written log [] rs = log
 written log (c ∷ cs) [] = log
 written log (c ∷ cs) (r ∷ rs) = written (said c (replyOf r) ∷ log) cs rs
 
--- and the run that its bytes are in the end
+-- and the run that its bytes are read as in the end
 abbrev pub hosted : Held → List Call → Driven
 hosted h cs = record { log = written [] cs (repliesTo h cs); run = runOf (leftByAll h cs) }
 

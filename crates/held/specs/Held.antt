@@ -1,6 +1,6 @@
 -- A run as numbers, and what run any such numbers are. Each case of an enum has a number; a number that no case has is read as
 -- case 0, which is named first: action, nothing processed, the empty activity, nothing told, free, going. What a case does not
--- use is 0 and is not read, and so are spare bytes.
+-- use, and spare bytes, are written as 0 and not read.
 use mathlib.Core.Bool.{cond}
 use mathlib.Core.List.{map}
 use Prim.Native.Nat.{ℕ}
@@ -162,11 +162,11 @@ heldEntry e =
 
 -- ---- where the behaviour stands; of a pending instance, 0 nothing was told, 1 an outcome
 
-abbrev pub outcomeOf : ℕ → ℕ → Told
-outcomeOf told outcome = cond (eqb told 1) (Told.Outcome outcome) Told.Nothing
+abbrev pub toldBy : ℕ → ℕ → Told
+toldBy told outcome = cond (eqb told 1) (Told.Outcome outcome) Told.Nothing
 
 abbrev pub instanceOf : HeldInstance → Instance
-instanceOf h = record { end = h .end; position = h .position; node = h .node; told = outcomeOf (h .told) (h .outcome) }
+instanceOf h = record { end = h .end; position = h .position; node = h .node; told = toldBy (h .told) (h .outcome) }
 
 abbrev pub progressOf : HeldProgress → Progress
 progressOf h =

@@ -1,6 +1,6 @@
 // A run as numbers, for a host in C. No enum has a layout that C may know, so each is a number and the fields of its cases; a
 // number that no case has is read as case 0, so that all bytes are a run. The meaning of each number is in specs/Held.antt.
-// Fields stand by falling size and spare bytes are named: there is no padding.
+// Fields stand by falling alignment and spare bytes are named: there is no padding.
 use plan::Automaton;
 use plan::NODES;
 use plan::Plan;

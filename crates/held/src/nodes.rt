@@ -76,7 +76,6 @@ fn hold_node(n: Node) -> HeldNode
     }
 }
 
-// Zeros, which the compiler fills in at once.
 pub fn nodes_of(held: [HeldNode; NODES]) -> [Node; NODES]
     ensures { λ r. ⌜ r ≡ map nodeOf held ⌝ }
 {

@@ -7,10 +7,10 @@ use times::Progress;
 use times::Told;
 ghost use mathlib.Core.List.{map};
 ghost use mathlib.Core.Path.{_≡_};
-ghost use Rattle.held.specs.Held.{outcomeOf, instanceOf, progressOf, heldInstance, heldProgress};
+ghost use Rattle.held.specs.Held.{toldBy, instanceOf, progressOf, heldInstance, heldProgress};
 
-fn outcome_of(told: u8, outcome: u8) -> Told
-    ensures { λ r. ⌜ r ≡ outcomeOf told outcome ⌝ }
+fn told_by(told: u8, outcome: u8) -> Told
+    ensures { λ r. ⌜ r ≡ toldBy told outcome ⌝ }
 {
     if told == 1 {
         return Told::Outcome(outcome);
@@ -21,7 +21,7 @@ fn outcome_of(told: u8, outcome: u8) -> Told
 fn instance_of(h: HeldInstance) -> Instance
     ensures { λ r. ⌜ r ≡ instanceOf h ⌝ }
 {
-    let told = outcome_of(h.told, h.outcome);
+    let told = told_by(h.told, h.outcome);
     let end = h.end;
     Instance {
         end,

@@ -1,5 +1,4 @@
--- What is answered, as numbers. Kinds and zeros are those of jidlekuvo_drive's records (drive_records/specs/Records.antt): 0 opened,
--- 1 start, 2 wait, 3 done, 4 taken, 5 refused, 6 stopped.
+-- What is answered, as numbers. Kinds and zeros are those of jidlekuvo_drive's records (drive_records/specs/Records.antt).
 use mathlib.Core.Bool.{cond}
 use Prim.Native.Nat.{ℕ}
 use lib.Dec.{eqb}
@@ -31,7 +30,7 @@ openingTold o = hostReply (openingRecord o)
 
 -- ---- what a host reads in the numbers of a reply
 
--- 61, "a number no such answer has"
+-- numbers that no reply has are read as 61, which no call is answered with
 abbrev pub unlisted : Reply
 unlisted = Reply.Refused Refusal.Unlisted
 

@@ -16,7 +16,8 @@ ghost use Rattle.jidlekuvo.specs.Host.{abi, clock, openedAs, heldAfter, 
 
 pub mod replies; // what is answered, as numbers
 
-// What is answered: its kind; the number and place of a refusal; position, activity and node of a start; position and node of a stop.
+// What is answered: its kind; the number of a refusal or stop; the place of a refused opening; position, activity and node of a
+// start; position and node of a stop that names one. What a kind does not use is 0.
 #[repr(C)]
 pub struct HostReply {
     pub place: u64,
@@ -79,7 +80,7 @@ fn outcome(h: Held, t: u64, position: u32, node: u8, o: u8) -> Stepped
 
 // ---- what the host calls
 
-// Changes whenever a run's bytes, or what they mean, change: a host built for another number must not call.
+// Raised with each change of an offset, a size, a field or the number of a case: a host built for another number must not call.
 #[no_mangle]
 pub extern "C" fn jidlekuvo_abi() -> u32
     ensures { λ r. ⌜ r ≡ abi ⌝ }

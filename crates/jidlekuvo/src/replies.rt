@@ -1,4 +1,4 @@
-// What is answered, as numbers: the kinds of jidlekuvo_drive's records (crate drive_records), with the activity in a field of its own.
+// What is answered, as numbers: the kinds of jidlekuvo_drive's records (crate drive_records), the activity in a field of its own.
 use crate::HostReply;
 use drive_records::Record;
 use run::Halt;

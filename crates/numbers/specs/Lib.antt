@@ -1,2 +1,3 @@
 -- Answers as numbers, for callers in another language.
 pub mod Codes
+pub mod Laws

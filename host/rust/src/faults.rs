@@ -1,6 +1,6 @@
 //! Why a plan or an opening is refused.
 
-use crate::library::HostReply;
+use crate::library::{kind, HostReply};
 use crate::Number;
 use std::error::Error;
 use std::fmt;
@@ -12,7 +12,7 @@ pub struct Fault {
     pub place: u64,
 }
 
-/// Why an opening is refused.
+/// Why an opening is refused. The activity of `Short` is a place, and has its type.
 #[derive(Clone, Copy, Debug, PartialEq, Eq)]
 pub enum OpenError {
     Plan(Fault),
@@ -58,8 +58,8 @@ pub(crate) fn verdict(word: u64) -> Result<(), Fault> {
 
 pub(crate) fn opening(told: HostReply) -> Result<(), OpenError> {
     match (told.kind, Number::of(told.number)) {
-        (0, _) => Ok(()),
-        (5, Some(number)) => Err(refused(number, told.place)),
+        (kind::OPENED, _) => Ok(()),
+        (kind::REFUSED, Some(number)) => Err(refused(number, told.place)),
         _ => unreachable!("no opening is answered {told:?}"),
     }
 }
@@ -76,14 +76,24 @@ fn refused(number: Number, place: u64) -> OpenError {
     }
 }
 
+/// A number with where it was met, and its sentence.
+pub(crate) fn tell(to: &mut fmt::Formatter, number: Number, at: fmt::Arguments) -> fmt::Result {
+    write!(to, "{}{at}: {}", number as u8, number.sentence())
+}
+
+impl fmt::Display for Number {
+    fn fmt(&self, to: &mut fmt::Formatter) -> fmt::Result {
+        tell(to, *self, format_args!(""))
+    }
+}
+
 impl fmt::Display for Fault {
     fn fmt(&self, to: &mut fmt::Formatter) -> fmt::Result {
-        write!(to, "refused {}", self.number as u8)?;
+        to.write_str("refused ")?;
         match self.number.place() {
-            "" => {}
-            counted => write!(to, " at {counted} {}", self.place)?,
+            "" => self.number.fmt(to),
+            counted => tell(to, self.number, format_args!(" at {counted} {}", self.place)),
         }
-        write!(to, ": {}", self.number.sentence())
     }
 }
 

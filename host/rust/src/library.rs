@@ -6,6 +6,17 @@ use crate::numbers::{ABI, RUN_SIZE};
 #[repr(C)]
 struct Held([u64; RUN_SIZE / 8]);
 
+/// The kinds of replies.
+pub mod kind {
+    pub const OPENED: u8 = 0;
+    pub const START: u8 = 1;
+    pub const WAIT: u8 = 2;
+    pub const DONE: u8 = 3;
+    pub const TAKEN: u8 = 4;
+    pub const REFUSED: u8 = 5;
+    pub const STOPPED: u8 = 6;
+}
+
 /// A reply; a field that its kind does not use is 0.
 #[repr(C)]
 #[derive(Clone, Copy, Debug, PartialEq, Eq)]

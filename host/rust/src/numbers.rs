@@ -75,7 +75,7 @@ const MEANINGS: [(Number, &str, &str, &str); 39] = [
     (Number::Unbalanced, "plan's author", "", "on a path an event is processed before it is emitted, or left over at the end"),
     (Number::TooManyPending, "plan's author", "", "on a path more than 8 of one event are pending"),
     (Number::Availabilities, "host that opens", "", "there must be one availability for each resource of the plan"),
-    (Number::Time, "host that opens", "", "the start time or an availability is above 10^15"),
+    (Number::Time, "host that opens", "", "psi, the start time, or an availability is above 10^15"),
     (Number::Slack, "host that opens", "", "the slack must be 1 to 1,000,000"),
     (Number::Short, "host that opens", "activity", "an action or event does not last longer than the slack"),
     (Number::TooShort, "host that lends", "", "the buffer is too short, and is left as it was"),

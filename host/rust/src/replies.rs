@@ -1,6 +1,7 @@
 //! What a call is answered.
 
-use crate::library::HostReply;
+use crate::faults::tell;
+use crate::library::{kind, HostReply};
 use crate::Number;
 use std::fmt;
 
@@ -79,12 +80,12 @@ impl From<HostReply> for Reply {
     fn from(told: HostReply) -> Reply {
         let HostReply { position, activity, node, .. } = told;
         match told.kind {
-            1 => Reply::Start { position, activity, node },
-            2 => Reply::Wait,
-            3 => Reply::Done,
-            4 => Reply::Taken,
-            5 => Reply::Refused(refusal(told)),
-            6 => Reply::Stopped(stop(told)),
+            kind::START => Reply::Start { position, activity, node },
+            kind::WAIT => Reply::Wait,
+            kind::DONE => Reply::Done,
+            kind::TAKEN => Reply::Taken,
+            kind::REFUSED => Reply::Refused(refusal(told)),
+            kind::STOPPED => Reply::Stopped(stop(told)),
             _ => unreachable!("no call is answered {told:?}"),
         }
     }
@@ -123,16 +124,18 @@ impl fmt::Display for Reply {
 
 impl fmt::Display for Refusal {
     fn fmt(&self, to: &mut fmt::Formatter) -> fmt::Result {
-        write!(to, "refused {}: {}", *self as u8, self.number().sentence())
+        write!(to, "refused {}", self.number())
     }
 }
 
 impl fmt::Display for Stop {
     fn fmt(&self, to: &mut fmt::Formatter) -> fmt::Result {
-        write!(to, "stopped {}", self.number() as u8)?;
-        if let Some((position, node)) = self.node() {
-            write!(to, " at position {position} node {node}")?;
+        to.write_str("stopped ")?;
+        match self.node() {
+            Some((position, node)) => {
+                tell(to, self.number(), format_args!(" at position {position} node {node}"))
+            }
+            None => self.number().fmt(to),
         }
-        write!(to, ": {}", self.number().sentence())
     }
 }

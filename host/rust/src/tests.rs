@@ -119,6 +119,14 @@ fn every_number_is_told() {
 }
 
 #[test]
+fn numbers_are_told_with_their_sentence() {
+    assert_eq!(Number::Short.to_string(), "33: an action or event does not last longer than the slack");
+    for number in Number::all() {
+        assert_eq!(number.to_string(), format!("{}: {}", number as u8, number.sentence()));
+    }
+}
+
+#[test]
 fn replies_without_a_number_are_told() {
     let told = HostReply { place: 0, position: 5, kind: 1, number: 0, activity: 9, node: 3 };
     assert_eq!(Reply::from(told).to_string(), "start position 5 activity 9 node 3");

@@ -29,7 +29,7 @@ fn records(input: &[u8]) -> Vec<u8> {
 /// The list at which a host differs from this build, and how.
 fn noticed(host: Host) -> Option<(usize, String)> {
     (0..MOST).find_map(|at| {
-        let input = inputs::call_list(&mut Random::new(settings::seed() + at as u64));
+        let input = inputs::call_list(&mut Random::new(settings::seed().wrapping_add(at as u64)));
         difference(host, &input, &records(&input)).map(|what| (at, what))
     })
 }

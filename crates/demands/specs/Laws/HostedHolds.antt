@@ -81,7 +81,7 @@ run-kept run c k = go (run .halt) refl (callOf run c .reply) refl k
     go Halt.Going e Reply.Taken q k = absurd (true≢false (sym k))
     go Halt.Going e (Reply.Stopped s) q k = absurd (true≢false (sym k))
 
--- the bytes that a call leaves are those of the run after it
+-- the bytes that a call leaves are read as the run after it
 run-left : (h : Held) (c : Call) → runOf (leftBy h c) ≡ callOf (runOf h) c .run
 unfolding runOf
 run-left h c = ap runOf (left-by h c) ∙ go (isKept (runOf h .halt) (callOf (runOf h) c .reply)) refl

@@ -1,31 +1,25 @@
 -- `opening-by`: each answer of an opening occurs in its stated condition and order and in no other. `opening-numbers`: so does
 -- each number with its place. Forwards by cases of the tests; backwards each condition settles the tests before it.
-use mathlib.Core.Path.{_≡_, refl, sym, ap, _∙_, subst}
-use mathlib.Core.Bool.{true, false, cond, _||_}
+use mathlib.Core.Path.{_≡_, refl, ap, _∙_, subst}
+use mathlib.Core.Bool.{true, false, _||_}
 use mathlib.Core.List.{List}
 use Prim.Native.Nat.{ℕ, _≤_}
-use native.Mathlib.Omega.{arith}
 use lib.Dec.{ltb, eqb}
-use borrow.Author.Tests.{ne-eqb}
 use lib.ListN.{length}
 use Rattle.basis.specs.Laws.Tells.{told-true, told-false, tells-eqb, by-tells, is-false}
 use Rattle.basis.specs.Laws.Bools.{by-test}
 use Rattle.time.specs.Time.{horizon}
 use Rattle.time.specs.declared.Clock.{Clock}
-use Rattle.plan.specs.Fault.{numberOf}
-use Rattle.plan.specs.Laws.Faults.{faultAt, fault-at, no-fault}
-use Rattle.plan.specs.declared.Fault.{Fault}
 use Rattle.plan.specs.declared.Verdict.{Verdict}
 use Rattle.judge.specs.Judge.{judgeOf}
 use Rattle.run.specs.Limits.{slackInLimits}
 use Rattle.run.specs.Loading.{load}
-use Rattle.run.specs.Numbers.{openNumber, openPlace}
+use Rattle.numbers.specs.Laws.Openings.{same-refusal}
 use Rattle.run_opening.specs.declared.Short.{Short}
 use Rattle.run_opening.specs.Given.{anyAbove}
 use Rattle.run_opening.specs.Short.{shortFrom}
 use Rattle.run.specs.Opening.{firstLoaded, begin, fresh, openPlan, openJudged, openOf}
 use Rattle.run.specs.Loading.{Loading}
-use Rattle.run.specs.declared.Unopened.{Unopened}
 use Rattle.run.specs.declared.Opening.{Opening}
 use Rattle.run.specs.declared.Opened.{Opened}
 use Rattle.demands.specs.Openings.{TimeAbove, planOf, Counted, InTime, WithSlack, Lasting, WithinHorizon, OpensBy, StatementOpeningBy, StatementOpeningNumbers}
@@ -149,41 +143,6 @@ pub opening-by : StatementOpeningBy
 opening-by bytes are psi slack ts o = (λ e. subst (OpensBy bytes psi slack ts) e (forward bytes are psi slack ts .opens), backward bytes are psi slack ts)
 
 -- ---- by number and place
-
--- the refusal of a number and a place
-abbrev refusalAt : ℕ → ℕ → Unopened
-refusalAt n place =
-    cond (eqb n 30) Unopened.Availabilities
-    (cond (eqb n 31) Unopened.Time
-    (cond (eqb n 32) Unopened.Slack
-    (cond (eqb n 33) (Unopened.Short place)
-    (cond (eqb n 43) Unopened.Full
-    (cond (eqb n 44) Unopened.Beyond
-    (Unopened.Plan (faultAt n) place))))))
-
-author-at : (f : Fault) (place : ℕ) → refusalAt (numberOf f) place ≡ Unopened.Plan f place
-author-at f place =
-    rw (
-      ne-eqb (numberOf f) 30 (no-fault f 30 refl (λ e. omega arith)),
-      ne-eqb (numberOf f) 31 (no-fault f 31 refl (λ e. omega arith)),
-      ne-eqb (numberOf f) 32 (no-fault f 32 refl (λ e. omega arith)),
-      ne-eqb (numberOf f) 33 (no-fault f 33 refl (λ e. omega arith)),
-      ne-eqb (numberOf f) 43 (no-fault f 43 refl (λ e. omega arith)),
-      ne-eqb (numberOf f) 44 (no-fault f 44 refl (λ e. omega arith)),
-    ) (ap (λ (g : Fault). Unopened.Plan g place) (fault-at f))
-
-refusal-at : (u : Unopened) → refusalAt (openNumber u) (openPlace u) ≡ u
-refusal-at (Unopened.Plan f place) = author-at f place
-refusal-at Unopened.Availabilities = refl
-refusal-at Unopened.Time = refl
-refusal-at Unopened.Slack = refl
-refusal-at (Unopened.Short a) = refl
-refusal-at Unopened.Beyond = refl
-refusal-at Unopened.Full = refl
-
--- two refusals with one number and one place are the same
-same-refusal : (u v : Unopened) → openNumber u ≡ openNumber v → openPlace u ≡ openPlace v → u ≡ v
-same-refusal u v n p = sym (refusal-at u) ∙ rw (n, p) (refusal-at v)
 
 pub opening-numbers : StatementOpeningNumbers
 opening-numbers bytes are psi slack ts u = (

@@ -16,7 +16,7 @@ use Rattle.run_checks.specs.declared.Stop.{Stop}
 use Rattle.run_checks.specs.declared.Halt.{Halt}
 use Rattle.run.specs.declared.Run.{Run}
 use Rattle.held.specs.declared.HeldPlan.{HeldPlan}
-use Rattle.held.specs.Held.{kindOf, nodeOf, kindNumber, numberIn, peripheralIn, heldNode, inputOf, outputOf, moveOf, inputNumber, inputEvent, inputOutcome, outputNumber, outputActivity, heldMove, planOf, heldPlan, phaseOf, entryOf, phaseNumber, heldEntry, outcomeOf, instanceOf, progressOf, toldNumber, toldOutcome, heldInstance, heldProgress, haltOf, heldHalt, runOf, restOf, heldOf}
+use Rattle.held.specs.Held.{kindOf, nodeOf, kindNumber, numberIn, peripheralIn, heldNode, inputOf, outputOf, moveOf, inputNumber, inputEvent, inputOutcome, outputNumber, outputActivity, heldMove, planOf, heldPlan, phaseOf, entryOf, phaseNumber, heldEntry, toldBy, instanceOf, progressOf, toldNumber, toldOutcome, heldInstance, heldProgress, haltOf, heldHalt, runOf, restOf, heldOf}
 
 -- ---- one number and its fields
 
@@ -39,7 +39,7 @@ phase-back Phase.Free = refl
 phase-back Phase.Loaded = refl
 phase-back Phase.Started = refl
 
-told-back : (t : Told) → outcomeOf (toldNumber t) (toldOutcome t) ≡ t
+told-back : (t : Told) → toldBy (toldNumber t) (toldOutcome t) ≡ t
 told-back Told.Nothing = refl
 told-back (Told.Outcome o) = refl
 

@@ -1,5 +1,5 @@
--- `refused-unchanged-held`, `stopped-unchanged-held`: a refused call, and a call to a run that keeps a stop, leave every byte of the
--- run, also a number that no case has. `kept-plan`: every call leaves the plan's bytes.
+-- `refused-unchanged-held`, `stopped-unchanged-held`: a refused call, and a call to a run that keeps a stop, leave every byte of
+-- the run, also a number that no case has.
 use mathlib.Core.Bool.{true}
 use mathlib.Core.Path.{_≡_, refl}
 use Rattle.run_checks.specs.declared.Halt.{Halt}
@@ -20,6 +20,3 @@ refused-unchanged-held h a f e = rw (e, refusal-kept (haltOf (h .rest .halt)) f)
 
 pub stopped-unchanged-held : (h : Held) (a : Answer) (s : Stop) → haltOf (h .rest .halt) ≡ Halt.Stopped s → heldAfter h a ≡ h
 stopped-unchanged-held h a s e = rw e
-
-pub kept-plan : (h : Held) (a : Answer) → heldAfter h a .plan ≡ h .plan
-kept-plan h a = refl
