@@ -4,12 +4,15 @@
 use plan::Automaton;
 use plan::NODES;
 use plan::Plan;
+use run::Halt;
 use run::Run;
+use run_window::Entry;
 use run_window::WINDOW;
 use time::Clock;
 use time::Specified;
+use times::Progress;
 ghost use mathlib.Core.Path.{_≡_};
-ghost use Rattle.held.specs.Held.{planOf, runOf, heldPlan, restOf, heldOf};
+ghost use Rattle.held.specs.Held.{planOf, runOf, heldPlan, restBy, heldOf};
 
 pub mod halts; // why a run has stopped
 pub mod moves; // transitions
@@ -200,20 +203,22 @@ pub fn hold_plan(p: Plan) -> HeldPlan
 }
 
 // All of a run but its plan.
-pub fn rest_of(run: Run) -> HeldRest
-    ensures { λ r. ⌜ r ≡ restOf run ⌝ }
+pub fn rest_of(
+    psi: Clock,
+    slack: u64,
+    last: Clock,
+    entries: [Entry; WINDOW],
+    reached: Progress,
+    stop: Halt,
+) -> HeldRest
+    ensures { λ r. ⌜ r ≡ restBy psi slack last entries reached stop ⌝ }
 {
-    let run_progress = run.progress;
-    let run_window = run.window;
-    let run_halt = run.halt;
-    let progress = progresses::hold_progress(run_progress);
-    let window = places::hold_window(run_window);
-    let halt = halts::hold_halt(run_halt);
-    let psi = run.psi;
-    let last = run.last;
+    let progress = progresses::hold_progress(reached);
+    let window = places::hold_window(entries);
+    let halt = halts::hold_halt(stop);
     HeldRest {
         psi,
-        slack: run.slack,
+        slack,
         last,
         window,
         progress,
@@ -225,7 +230,12 @@ pub fn hold_run(run: Run) -> Held
     ensures { λ r. ⌜ r ≡ heldOf run ⌝ }
 {
     let run_plan = run.plan;
-    let rest = rest_of(run);
+    let psi = run.psi;
+    let last = run.last;
+    let window = run.window;
+    let progress = run.progress;
+    let halt = run.halt;
+    let rest = rest_of(psi, run.slack, last, window, progress, halt);
     let plan = hold_plan(run_plan);
     Held { rest, plan }
 }

@@ -1,12 +1,13 @@
 // What is answered, as numbers: the kinds of jidlekuvo_drive's records (crate drive_records), the activity in a field of its own.
 use crate::HostReply;
 use drive_records::Record;
-use run::Halt;
 use run::Opening;
 use run::Reply;
+use run::Stop;
+use run_loading::Failure;
 ghost use mathlib.Core.Path.{_≡_};
 ghost use Rattle.jidlekuvo.specs.Replies.{hostReply, toldOf, openingTold};
-ghost use Rattle.jidlekuvo.specs.Host.{isKept};
+ghost use Rattle.run.specs.Inner.Calls.{replyAfter};
 
 // A record's second byte is the activity of a start, and a number otherwise.
 fn host_reply(r: Record) -> HostReply
@@ -44,19 +45,13 @@ pub fn told_opening(opening: Opening) -> HostReply
     host_reply(drive_records::opening_record(opening))
 }
 
-// Whether a call leaves every byte of the run: it was refused, or the run keeps a stop.
-pub fn is_kept(halt: Halt, reply: Reply) -> bool
-    ensures { λ r. ⌜ r ≡ isKept halt reply ⌝ }
+// What an outcome is answered: it is taken, or loading after it stops the run.
+pub fn reply_after(failure: Failure) -> Reply
+    ensures { λ r. ⌜ r ≡ replyAfter failure ⌝ }
 {
-    match halt {
-        Halt::Stopped(s) => true,
-        Halt::Going => match reply {
-            Reply::Refused(f) => true,
-            Reply::Start(p, a, n) => false,
-            Reply::Wait => false,
-            Reply::Done => false,
-            Reply::Taken => false,
-            Reply::Stopped(s) => false,
-        },
+    match failure {
+        Failure::None => Reply::Taken,
+        Failure::Full => Reply::Stopped(Stop::Full),
+        Failure::Beyond => Reply::Stopped(Stop::Beyond),
     }
 }

@@ -38,8 +38,8 @@ use Rattle.run.specs.declared.Effect.{Effect}
 use Rattle.run.specs.Limits.{runInLimits}
 use Rattle.run.specs.Calls.{answer, refuse, heard, objected, isDone, asked, kindOf, completedBy, completed, isMarker, hears, learnsBy, learns, called, askOf, completionOf, outcomeOf, callOf, readingOf}
 use Rattle.run.specs.Inner.Checks.{checkOf}
-use Rattle.run.specs.Inner.Effects.{soughtBy, foundBy, placeOf, outcomesFor, kindFound, checkedOf, refusing, completesBy, hearsAs, learnsAs, startsBy, effectOn, effectFor, effectBy, effectOf, acted, Passes, Named}
-use Rattle.run.proofs.Checking.{goes, answer-goes, answer-objects, timed, named-held}
+use Rattle.run.specs.Inner.Effects.{soughtBy, foundBy, placeOf, outcomesFor, kindFound, checkedOf, refusing, completesBy, hearsAs, learnsAs, startsBy, effectOn, effectFor, effectBy, effectOf, acted, Named}
+use Rattle.run.proofs.Checking.{goes, objected-halt, answer-goes, answer-objects, timed, state-below, loads-in-limits, named-held}
 
 -- ---- kinds that are no event
 
@@ -146,6 +146,10 @@ module _ (run : Run) where
 
 -- ---- what an effect names
 
+-- neither 50 nor a kept stop
+abbrev Passes : Run → Type 0
+Passes run = (runInLimits run ≡ true) × (run .halt ≡ Halt.Going)
+
 -- what is found stands in the window
 found-holds : (nodes : List Node) (s : Sought) (w : List Entry) (i : ℕ) (e : Entry) → firstOf nodes s w ≡ Found.At i e → Holds w i e × (i < length w)
 found-holds nodes s w i e q = let f = first-found (isSought s) (sooner nodes s) (sought-order nodes s) w i e q in (record { entry = f .stands; held = sought-held s e (f .passes) }, f .within)
@@ -158,7 +162,7 @@ module _ (run : Run) (long : length (run .window) ≡ 512) where
     named-report (Found.At i e) h = by-test (Named run) (isStarted (e .phase)) _ _ (λ s. h i e refl) (λ s. tt)
 
   named-completes : (i : ℕ) (k : Kind) → i < 512 → Passes run → Named run (completesBy i k)
-  named-completes i (Kind.Action a x) l p = (l, p)
+  named-completes i (Kind.Action a x) l p = (l, tt, p .1)
   named-completes i (Kind.Claim r) l p = tt
   named-completes i (Kind.Release r) l p = tt
   named-completes i (Kind.Event e) l p = tt
@@ -169,14 +173,14 @@ module _ (run : Run) (long : length (run .window) ≡ 512) where
   named-learns i x o (Kind.Release r) l n p = tt
   named-learns i x o (Kind.Event e) l n p =
       by-test (Named run) (ltb o (outcomesOf (run .plan) e)) (hearsAs i x e o (outcomesOf (run .plan) e)) (refusing Refusal.OutcomeLacking)
-      (λ b. by-test (Named run) (isMarker (run .plan) e) (Effect.Stores i vacant Reply.Taken) (Effect.Learns i x e o) (λ k. (l, p)) (λ k. (l, n, ltb-true o (outcomesOf (run .plan) e) b, p)))
+      (λ b. by-test (Named run) (isMarker (run .plan) e) (Effect.Stores i vacant Reply.Taken) (Effect.Learns i x e o) (λ k. (l, tt, p .1)) (λ k. (l, n, ltb-true o (outcomesOf (run .plan) e) b, loads-in-limits run (p .0), p .1)))
       (λ b. tt)
 
   module _ (p : Passes run) where
     named-call : (c : Call) (found : Found) → found ≡ firstOf (run .plan .nodes) (soughtBy (run .psi) c) (run .window)
         → Named run (effectOn c found (kindAt run found) (outcomesFor (run .plan .outcomes) (kindAt run found)))
-    named-call (Call.Ask t) Found.Nothing q = p
-    named-call (Call.Ask t) (Found.At i e) q = (named-held run (p .0) long i e (found-holds (run .plan .nodes) (Sought.Due (run .psi) t) (run .window) i e (sym q)) .0, p)
+    named-call (Call.Ask t) Found.Nothing q = (state-below run (p .0), p .1)
+    named-call (Call.Ask t) (Found.At i e) q = (named-held run (p .0) long i e (found-holds (run .plan .nodes) (Sought.Due (run .psi) t) (run .window) i e (sym q)) .0, tt, p .1)
     named-call (Call.Completion t m n) found q =
         named-report (λ f i e. completesBy i (kindAt run f)) found
         (λ i e s. named-completes i (kindAt run found) (named-held run (p .0) long i e (found-holds (run .plan .nodes) (Sought.Node m n) (run .window) i e (sym q ∙ s)) .0) p)
@@ -192,8 +196,8 @@ module _ (run : Run) (long : length (run .window) ≡ 512) where
       let h = goes run (readingOf c) (soughtBy (run .psi) c) (Check.Goes found) q found refl in
       named-call (h .limits, h .going) c found (h .found)
   named-check c (Check.Objects (Objection.Refuses f)) q = tt
-  named-check c (Check.Objects (Objection.Keeps s)) q = tt
-  named-check c (Check.Objects (Objection.Stops s)) q = tt
+  named-check c (Check.Objects (Objection.Keeps s)) q = objected-halt run (readingOf c) (soughtBy (run .psi) c) (Check.Objects (Objection.Keeps s)) q
+  named-check c (Check.Objects (Objection.Stops s)) q = objected-halt run (readingOf c) (soughtBy (run .psi) c) (Check.Objects (Objection.Stops s)) q
 
 -- ---- a call, by the effect that the code works out
 

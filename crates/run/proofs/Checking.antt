@@ -12,6 +12,7 @@ use Rattle.basis.specs.Laws.Tells.{told-true, tells-and, tells-or, tells-ltb, t
 use Rattle.time.specs.Time.{horizon}
 use Rattle.time.specs.declared.Clock.{Clock}
 use Rattle.plan.specs.Limits.{KindNames, InLimits}
+use Rattle.plan.specs.declared.Node.{Node}
 use Rattle.times.specs.Engine.{lastPosition}
 use Rattle.times.specs.Limits.{ProgressInLimits}
 use Rattle.run_limits.specs.Window.{entryInLimits}
@@ -25,9 +26,11 @@ use Rattle.run_window.specs.Window.{vacant, isFree, isHeld, nodePlace}
 use Rattle.run_window.specs.Inner.Search.{firstOf}
 use Rattle.run_window.specs.Laws.Tests.{held-unfree}
 use Rattle.run_window.specs.Places.{Holds}
+use Rattle.run_checks.specs.declared.Halt.{Halt}
+use Rattle.run_checks.specs.declared.Moment.{Moment}
 use Rattle.run_checks.specs.declared.Objection.{Objection}
 use Rattle.run_checks.specs.declared.Check.{Check}
-use Rattle.run_checks.specs.Order.{Timed, calledBy}
+use Rattle.run_checks.specs.Order.{Timed, readingThen, isBelow, firstOverdue, firstLate, timelyBy, calledBy}
 use Rattle.run_checks.specs.Laws.Checks.{Passed, passed, called-goes, called-objects}
 use Rattle.run.specs.declared.Run.{Run}
 use Rattle.run.specs.declared.Answer.{Answer}
@@ -38,10 +41,32 @@ use Rattle.run.specs.Inner.Loads.{Loads}
 
 -- ---- the answer by the checks
 
+-- a stop that is kept is the run's, and a run that is stopped kept none
+abbrev pub Objected : Halt → Check → Type 0
+Objected halt (Check.Goes k) = Unit {0}
+Objected halt (Check.Objects (Objection.Refuses f)) = Unit {0}
+Objected halt (Check.Objects (Objection.Keeps s)) = halt ≡ Halt.Stopped s
+Objected halt (Check.Objects (Objection.Stops s)) = halt ≡ Halt.Going
+
+by-reading : (below : Bool) (overdue late found : Found) → Objected Halt.Going (readingThen below overdue late Check.Objects (Check.Goes found))
+by-reading true overdue late found = tt
+by-reading false (Found.At i e) late found = refl
+by-reading false Found.Nothing (Found.At i e) found = refl
+by-reading false Found.Nothing Found.Nothing found = tt
+
+by-called : (limits : Bool) (halt : Halt) (m : Moment) (nodes : List Node) (w : List Entry) (found : Found) → Objected halt (calledBy limits halt m nodes w Check.Objects (Check.Goes found))
+unfolding timelyBy
+by-called false halt m nodes w found = tt
+by-called true (Halt.Stopped s) m nodes w found = refl
+by-called true Halt.Going m nodes w found = by-reading (isBelow m) (firstOverdue m w) (firstLate m nodes w) found
+
 module _ (run : Run) (t : Clock) (sought : Sought) (check : Check) (q : check ≡ checkOf run t sought) where
   said : check ≡ calledBy (runInLimits run) (run .halt) (momentOf run t) (run .plan .nodes) (run .window) Check.Objects (Check.Goes (firstOf (run .plan .nodes) sought (run .window)))
   unfolding checkOf
   said = q
+
+  pub objected-halt : Objected (run .halt) check
+  objected-halt = subst (Objected (run .halt)) (sym said) (by-called (runInLimits run) (run .halt) (momentOf run t) (run .plan .nodes) (run .window) (firstOf (run .plan .nodes) sought (run .window)))
 
   pub goes : (k : Found) → check ≡ Check.Goes k → Passed (runInLimits run) (run .halt) (firstOf (run .plan .nodes) sought (run .window)) k
   goes k g = passed (runInLimits run) (run .halt) (momentOf run t) (run .plan .nodes) (run .window) (firstOf (run .plan .nodes) sought (run .window)) k (sym said ∙ g)

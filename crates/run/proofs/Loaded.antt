@@ -20,7 +20,8 @@ use Rattle.run.specs.declared.Reply.{Reply}
 use Rattle.run_checks.specs.declared.Halt.{Halt}
 use Rattle.run.specs.Calls.{answer, heard, stops, cleared, afterLoading, learnt}
 use Rattle.run.specs.Loading.{Loading, loading, loadPath, load, onWay, onLoading, further, mostPending}
-use Rattle.run.specs.Inner.Calls.{haltAfter}
+use Rattle.run.specs.Inner.Calls.{replyAfter, haltAfter}
+use Rattle.run.specs.Inner.Effects.{loadedAs}
 
 -- the run with what loading made of its progress and its window
 abbrev pub within : Run → declared.Loading → Loading
@@ -76,3 +77,11 @@ module _ (run : Run) (going : run .halt ≡ Halt.Going) (t : Clock) (i : ℕ) (g
       ∙ by-failure l (l .failure)
       ∙ ap (λ (y : declared.Loading). afterLoading (y .failure) (heard run t (cleared run t i g .halt) (y .progress) (y .window))) e
       ∙ sym (ap (λ (y : Loading). afterLoading (y .failure) (y .run)) (further-parts mostPending (cleared run t i g)))
+
+  by-halt : (l : declared.Loading) (f : Failure) → answerBy t (haltAfter f) (storing run t l) ≡ answer (replyAfter f) (heard run t (haltAfter f) (l .progress) (l .window))
+  by-halt l Failure.None = rw going
+  by-halt l Failure.Full = refl
+  by-halt l Failure.Beyond = refl
+
+  pub loaded-as : (l : declared.Loading) → l ≡ parts.further (run .plan) mostPending g (cleared run t i g .window) → learnt (cleared run t i g) ≡ loadedAs run t l
+  loaded-as l e = sym (learnt-parts l e (haltAfter (l .failure)) refl) ∙ by-halt l (l .failure)

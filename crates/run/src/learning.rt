@@ -2,9 +2,11 @@
 use crate::Halt;
 use crate::Run;
 use crate::Stop;
+use plan::Plan;
 use run_loading::Failure;
 use run_loading::Loading;
 use run_window::Entry;
+use times::Progress;
 ghost use mathlib.Core.Path.{_≡_};
 ghost use Prim.Native.Nat.{_<_};
 ghost use lib.ListN.{set};
@@ -12,7 +14,11 @@ ghost use Rattle.plan.specs.Plan.{outcomesOf};
 ghost use Rattle.run_window.specs.Window.{vacant};
 ghost use Rattle.run_outcomes.specs.Told.{toldOf};
 ghost use Rattle.run_loading.specs.Loading.{further, mostPending};
-ghost use Rattle.run.specs.Inner.Loads.{Loads};
+ghost use Rattle.run_checks.specs.declared.Halt.{Halt};
+ghost use Rattle.run_checks.specs.declared.Moment.{Moment};
+ghost use Rattle.run_loading.specs.Inner.Loading.{Loads};
+ghost use Rattle.run.specs.declared.Effect.{Effect};
+ghost use Rattle.run.specs.Inner.Effects.{acted, loadedAs, runAt};
 ghost use Rattle.run.specs.Inner.Calls.{haltAfter};
 
 // Whether the run keeps a stop after loading.
@@ -28,15 +34,32 @@ pub fn halt_after(failure: Failure) -> Halt
 
 // The outcome o of event e is known, the reported node leaves the window, and the next paths are loaded: "the report and any path
 // loaded before still count".
-pub fn load_after(run: Run, i: usize, x: Entry, e: u8, o: u8) -> Loading
-    requires { ⌜ Loads run × (i < 512) × (e < run .plan .events) × (o < outcomesOf (run .plan) e) ⌝ }
-    ensures { λ r. ⌜ r ≡ further (run .plan) mostPending (toldOf (run .progress) e x o) (set (run .window) i vacant) ⌝ }
+pub fn load(
+    plan: Plan,
+    before: Progress,
+    places: [Entry; Run::WINDOW],
+    i: usize,
+    x: Entry,
+    e: u8,
+    o: u8,
+) -> Loading
+    requires { ⌜ Loads plan before × (i < 512) × (e < plan .events) × (o < outcomesOf plan e) ⌝ }
+    ensures { λ r. ⌜ (r ≡ further plan mostPending (toldOf before e x o) (set places i vacant)) × ((m : Moment) → acted (runAt plan before places m Halt.Going) (m .t) (Effect.Learns i x e o) ≡ loadedAs (runAt plan before places m Halt.Going) (m .t) r) ⌝ }
 {
-    let before = run.progress;
     let told = run_outcomes::told_of(before, e, x, o);
     let free = run_window::vacant();
-    let mut window = run.window;
+    let mut window = places;
     window[i] = free;
-    let plan = run.plan;
     run_loading::further(plan, told, window)
+}
+
+// The same of a run.
+pub fn load_after(run: Run, i: usize, x: Entry, e: u8, o: u8) -> Loading
+    requires { ⌜ Loads (run .plan) (run .progress) × (i < 512) × (e < run .plan .events) × (o < outcomesOf (run .plan) e) ⌝ }
+    ensures { λ r. ⌜ r ≡ further (run .plan) mostPending (toldOf (run .progress) e x o) (set (run .window) i vacant) ⌝ }
+{
+    let plan = run.plan;
+    let progress = run.progress;
+    let window = run.window;
+    load(plan, progress, window, i, x, e, o)
 }

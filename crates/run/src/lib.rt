@@ -4,10 +4,10 @@ ghost use Rattle.run.specs.Calls.{askOf, completionOf, outcomeOf, callOf
 ghost use Rattle.run.specs.Opening.{openOf};
 
 mod bounds;
-mod calls;
-mod checks;
-mod effects;
-mod learning;
+pub mod calls;
+pub mod checks;
+pub mod effects;
+pub mod learning;
 mod openings;
 
 use plan::Fault;

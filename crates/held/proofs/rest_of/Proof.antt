@@ -3,7 +3,7 @@ use Rattle.held.proofs.rest_of.Statement.{statement}
 use Rattle.held.proofs.rest_of.Tie as tie
 
 returns : tie.Need-returns
-returns c = simp (c .before .before .hold-halt .ensures, c .before .before .before .hold-window .ensures, c .before .before .before .before .hold-progress .ensures)
+returns c = simp (c .hold-halt .ensures, c .before .hold-window .ensures, c .before .before .hold-progress .ensures)
 
 pub rest-of-spec : {M : Type 1} → statement M
 rest-of-spec =

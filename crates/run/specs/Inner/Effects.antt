@@ -1,6 +1,6 @@
 -- What a call does to a run, and the answer that it then gets.
 use mathlib.Core.Path.{_≡_}
-use mathlib.Core.Bool.{true, cond, _&&_}
+use mathlib.Core.Bool.{cond, _&&_}
 use mathlib.Core.List.{List}
 use Prim.Native.Nat.{ℕ, _<_}
 use lib.Dec.{ltb, eqb}
@@ -8,6 +8,8 @@ use lib.ListN.{getD, set}
 use Rattle.time.specs.declared.Clock.{Clock}
 use Rattle.plan.specs.Plan.{pastNode, outcomesOf, finalBit}
 use Rattle.plan.specs.declared.Kind.{Kind}
+use Rattle.plan.specs.declared.Plan.{Plan}
+use Rattle.times.specs.declared.Progress.{Progress}
 use Rattle.run_window.specs.declared.Entry.{Entry}
 use Rattle.run_window.specs.declared.Found.{Found}
 use Rattle.run_window.specs.declared.Sought.{Sought}
@@ -16,16 +18,18 @@ use Rattle.run_checks.specs.declared.Halt.{Halt}
 use Rattle.run_checks.specs.declared.Refusal.{Refusal}
 use Rattle.run_checks.specs.declared.Objection.{Objection}
 use Rattle.run_checks.specs.declared.Check.{Check}
+use Rattle.run_checks.specs.declared.Moment.{Moment}
 use Rattle.run_checks.specs.Order.{reportedBy}
+use Rattle.run_loading.specs.declared.Loading.{Loading}
 use Rattle.run.specs.declared.Run.{Run}
 use Rattle.run.specs.declared.Reply.{Reply}
 use Rattle.run.specs.declared.Answer.{Answer}
 use Rattle.run.specs.declared.Call.{Call}
 use Rattle.run.specs.declared.Checked.{Checked}
 use Rattle.run.specs.declared.Effect.{Effect}
-use Rattle.run.specs.Limits.{runInLimits}
-use Rattle.run.specs.Calls.{answer, heard, stops, isDone, learnt}
-use Rattle.run.specs.Inner.Calls.{toldRun}
+use Rattle.run.specs.Calls.{answer, heard, stops, isDone, learnt, callOf, readingOf}
+use Rattle.run.specs.Inner.Calls.{toldRun, replyAfter, haltAfter}
+use Rattle.run.specs.Inner.Loads.{Loads}
 use Rattle.run.specs.Inner.Checks.{checkOf}
 
 -- ---- what the checks are given and what they found
@@ -121,15 +125,40 @@ acted run t Effect.Rests = answer (cond (isDone run) Reply.Done Reply.Wait) (hea
 acted run t (Effect.Stores i e reply) = answer reply (heard run t Halt.Going (run .progress) (set (run .window) i e))
 acted run t (Effect.Learns i x e o) = learnt (toldRun run t i x e o)
 
--- neither 50 nor a kept stop
-abbrev pub Passes : Run → Type 0
-Passes run = (runInLimits run ≡ true) × (run .halt ≡ Halt.Going)
+-- an outcome, from what was loaded after it
+abbrev pub loadedAs : Run → Clock → Loading → Answer
+loadedAs run t l = answer (replyAfter (l .failure)) (heard run t (haltAfter (l .failure)) (l .progress) (l .window))
 
--- what is known of an effect that changes the run: it passes its checks, the place is one of the window, the event and the
--- outcome are the plan's
+-- a reply that leaves the run: a refusal, or the stop that the run keeps
+abbrev pub Leaves : Halt → Reply → Type 0
+Leaves halt (Reply.Start p a n) = ⊥
+Leaves halt Reply.Wait = ⊥
+Leaves halt Reply.Done = ⊥
+Leaves halt Reply.Taken = ⊥
+Leaves halt (Reply.Refused f) = Unit {0}
+Leaves halt (Reply.Stopped s) = halt ≡ Halt.Stopped s
+
+-- a reply that is no refusal
+abbrev pub Accepts : Reply → Type 0
+Accepts (Reply.Start p a n) = Unit {0}
+Accepts Reply.Wait = Unit {0}
+Accepts Reply.Done = Unit {0}
+Accepts Reply.Taken = Unit {0}
+Accepts (Reply.Refused f) = ⊥
+Accepts (Reply.Stopped s) = Unit {0}
+
+-- what is known of an effect: a run that it changes keeps no stop, and the state, the place, the event and the outcome are the plan's
 abbrev pub Named : Run → Effect → Type 0
-Named run (Effect.Stays reply) = Unit {0}
-Named run (Effect.Stops s) = Unit {0}
-Named run Effect.Rests = Passes run
-Named run (Effect.Stores i e reply) = (i < 512) × Passes run
-Named run (Effect.Learns i x e o) = (i < 512) × (e < run .plan .events) × (o < outcomesOf (run .plan) e) × Passes run
+Named run (Effect.Stays reply) = Leaves (run .halt) reply
+Named run (Effect.Stops s) = run .halt ≡ Halt.Going
+Named run Effect.Rests = (run .progress .state < 64) × (run .halt ≡ Halt.Going)
+Named run (Effect.Stores i e reply) = (i < 512) × Accepts reply × (run .halt ≡ Halt.Going)
+Named run (Effect.Learns i x e o) = (i < 512) × (e < run .plan .events) × (o < outcomesOf (run .plan) e) × Loads run × (run .halt ≡ Halt.Going)
+
+-- the run with these parts; of the moment, its times
+abbrev pub runAt : Plan → Progress → List Entry → Moment → Halt → Run
+runAt plan progress window m halt = record { plan = plan; psi = m .psi; slack = m .slack; progress = progress; window = window; last = m .last; halt = halt }
+
+-- an effect that carried out gives the answer to the call
+abbrev pub Answers : Run → Call → Effect → Type 0
+Answers run c x = (acted run (readingOf c) x ≡ callOf run c) × Named run x

@@ -8,7 +8,6 @@ use Rattle.run_outcomes.specs.Told.{toldOf}
 use Rattle.run.specs.declared.Effect.{Effect}
 use Rattle.run.specs.Calls.{callOf}
 use Rattle.run.specs.Inner.Effects.{acted, Named}
-use Rattle.run.proofs.Checking.{state-below, loads-in-limits}
 use Rattle.run.proofs.Acting.{call-acted, call-named, rests-acted, stores-acted}
 use Rattle.run.proofs.Loaded.{storing, answerBy, learnt-parts}
 use borrow.Author.Needs.{needs}
@@ -32,7 +31,7 @@ returns-2 : tie.Need-returns-2
 returns-2 c = c .stops .ensures ∙ answered (c .before .before .before .before) _ (c .before .before .effect2 .given .1)
 
 at-rest-requires : tie.Need-at-rest-requires
-at-rest-requires c κs = state-below _ (known (c .before .before .before) _ (c .before .enum-told .given .1) .0)
+at-rest-requires c κs = known (c .before .before .before) _ (c .before .enum-told .given .1) .0
 
 returns-3 : tie.Need-returns-3
 returns-3 c =
@@ -50,10 +49,10 @@ returns-4 : tie.Need-returns-4
 returns-4 c =
     let e = c .before .before .before in
     let x = c .before .effect3 .given in
-    stores-acted (e .before .before .args .t1) (e .before .reading-of .result) (x .0 .0) (x .0 .1 .0) (x .0 .1 .1 .0) (known e _ (x .1) .1 .1) ∙ answered e _ (x .1)
+    stores-acted (e .before .before .args .t1) (e .before .reading-of .result) (x .0 .0) (x .0 .1 .0) (x .0 .1 .1 .0) (known e _ (x .1) .2) ∙ answered e _ (x .1)
 
 load-after-requires : tie.Need-load-after-requires
-load-after-requires c κs = let k = known (c .before .before .before) _ (c .before .effect4 .given .1) in (loads-in-limits _ (k .3 .0), k .0, k .1, k .2)
+load-after-requires c κs = let k = known (c .before .before .before) _ (c .before .effect4 .given .1) in (k .3, k .0, k .1, k .2)
 
 -- the run with what was loaded is taken, or keeps a stop
 after : (c : tie.After-halt-after) (x : Halt) → c .halt-after .result ≡ x
@@ -64,7 +63,7 @@ after c x r =
     let y = c .before .before .before .before .before .effect4 .given in
     let run = e .before .before .args .t1 in
     let l = c .before .before .before .load-after in
-    learnt-parts run (known e _ (y .1) .3 .1) (e .before .reading-of .result) (y .0 .0) (toldOf (run .progress) (y .0 .1 .1 .0) (y .0 .1 .0) (y .0 .1 .1 .1 .0)) (l .result) (l .ensures) x (sym r ∙ c .halt-after .ensures)
+    learnt-parts run (known e _ (y .1) .4) (e .before .reading-of .result) (y .0 .0) (toldOf (run .progress) (y .0 .1 .1 .0) (y .0 .1 .0) (y .0 .1 .1 .1 .0)) (l .result) (l .ensures) x (sym r ∙ c .halt-after .ensures)
     ∙ answered e _ (y .1)
 
 returns-5 : tie.Need-returns-5
