@@ -13,6 +13,7 @@ mod numbers;
 #[derive(Clone, Debug, PartialEq, Eq)]
 pub struct Held(pub [u64; RUN_SIZE / 8]);
 
+/// Declared here as well as in host/rust: the comparison is an account of its own, and links the verdict by another name.
 #[repr(C)]
 #[derive(Clone, Copy, Debug, PartialEq, Eq)]
 pub struct HostReply {
