@@ -125,7 +125,7 @@ const TOOLS: &str =
     "awk bash cat chmod cmp cp cut dirname env find flock git gzip head mkdir mktemp mv readlink rm sed \
                      sha256sum sleep sort tail tar tee xargs";
 
-/// A repository of four small crates with the scripts of this one. Its `rt` and `cargo` write down what they are asked, in
+/// A repository of five small crates with the scripts of this one. Its `rt` and `cargo` write down what they are asked, in
 /// asked.txt, and hand out what is already built.
 pub struct Repository {
     pub folder: Folder,
@@ -145,13 +145,13 @@ echo 'rt: basis proved (3 s)'
 echo 'rt: time proved (unchanged since it was last proved)'
 echo \"fn $1::first: proved\"
 echo \"rt: $1 proved (12 s)\"
-[ \"$1\" = exports ] || exec cp \"$BUILT/target/bin/timetable\" target/bin/timetable
-cat crates/basis/src/lib.rt >target/stamp/exports
+[ \"$1\" != timetable ] || exec cp \"$BUILT/target/bin/timetable\" target/bin/timetable
+cat crates/basis/src/lib.rt >\"target/stamp/$1\"
 ";
 
 const RT_STATICLIB: &str = "
 mkdir -p target/staticlib
-cp \"$BUILT/target/staticlib/libexports.a\" target/staticlib/libexports.a
+cp \"$BUILT/target/staticlib/lib$1.a\" \"target/staticlib/lib$1.a\"
 ";
 
 const CARGO: &str = "
@@ -169,15 +169,17 @@ impl Repository {
         let others =
             ["docs/PROMISES.md", "examples/T.hex", "rust/Cargo.toml", "rust/build.rs", "tools/Cargo.toml"];
         let usages = ["commands/usage/judge.txt", "commands/usage/timetable.txt"];
+        let hosts = ["docs/HOST.md", "host/include", "host/example", "host/example.c", "host/stack.txt"];
         let commands = commands.map(|name| format!("commands/{name}"));
         let mut cp = Command::new("cp");
-        cp.arg("--parents").args(scripts).args(commands).args(others).args(usages);
+        cp.args(["--parents", "-r"]).args(scripts).args(commands).args(others).args(usages).args(hosts);
         run(cp.arg(&folder.0).current_dir(root()));
         for name in ["commands/src", "rust/src"] {
             symlink(root().join(name), folder.path(name)).expect("a link can be made");
         }
-        folder.write("crates.txt", "# four\nbasis:\ntime: basis\ntimetable: io time\nexports: time\n");
-        for name in ["basis", "time", "timetable", "exports"] {
+        let crates = "# five\nbasis:\ntime: basis\ntimetable: io time\nexports: time\njidlekuvo: time\n";
+        folder.write("crates.txt", crates);
+        for name in ["basis", "time", "timetable", "exports", "jidlekuvo"] {
             folder.write(&format!("crates/{name}/src/lib.rt"), name);
         }
         let repository = Repository { folder, machine: Folder::new() };

@@ -4,6 +4,7 @@ use crate::asking::{ask, is, said, same, Answer, Said};
 use crate::places::{Folder, Mutation, Repository};
 use crate::plans::{t, wanted};
 use std::fs;
+use std::path::Path;
 use std::process::Command;
 use std::time::{Duration, SystemTime};
 
@@ -23,6 +24,9 @@ impl Packing {
             command.arg("examples/T.hex");
             ask(command);
         }
+        let mut command = repository.command("commands/setup", "rt cargo");
+        command.args(["release", "host"]);
+        ask(command);
         let mut packing = Packing { repository, commit: String::new() };
         packing.git(&["init", "--quiet"]);
         packing.git(&["add", "--all"]);
@@ -86,16 +90,23 @@ pub fn refused(mutation: Mutation) -> Answer {
         packing.record(&commit, &programs, last);
         packing.refused(&format!("the last ./test ended with '{last}'"))?;
     }
+    let other = "program and libraries are not those of the last ./test";
     packing.record(&commit, "0000", LAST);
-    packing.refused("program and library are not those of the last ./test")?;
+    packing.refused(other)?;
     packing.record(&commit, &programs, LAST);
+    for file in ["target/bin/timetable", "target/staticlib/libjidlekuvo.a"] {
+        let tested = fs::read(packing.repository.folder.path(file)).expect("it is there");
+        packing.repository.folder.write(file, [&tested[..], b"\n"].concat());
+        packing.refused(other)?;
+        packing.repository.folder.write(file, tested);
+    }
     let new = packing.repository.folder.write("docs/new.md", "new");
     packing.refused("the tree has changes that are not committed")?;
     fs::remove_file(new).expect("it is there");
     is("nothing was packed", !packing.repository.folder.path("target/jidlekuvo-0.1.0.tar.gz").exists())
 }
 
-/// Packed twice: the same bytes, whenever its files were written.
+/// Packed twice: the same bytes, whenever its files were written; and again where a library had to be built anew.
 pub fn packed(mutation: Mutation) -> Answer {
     let packing = Packing::new(mutation);
     packing.record(&packing.commit, &packing.programs(), LAST);
@@ -109,13 +120,19 @@ pub fn packed(mutation: Mutation) -> Answer {
         file.set_modified(SystemTime::now() - Duration::from_secs(100_000)).expect("its time can be set");
     }
     std::thread::sleep(Duration::from_millis(1_100));
-    same("packed again", packing.release(), first)?;
+    same("packed again", packing.release(), first.clone())?;
     is("the same bytes", fs::read(&archive).is_ok_and(|again| again == bytes))?;
+    fs::remove_file(packing.repository.folder.path("target/staticlib/libjidlekuvo.a")).expect("it is there");
+    let err = "release: proving and building the library for hosts, this once (some minutes)\n\
+               release: 1 of 3: basis proved (3 s)\nrelease: 3 of 3: jidlekuvo proved (12 s)\n";
+    same("without a library", packing.release(), Said { err: err.into(), ..first })?;
+    is("the same bytes again", fs::read(&archive).is_ok_and(|again| again == bytes))?;
     unpacked(&packing, &archive)
 }
 
-/// Unpacked elsewhere: the checksums hold, what is told is there, and the commands run with nothing on the PATH.
-fn unpacked(packing: &Packing, archive: &std::path::Path) -> Answer {
+/// Unpacked elsewhere: the checksums hold, what is told is there, the commands run with nothing on the PATH, and so does the
+/// example, once it is compiled.
+fn unpacked(packing: &Packing, archive: &Path) -> Answer {
     let elsewhere = Folder::new();
     let mut tar = Command::new("tar");
     tar.arg("--extract").arg("--file").arg(archive).arg("--directory").arg(&elsewhere.0);
@@ -127,8 +144,10 @@ fn unpacked(packing: &Packing, archive: &std::path::Path) -> Answer {
     let mut names: Vec<String> =
         fs::read_to_string(folder.join("SHA256SUMS")).unwrap().lines().map(|l| l[66..].into()).collect();
     names.sort();
-    let files = "./CHANGES.md ./README.md ./RELEASE ./VERSION ./bin/timetable ./docs/PROMISES.md ./examples/T.hex ./judge \
-                 ./lib/libexports.a ./timetable";
+    let files = "./CHANGES.md ./README.md ./RELEASE ./VERSION ./bin/timetable ./docs/HOST.md ./docs/PROMISES.md \
+                 ./examples/T.hex ./host/example.c ./host/example/plan.c ./host/example/plan.h ./host/example/table.c \
+                 ./host/example/table.h ./host/stack.txt ./include/jidlekuvo.h ./include/jidlekuvo_numbers.h ./judge \
+                 ./lib/libexports.a ./lib/libjidlekuvo.a ./timetable";
     is(&format!("{names:?}"), names.join(" ") == files)?;
     let told = format!(
         "version    0.1.0\ncommit     {}\ntoolchain  kit 1\n./test     {LAST}\nruns on    Linux, x86-64, glibc 2.34 or later\n",
@@ -140,5 +159,18 @@ fn unpacked(packing: &Packing, archive: &std::path::Path) -> Answer {
         command.arg("examples/T.hex").env_clear().env("PATH", "/nowhere").current_dir(&folder);
         same(name, ask(command), wanted(name, &t()))?;
     }
-    Ok(())
+    example(&folder)
+}
+
+/// The example in C is built and run by the lines that docs/HOST.md has for it.
+fn example(folder: &Path) -> Answer {
+    let page = fs::read_to_string(folder.join("docs/HOST.md")).expect("it is there");
+    let lines = page.lines().skip_while(|line| *line != "### From a release");
+    let lines: Vec<&str> = lines.filter_map(|line| line.strip_prefix("    ")).take(2).collect();
+    is(&format!("{lines:?}"), lines.len() == 2 && lines[0].starts_with("cc "))?;
+    let mut shell = Command::new("sh");
+    shell.args(["-c", &lines.join(" && ")]).current_dir(folder);
+    let said = ask(shell);
+    let done = said.out.ends_with("\ndone: 7 of 7 rows started in time\n");
+    is(&format!("the example: {said:?}"), said.status == Some(0) && said.err.is_empty() && done)
 }

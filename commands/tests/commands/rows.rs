@@ -143,6 +143,8 @@ pub const ROWS: &[Row] = &[
             pack("[ \"$tested\" != \"$commit\" ]", "false"),
             pack("[[ ! $last =~ ^[1-9][0-9]*\\ passed,\\ 0\\ failed$ ]]", "false"),
             pack("[ \"$programs\" != \"$(commands/programs)\" ]", "false"),
+            edit("commands/programs", " target/bin/timetable", ""),
+            edit("commands/programs", " target/staticlib/libjidlekuvo.a", ""),
         ],
     ),
     Row(
@@ -152,6 +154,9 @@ pub const ROWS: &[Row] = &[
             pack("    --mtime=\"@$(git log -1 --format=%ct)\" \"$folder\"", "    \"$folder\""),
             pack("    cp target/bin/timetable \"$room/$folder/bin\" &&\n", ""),
             pack("toolchain=$(rt version)", "toolchain=$(true)"),
+            pack("judge timetable host ||", "judge timetable ||"),
+            pack("    cp host/example/*.[ch] \"$room/$folder/host/example\" &&\n", ""),
+            edit("docs/HOST.md", "host/example/*.c lib/libjidlekuvo.a", "lib/libjidlekuvo.a"),
         ],
     ),
 ];

@@ -25,3 +25,15 @@ fill-turn X Y f w v u d i h e p = ap (λ (l : List Y). set l i (f (getD w i d)))
 
 pub fill-end : (X Y : Type 0) (f : X → Y) (w : List X) (v : List Y) (i : ℕ) → length w ≤ i → length w ≡ length v → filled X Y f w v i ≡ map f w
 fill-end X Y f w v i h e = rw (take-all i w h, drop-of-length-le v (subst (λ (n : ℕ). n ≤ i) e h), append-nil (map f w))
+
+-- what is not reached yet is as it was
+unreached : (X : Type 0) (f : X → X) (w v : List X) (d : X) (i : ℕ) → i < length w → length w ≡ length v → getD (filled X X f w v i) i d ≡ getD v i d
+unreached X f [] v d i h e = absurd (not-suc-le-zero h)
+unreached X f (x ∷ w) [] d i h e = absurd (not-suc-le-zero (subst (λ (n : ℕ). i < n) e h))
+unreached X f (x ∷ w) (y ∷ v) d zero h e = refl
+unreached X f (x ∷ w) (y ∷ v) d (suc i) h e = unreached X f w v d i (le-of-suc-le-suc h) (suc-inj e)
+
+-- a list that is filled in from itself
+pub fill-own : (X : Type 0) (f : X → X) (w u : List X) (d : X) (i : ℕ) → i < length w → u ≡ filled X X f w w i → set u i (f (getD u i d)) ≡ filled X X f w w (i + 1)
+fill-own X f w u d i h p =
+    ap (λ (x : X). set u i (f x)) (ap (λ (l : List X). getD l i d) p ∙ unreached X f w w d i h refl) ∙ fill-turn X X f w w u d i h refl p

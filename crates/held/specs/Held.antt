@@ -2,11 +2,10 @@
 -- case 0, which is named first: action, nothing processed, the empty activity, nothing told, free, going. What a case does not
 -- use, and spare bytes, are written as 0 and not read.
 use mathlib.Core.Bool.{cond}
-use mathlib.Core.List.{List, map}
+use mathlib.Core.List.{map}
 use Prim.Native.Nat.{ℕ}
 use lib.Dec.{eqb}
 use lib.ListN.{replicate}
-use Rattle.time.specs.declared.Clock.{Clock}
 use Rattle.plan.specs.declared.Kind.{Kind}
 use Rattle.plan.specs.declared.Node.{Node}
 use Rattle.plan.specs.declared.Input.{Input}
@@ -222,13 +221,17 @@ runOf h =
       halt = haltOf (h .rest .halt);
     }
 
--- all of a run but its plan, by its parts
-abbrev pub restBy : Clock → ℕ → Clock → List Entry → Progress → Halt → HeldRest
-restBy psi slack last window progress halt =
-    record { psi = psi; slack = slack; last = last; window = map heldEntry window; progress = heldProgress progress; halt = heldHalt halt }
-
+-- all of a run but its plan
 abbrev pub restOf : Run → HeldRest
-restOf r = restBy (r .psi) (r .slack) (r .last) (r .window) (r .progress) (r .halt)
+restOf r =
+    record {
+      psi = r .psi;
+      slack = r .slack;
+      last = r .last;
+      window = map heldEntry (r .window);
+      progress = heldProgress (r .progress);
+      halt = heldHalt (r .halt);
+    }
 
 unfoldable pub heldOf : Run → Held
 heldOf r = record { rest = restOf r; plan = heldPlan (r .plan) }

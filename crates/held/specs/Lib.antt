@@ -1,3 +1,4 @@
 -- A run as numbers, for a host in C.
 pub mod Held
+pub mod Inner
 pub mod Laws

@@ -12,7 +12,9 @@ use time::Clock;
 use time::Specified;
 use times::Progress;
 ghost use mathlib.Core.Path.{_≡_};
-ghost use Rattle.held.specs.Held.{planOf, runOf, heldPlan, restBy, heldOf};
+ghost use Rattle.held.specs.Held.{heldPlan, heldOf};
+ghost use Rattle.held.specs.Inner.Plans.{planUpto};
+ghost use Rattle.held.specs.Inner.Rest.{restWith, restBy};
 
 pub mod halts; // why a run has stopped
 pub mod moves; // transitions
@@ -118,12 +120,13 @@ pub struct Held {
 
 // ---- from numbers
 
-pub fn plan_of(h: HeldPlan) -> Plan
-    ensures { λ r. ⌜ r ≡ planOf h ⌝ }
+// A plan with the nodes of its activities: a call reads no others, and to read them all would take longer than the call.
+pub fn plan_upto(h: HeldPlan) -> Plan
+    ensures { λ r. ⌜ r ≡ planUpto h ⌝ }
 {
     let held_nodes = h.nodes;
     let held_moves = h.moves;
-    let nodes = nodes::nodes_of(held_nodes);
+    let nodes = nodes::nodes_upto(h.activities, held_nodes);
     let moves = moves::moves_of(held_moves);
     let belongs = h.belongs;
     let sizes = h.sizes;
@@ -144,31 +147,6 @@ pub fn plan_of(h: HeldPlan) -> Plan
             count: h.count,
             moves,
         },
-    }
-}
-
-pub fn run_of(h: Held) -> Run
-    ensures { λ r. ⌜ r ≡ runOf h ⌝ }
-{
-    let held_plan = h.plan;
-    let rest = h.rest;
-    let held_progress = rest.progress;
-    let held_window = rest.window;
-    let held_halt = rest.halt;
-    let plan = plan_of(held_plan);
-    let progress = progresses::progress_of(held_progress);
-    let window = places::window_of(held_window);
-    let halt = halts::halt_of(held_halt);
-    let psi = rest.psi;
-    let last = rest.last;
-    Run {
-        plan,
-        psi,
-        slack: rest.slack,
-        progress,
-        window,
-        last,
-        halt,
     }
 }
 
@@ -202,7 +180,30 @@ pub fn hold_plan(p: Plan) -> HeldPlan
     }
 }
 
-// All of a run but its plan.
+// All of a run but its plan, with its window as it is written.
+pub fn rest_with(
+    psi: Clock,
+    slack: u64,
+    last: Clock,
+    window: [HeldEntry; WINDOW],
+    reached: Progress,
+    stop: Halt,
+) -> HeldRest
+    ensures { λ r. ⌜ r ≡ restWith psi slack last window reached stop ⌝ }
+{
+    let progress = progresses::hold_progress(reached);
+    let halt = halts::hold_halt(stop);
+    HeldRest {
+        psi,
+        slack,
+        last,
+        window,
+        progress,
+        halt,
+    }
+}
+
+// The same, with its window as the run has it.
 pub fn rest_of(
     psi: Clock,
     slack: u64,
@@ -213,17 +214,8 @@ pub fn rest_of(
 ) -> HeldRest
     ensures { λ r. ⌜ r ≡ restBy psi slack last entries reached stop ⌝ }
 {
-    let progress = progresses::hold_progress(reached);
     let window = places::hold_window(entries);
-    let halt = halts::hold_halt(stop);
-    HeldRest {
-        psi,
-        slack,
-        last,
-        window,
-        progress,
-        halt,
-    }
+    rest_with(psi, slack, last, window, reached, stop)
 }
 
 pub fn hold_run(run: Run) -> Held

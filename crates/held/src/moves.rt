@@ -25,7 +25,7 @@ fn output_of(output: u8, activity: u8) -> Output
     Output::Empty
 }
 
-fn move_of(h: HeldMove) -> Transition
+pub fn move_of(h: HeldMove) -> Transition
     ensures { λ r. ⌜ r ≡ moveOf h ⌝ }
 {
     let input = input_of(h.input, h.event, h.outcome);

@@ -5,7 +5,9 @@ use plan::NODES;
 use plan::Node;
 ghost use mathlib.Core.List.{map};
 ghost use mathlib.Core.Path.{_≡_};
-ghost use Rattle.held.specs.Held.{kindOf, nodeOf, heldNode};
+ghost use Prim.Native.Nat.{_*_};
+ghost use Rattle.held.specs.Held.{kindOf, nodeOf, kindNumber, numberIn, peripheralIn, heldNode};
+ghost use Rattle.held.specs.Inner.Plans.{nodesUpto};
 
 fn kind_of(kind: u8, number: u8, peripheral: u8) -> Kind
     ensures { λ r. ⌜ r ≡ kindOf kind number peripheral ⌝ }
@@ -22,7 +24,7 @@ fn kind_of(kind: u8, number: u8, peripheral: u8) -> Kind
     Kind::Action(number, peripheral)
 }
 
-fn node_of(h: HeldNode) -> Node
+pub fn node_of(h: HeldNode) -> Node
     ensures { λ r. ⌜ r ≡ nodeOf h ⌝ }
 {
     let kind = kind_of(h.kind, h.number, h.peripheral);
@@ -35,49 +37,58 @@ fn node_of(h: HeldNode) -> Node
     }
 }
 
+fn kind_number(kind: Kind) -> u8
+    ensures { λ r. ⌜ r ≡ kindNumber kind ⌝ }
+{
+    match kind {
+        Kind::Action(_, _) => 0,
+        Kind::Claim(_) => 1,
+        Kind::Release(_) => 2,
+        Kind::Event(_) => 3,
+    }
+}
+
+// The action, resource or event.
+fn number_in(kind: Kind) -> u8
+    ensures { λ r. ⌜ r ≡ numberIn kind ⌝ }
+{
+    match kind {
+        Kind::Action(a, _) => a,
+        Kind::Claim(r) => r,
+        Kind::Release(r) => r,
+        Kind::Event(e) => e,
+    }
+}
+
+fn peripheral_in(kind: Kind) -> u8
+    ensures { λ r. ⌜ r ≡ peripheralIn kind ⌝ }
+{
+    match kind {
+        Kind::Action(_, p) => p,
+        Kind::Claim(_) => 0,
+        Kind::Release(_) => 0,
+        Kind::Event(_) => 0,
+    }
+}
+
 fn hold_node(n: Node) -> HeldNode
     ensures { λ r. ⌜ r ≡ heldNode n ⌝ }
 {
     let kind = n.kind;
     let preds = n.preds;
-    match kind {
-        Kind::Action(a, p) => HeldNode {
-            duration: n.duration,
-            kind: 0,
-            number: a,
-            peripheral: p,
-            count: n.count,
-            preds,
-        },
-        Kind::Claim(r) => HeldNode {
-            duration: n.duration,
-            kind: 1,
-            number: r,
-            peripheral: 0,
-            count: n.count,
-            preds,
-        },
-        Kind::Release(r) => HeldNode {
-            duration: n.duration,
-            kind: 2,
-            number: r,
-            peripheral: 0,
-            count: n.count,
-            preds,
-        },
-        Kind::Event(e) => HeldNode {
-            duration: n.duration,
-            kind: 3,
-            number: e,
-            peripheral: 0,
-            count: n.count,
-            preds,
-        },
+    HeldNode {
+        duration: n.duration,
+        kind: kind_number(kind),
+        number: number_in(kind),
+        peripheral: peripheral_in(kind),
+        count: n.count,
+        preds,
     }
 }
 
-pub fn nodes_of(held: [HeldNode; NODES]) -> [Node; NODES]
-    ensures { λ r. ⌜ r ≡ map nodeOf held ⌝ }
+// The nodes of the first activities; behind them zeros.
+pub fn nodes_upto(activities: u8, held: [HeldNode; NODES]) -> [Node; NODES]
+    ensures { λ r. ⌜ r ≡ nodesUpto (64 * activities) held ⌝ }
 {
     let preds = [0u8; 8];
     let zero = Node {
@@ -86,9 +97,13 @@ pub fn nodes_of(held: [HeldNode; NODES]) -> [Node; NODES]
         count: 0,
         preds,
     };
+    let most = 64 * (activities as usize);
     let mut nodes = [zero; NODES];
     let mut i: usize = 0;
     while i < NODES {
+        if i >= most {
+            return nodes;
+        }
         let h = held[i];
         let n = node_of(h);
         nodes[i] = n;

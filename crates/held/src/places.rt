@@ -1,5 +1,6 @@
 // The places of the window, 24 bytes each.
 use crate::HeldEntry;
+use crate::HeldRest;
 use run_window::Entry;
 use run_window::Phase;
 use run_window::WINDOW;
@@ -20,7 +21,7 @@ fn phase_of(phase: u8) -> Phase
     Phase::Free
 }
 
-fn entry_of(h: HeldEntry) -> Entry
+pub fn entry_of(h: HeldEntry) -> Entry
     ensures { λ r. ⌜ r ≡ entryOf h ⌝ }
 {
     let phase = phase_of(h.phase);
@@ -46,7 +47,7 @@ fn phase_number(phase: Phase) -> u8
     }
 }
 
-fn hold_entry(e: Entry) -> HeldEntry
+pub fn hold_entry(e: Entry) -> HeldEntry
     ensures { λ r. ⌜ r ≡ heldEntry e ⌝ }
 {
     let phase = e.phase;
@@ -99,4 +100,20 @@ pub fn hold_window(window: [Entry; WINDOW]) -> [HeldEntry; WINDOW]
         i += 1;
     }
     held
+}
+
+// The window with nothing in it that no case uses: as it is written.
+pub fn fresh(rest: HeldRest) -> [HeldEntry; WINDOW]
+    ensures { λ r. ⌜ r ≡ map heldEntry (map entryOf (rest .window)) ⌝ }
+{
+    let mut window = rest.window;
+    let mut i: usize = 0;
+    while i < WINDOW {
+        let h = window[i];
+        let e = entry_of(h);
+        let f = hold_entry(e);
+        window[i] = f;
+        i += 1;
+    }
+    window
 }

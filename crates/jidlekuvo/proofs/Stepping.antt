@@ -1,9 +1,10 @@
 -- What a call answers and leaves, from what it does to the run.
 use mathlib.Core.Bool.{Bool, true, false, cond}
-use mathlib.Core.List.{List, map}
+use mathlib.Core.List.{List, [], _∷_, map}
 use mathlib.Core.Path.{_≡_, refl, sym, _∙_, ap}
+use Prim.Native.Nat.{ℕ, zero, suc}
+use lib.ListN.{set}
 use Rattle.time.specs.declared.Clock.{Clock}
-use Rattle.plan.specs.declared.Plan.{Plan}
 use Rattle.times.specs.declared.Progress.{Progress}
 use Rattle.run_window.specs.declared.Entry.{Entry}
 use Rattle.run_checks.specs.declared.Halt.{Halt}
@@ -13,14 +14,19 @@ use Rattle.run.specs.declared.Run.{Run}
 use Rattle.run.specs.declared.Call.{Call}
 use Rattle.run.specs.declared.Reply.{Reply}
 use Rattle.run.specs.declared.Answer.{Answer}
-use Rattle.run.specs.Calls.{answer, callOf}
-use Rattle.run.specs.Inner.Calls.{replyAfter}
-use Rattle.run.specs.Inner.Effects.{Leaves, Accepts, runAt}
+use Rattle.run.specs.declared.Effect.{Effect}
+use Rattle.run.specs.Calls.{answer, afterLoading, callOf}
+use Rattle.run.specs.Loading.{further, mostPending}
+use Rattle.run.specs.Inner.Calls.{toldRun}
+use Rattle.run.specs.Inner.Effects.{acted, Leaves, Accepts, runAt}
 use Rattle.held.specs.declared.Held.{Held}
-use Rattle.held.specs.Held.{planOf, progressOf, entryOf, haltOf, runOf, restOf}
+use Rattle.held.specs.declared.HeldEntry.{HeldEntry}
+use Rattle.held.specs.Held.{planOf, progressOf, entryOf, heldEntry, haltOf, runOf, restOf}
+use Rattle.held_checks.specs.Inner.Checks.{momentAt}
 use Rattle.jidlekuvo.specs.declared.Stepped.{Stepped}
 use Rattle.jidlekuvo.specs.Replies.{toldOf}
-use Rattle.jidlekuvo.specs.Host.{isKept, steppedTo}
+use Rattle.jidlekuvo.specs.Host.{isKept}
+use Rattle.jidlekuvo.specs.Inner.Steps.{steppedTo}
 
 -- ---- which replies leave the run
 
@@ -45,20 +51,29 @@ pub rest-accepts : (b : Bool) → Accepts (cond b Reply.Done Reply.Wait)
 rest-accepts true = tt
 rest-accepts false = tt
 
-pub learnt-accepts : (f : Failure) → Accepts (replyAfter f)
-learnt-accepts Failure.None = tt
-learnt-accepts Failure.Full = tt
-learnt-accepts Failure.Beyond = tt
+learnt-accepts : (f : Failure) (run : Run) → Accepts (afterLoading f run .reply)
+learnt-accepts Failure.None run = tt
+learnt-accepts Failure.Full run = tt
+learnt-accepts Failure.Beyond run = tt
+
+pub learns-accepts : (run : Run) (t : Clock) (i : ℕ) (x : Entry) (e o : ℕ) → Accepts (acted run t (Effect.Learns i x e o) .reply)
+learns-accepts run t i x e o = let told = toldRun run t i x e o in learnt-accepts (further mostPending told .failure) (further mostPending told .run)
 
 -- ---- the run by its parts
 
-abbrev pub momentAt : Held → Clock → Moment
-momentAt h t = record { psi = h .rest .psi; slack = h .rest .slack; last = h .rest .last; t = t }
+-- the run that these parts of the numbers stand for
+abbrev pub runIn : Held → Progress → Moment → Halt → Run
+runIn h progress m halt = runAt (planOf (h .plan)) progress (map entryOf (h .rest .window)) m halt
 
-pub by-parts : (h : Held) (t : Clock) (p : Plan) (g : Progress) (w : List Entry) (x : Halt)
-    → p ≡ planOf (h .plan) → g ≡ progressOf (h .rest .progress) → w ≡ map entryOf (h .rest .window) → x ≡ haltOf (h .rest .halt) → runAt p g w (momentAt h t) x ≡ runOf h
+pub by-parts : (h : Held) (c : Call) (g : Progress) (m : Moment) (x : Halt) → g ≡ progressOf (h .rest .progress) → m ≡ momentAt (h .rest) c → x ≡ haltOf (h .rest .halt) → runIn h g m x ≡ runOf h
 unfolding runOf
-by-parts h t p g w x is-plan is-progress is-window is-halt = rw (is-plan, is-progress, is-window, is-halt)
+by-parts h c g m x is-progress is-moment is-halt = rw (is-progress, is-moment, is-halt)
+
+-- a place that is stored in the window as it is written
+pub written-at : (w : List Entry) (i : ℕ) (e : Entry) → set (map heldEntry w) i (heldEntry e) ≡ map heldEntry (set w i e)
+written-at [] i e = refl
+written-at (x ∷ w) zero e = refl
+written-at (x ∷ w) (suc i) e = ap (λ (l : List HeldEntry). heldEntry x ∷ l) (written-at w i e)
 
 -- ---- the answer
 

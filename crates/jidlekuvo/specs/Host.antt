@@ -1,22 +1,16 @@
 -- What the exported functions answer, and the run that they leave.
 use mathlib.Core.Bool.{Bool, true, false, cond}
-use mathlib.Core.List.{List}
 use Prim.Native.Nat.{ℕ}
 use Rattle.time.specs.declared.Clock.{Clock}
-use Rattle.times.specs.declared.Progress.{Progress}
-use Rattle.run_window.specs.declared.Entry.{Entry}
 use Rattle.run_checks.specs.declared.Halt.{Halt}
-use Rattle.run_checks.specs.declared.Moment.{Moment}
 use Rattle.run.specs.declared.Reply.{Reply}
 use Rattle.run.specs.declared.Answer.{Answer}
 use Rattle.run.specs.declared.Opened.{Opened}
-use Rattle.run.specs.Calls.{askOf, completionOf, outcomeOf}
 use Rattle.held.specs.declared.HeldRest.{HeldRest}
 use Rattle.held.specs.declared.Held.{Held}
-use Rattle.held.specs.Held.{haltOf, runOf, restOf, restBy, heldOf}
+use Rattle.held.specs.Held.{haltOf, restOf, heldOf}
 use Rattle.jidlekuvo.specs.declared.HeldOpened.{HeldOpened}
-use Rattle.jidlekuvo.specs.declared.Stepped.{Stepped}
-use Rattle.jidlekuvo.specs.Replies.{toldOf, openingTold}
+use Rattle.jidlekuvo.specs.Replies.{openingTold}
 
 -- the number of this form of a run's bytes
 abbrev pub abi : ℕ
@@ -50,20 +44,3 @@ restAfter h a = cond (isKept (haltOf (h .rest .halt)) (a .reply)) (h .rest) (res
 -- the plan's bytes stay at every call
 abbrev pub heldAfter : Held → Answer → Held
 heldAfter h a = record { rest = restAfter h a; plan = h .plan }
-
--- both, before they are stored
-abbrev pub steppedTo : Held → Answer → Stepped
-steppedTo h a = record { rest = restAfter h a; reply = toldOf (a .reply) }
-
--- the same of a call that changes the run, by the parts of the run after it; its reading is the last one
-abbrev pub steppedBy : Moment → List Entry → Progress → Halt → Reply → Stepped
-steppedBy m window progress halt told = record { rest = restBy (m .psi) (m .slack) (m .t) window progress halt; reply = toldOf told }
-
-abbrev pub askStep : Held → ℕ → Stepped
-askStep h t = steppedTo h (askOf (runOf h) (clock t))
-
-abbrev pub completionStep : Held → ℕ → ℕ → ℕ → Stepped
-completionStep h t position node = steppedTo h (completionOf (runOf h) (clock t) position node)
-
-abbrev pub outcomeStep : Held → ℕ → ℕ → ℕ → ℕ → Stepped
-outcomeStep h t position node o = steppedTo h (outcomeOf (runOf h) (clock t) position node o)

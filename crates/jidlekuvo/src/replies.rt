@@ -3,11 +3,8 @@ use crate::HostReply;
 use drive_records::Record;
 use run::Opening;
 use run::Reply;
-use run::Stop;
-use run_loading::Failure;
 ghost use mathlib.Core.Path.{_≡_};
 ghost use Rattle.jidlekuvo.specs.Replies.{hostReply, toldOf, openingTold};
-ghost use Rattle.run.specs.Inner.Calls.{replyAfter};
 
 // A record's second byte is the activity of a start, and a number otherwise.
 fn host_reply(r: Record) -> HostReply
@@ -43,15 +40,4 @@ pub fn told_opening(opening: Opening) -> HostReply
     ensures { λ r. ⌜ r ≡ openingTold opening ⌝ }
 {
     host_reply(drive_records::opening_record(opening))
-}
-
-// What an outcome is answered: it is taken, or loading after it stops the run.
-pub fn reply_after(failure: Failure) -> Reply
-    ensures { λ r. ⌜ r ≡ replyAfter failure ⌝ }
-{
-    match failure {
-        Failure::None => Reply::Taken,
-        Failure::Full => Reply::Stopped(Stop::Full),
-        Failure::Beyond => Reply::Stopped(Stop::Beyond),
-    }
 }

@@ -6,8 +6,8 @@ ghost use Rattle.format.specs.Format.{keeps};
 ghost use Rattle.plan_file.specs.PlanFile.{faultOrder, planFile};
 ghost use Rattle.plan_limits.specs.Limits.{partsInLimits, inLimits};
 
-mod moves;
-mod nodes;
+pub mod moves;
+pub mod nodes;
 pub mod numbers;
 mod written;
 

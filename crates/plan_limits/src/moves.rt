@@ -34,7 +34,13 @@ fn output_names(activities: u8, output: Output) -> bool
     }
 }
 
-fn move_in_limits(states: u8, activities: u8, events: u8, outcomes: [u8; 16], t: Transition) -> bool
+pub fn move_in_limits(
+    states: u8,
+    activities: u8,
+    events: u8,
+    outcomes: [u8; 16],
+    t: Transition,
+) -> bool
     requires { ⌜ events ≤ 16 ⌝ }
     ensures { λ r. ⌜ r ≡ moveInLimits states activities events outcomes t ⌝ }
 {
@@ -87,7 +93,7 @@ fn finals_in_limits(states: u8, finals: u64) -> bool
 }
 
 // The numbers of the automaton, up to its transitions.
-fn states_in_limits(states: u8, initial: u8, finals: u64) -> bool
+pub fn states_in_limits(states: u8, initial: u8, finals: u64) -> bool
     ensures { λ r. ⌜ r ≡ statesInLimits states initial finals ⌝ }
 {
     if states < 1 {

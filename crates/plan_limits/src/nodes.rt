@@ -40,7 +40,7 @@ fn node_in_limits(resources: u8, peripherals: u8, events: u8, size: u8, node: No
 }
 
 // Place n of an activity of `size` nodes: a node, or spare room.
-fn slot_in_limits(
+pub fn slot_in_limits(
     resources: u8,
     peripherals: u8,
     events: u8,

@@ -1,5 +1,3 @@
-pub mod Acting
-pub mod Checking
-pub mod Loaded
 pub mod Opens
 pub mod Telling
+pub mod Unlearnt

@@ -26,7 +26,7 @@ use Rattle.run_window.specs.Window.{vacant}
 use Rattle.run_loading.specs.Inner.Loading.{Loads}
 use Rattle.run_loading.specs.Loading.{load}
 use Rattle.run_loading.specs.declared.Loading.{Loading}
-use Rattle.run.proofs.Loaded.{load-parts}
+use Rattle.run.specs.Laws.Loaded.{load-parts}
 use Rattle.run.specs.Opening.{uncalled, fresh, unopened, afterFirst, firstLoaded, begin, openPlan, openJudged, openOf}
 use Rattle.run.specs.Inner.Calls.{firstPath}
 

@@ -5,3 +5,4 @@ pub mod Loading
 pub mod Opening
 pub mod Calls
 pub mod Inner
+pub mod Laws

@@ -1,5 +1,6 @@
 // The outcome of an event: "An accepted report is taken; if loading after it fails the answer is stopped".
 use crate::Halt;
+use crate::Reply;
 use crate::Run;
 use crate::Stop;
 use plan::Plan;
@@ -14,12 +15,8 @@ ghost use Rattle.plan.specs.Plan.{outcomesOf};
 ghost use Rattle.run_window.specs.Window.{vacant};
 ghost use Rattle.run_outcomes.specs.Told.{toldOf};
 ghost use Rattle.run_loading.specs.Loading.{further, mostPending};
-ghost use Rattle.run_checks.specs.declared.Halt.{Halt};
-ghost use Rattle.run_checks.specs.declared.Moment.{Moment};
 ghost use Rattle.run_loading.specs.Inner.Loading.{Loads};
-ghost use Rattle.run.specs.declared.Effect.{Effect};
-ghost use Rattle.run.specs.Inner.Effects.{acted, loadedAs, runAt};
-ghost use Rattle.run.specs.Inner.Calls.{haltAfter};
+ghost use Rattle.run.specs.Inner.Calls.{haltAfter, replyAfter};
 
 // Whether the run keeps a stop after loading.
 pub fn halt_after(failure: Failure) -> Halt
@@ -29,6 +26,17 @@ pub fn halt_after(failure: Failure) -> Halt
         Failure::None => Halt::Going,
         Failure::Full => Halt::Stopped(Stop::Full),
         Failure::Beyond => Halt::Stopped(Stop::Beyond),
+    }
+}
+
+// What an outcome is answered: it is taken, or loading after it stops the run.
+pub fn reply_after(failure: Failure) -> Reply
+    ensures { λ r. ⌜ r ≡ replyAfter failure ⌝ }
+{
+    match failure {
+        Failure::None => Reply::Taken,
+        Failure::Full => Reply::Stopped(Stop::Full),
+        Failure::Beyond => Reply::Stopped(Stop::Beyond),
     }
 }
 
@@ -44,7 +52,7 @@ pub fn load(
     o: u8,
 ) -> Loading
     requires { ⌜ Loads plan before × (i < 512) × (e < plan .events) × (o < outcomesOf plan e) ⌝ }
-    ensures { λ r. ⌜ (r ≡ further plan mostPending (toldOf before e x o) (set places i vacant)) × ((m : Moment) → acted (runAt plan before places m Halt.Going) (m .t) (Effect.Learns i x e o) ≡ loadedAs (runAt plan before places m Halt.Going) (m .t) r) ⌝ }
+    ensures { λ r. ⌜ r ≡ further plan mostPending (toldOf before e x o) (set places i vacant) ⌝ }
 {
     let told = run_outcomes::told_of(before, e, x, o);
     let free = run_window::vacant();

@@ -4,8 +4,8 @@ ghost use Rattle.run.specs.Calls.{askOf, completionOf, outcomeOf, callOf
 ghost use Rattle.run.specs.Opening.{openOf};
 
 mod bounds;
-pub mod calls;
-pub mod checks;
+mod calls;
+mod checks;
 pub mod effects;
 pub mod learning;
 mod openings;

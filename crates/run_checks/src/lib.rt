@@ -4,6 +4,7 @@ use plan::Node;
 use run_window::Entry;
 use run_window::Found;
 use run_window::Phase;
+use run_window::Seen;
 use run_window::Sought;
 use run_window::WINDOW;
 use time::Clock;
@@ -103,6 +104,16 @@ fn check_overdue(overdue: Found, next: Check) -> Check
     }
 }
 
+// 42, then 41, of what a call has found in the window.
+pub fn check_seen(seen: Seen) -> Check
+    ensures { λ r. ⌜ r ≡ overdueThen (seen .overdue) Check.Objects (lateThen (seen .late) Check.Objects (Check.Goes (seen .sought))) ⌝ }
+{
+    let overdue = seen.overdue;
+    let late = seen.late;
+    let found = seen.sought;
+    check_overdue(overdue, check_late(late, Check::Goes(found)))
+}
+
 // 51: "reading below the last one"; then 42, then 41.
 fn check_reading(m: Moment, window: [Entry; WINDOW], nodes: [Node; NODES], sought: Sought) -> Check
     requires { ⌜ Timed m window × SoughtInTime sought ⌝ }
@@ -114,10 +125,7 @@ fn check_reading(m: Moment, window: [Entry; WINDOW], nodes: [Node; NODES], sough
     let psi = m.psi;
     let t = m.t;
     let seen = run_window::look(window, nodes, psi, m.slack, t, sought);
-    let overdue = seen.overdue;
-    let late = seen.late;
-    let found = seen.sought;
-    check_overdue(overdue, check_late(late, Check::Goes(found)))
+    check_seen(seen)
 }
 
 // 50, and the stop that a run keeps; then the others.

@@ -52,8 +52,10 @@ progressFits resources events states outcomes g =
     && (pendingInLimits events outcomes (g .lengths) (g .pending)
     && (leb (g .position) (lastPosition + 1) && ltb (g .state) states))))
 
--- where a behaviour of a plan stands; a plan with more than 16 resources or events has no such place
+-- the same of any counts: with more than 16 resources or events there is no such place
+abbrev pub progressWithin : ℕ → ℕ → ℕ → List ℕ → Progress → Bool
+progressWithin resources events states outcomes g = leb resources 16 && (leb events 16 && progressFits resources events states outcomes g)
+
+-- where a behaviour of a plan stands
 unfoldable pub progressInLimits : Plan → Progress → Bool
-progressInLimits p g =
-    leb (p .resources) 16
-    && (leb (p .events) 16 && progressFits (p .resources) (p .events) (p .automaton .states) (p .outcomes) g)
+progressInLimits p g = progressWithin (p .resources) (p .events) (p .automaton .states) (p .outcomes) g

@@ -12,14 +12,8 @@ use times::Progress;
 pub fn progress_in_limits(plan: Plan, progress: Progress) -> bool
     ensures { λ r. ⌜ r ≡ progressInLimits plan progress ⌝ }
 {
-    if plan.resources > 16 {
-        return false;
-    }
-    if plan.events > 16 {
-        return false;
-    }
     let outcomes = plan.outcomes;
-    progress::progress_fits(
+    progress::progress_within(
         plan.resources,
         plan.events,
         plan.automaton.states,

@@ -1,7 +1,7 @@
 // The limits of what is stored between transitions.
 ghost use mathlib.Core.Path.{_≡_};
 ghost use Prim.Native.Nat.{_≤_};
-ghost use Rattle.run_limits.specs.Progress.{timesInLimits, toldNames, instanceInLimits, placeInLimits, pendingInLimits, progressFits};
+ghost use Rattle.run_limits.specs.Progress.{timesInLimits, toldNames, instanceInLimits, placeInLimits, pendingInLimits, progressFits, progressWithin};
 use plan_limits::numbers;
 use time::HORIZON;
 use time::Specified;
@@ -89,7 +89,7 @@ fn pending_in_limits(
 }
 
 // Where a behaviour stands, of a plan with so many resources, events and states.
-pub fn progress_fits(
+fn progress_fits(
     resources: u8,
     events: u8,
     states: u8,
@@ -119,4 +119,23 @@ pub fn progress_fits(
         return false;
     }
     progress.state < states
+}
+
+// The same, of any counts.
+pub fn progress_within(
+    resources: u8,
+    events: u8,
+    states: u8,
+    outcomes: [u8; 16],
+    progress: Progress,
+) -> bool
+    ensures { λ r. ⌜ r ≡ progressWithin resources events states outcomes progress ⌝ }
+{
+    if resources > 16 {
+        return false;
+    }
+    if events > 16 {
+        return false;
+    }
+    progress_fits(resources, events, states, outcomes, progress)
 }

@@ -9,3 +9,4 @@ pub mod Tests
 pub mod Sought
 pub mod Content
 pub mod Where
+pub mod Scans

@@ -9,7 +9,7 @@ ghost use Rattle.run_window.specs.Window.{vacant, isFree, startedOf, isO
 ghost use Rattle.run_window.specs.Inner.Times.{InTime};
 
 mod places; // the whole window
-mod search; // the first of what a call looks for
+pub mod search; // the first of what a call looks for
 
 // the most nodes that the window holds
 pub const WINDOW: usize = 512;

@@ -37,7 +37,7 @@ fn before(x: u64, y: u64, a: Entry, b: Entry) -> bool
 }
 
 // "by peripheral number, events after all actions"
-fn rank(kind: Kind) -> u64
+pub fn rank(kind: Kind) -> u64
     ensures { λ r. ⌜ r ≡ rank kind ⌝ }
 {
     match kind {
@@ -105,7 +105,7 @@ fn better(sought: Sought, i: usize, e: Entry, r: u64, rest: Ranked) -> Ranked
 }
 
 // What is sought of place i with entry e and of what was found behind it.
-fn kept(sought: Sought, i: usize, e: Entry, r: u64, rest: Ranked) -> Ranked
+pub fn kept(sought: Sought, i: usize, e: Entry, r: u64, rest: Ranked) -> Ranked
     requires { ⌜ SoughtInTime sought × InTime e ⌝ }
     ensures { λ b. ⌜ b ≡ keptBy sought i e r rest ⌝ }
 {
@@ -116,7 +116,7 @@ fn kept(sought: Sought, i: usize, e: Entry, r: u64, rest: Ranked) -> Ranked
 }
 
 // Whether an entry is overdue, late, or what is sought. Most of a window is none of these, and `look` passes it by.
-fn is_noticed(psi: Clock, slack: u64, t: Clock, sought: Sought, e: Entry) -> bool
+pub fn is_noticed(psi: Clock, slack: u64, t: Clock, sought: Sought, e: Entry) -> bool
     requires { ⌜ (psi .0 ≤ horizon) × (slack ≤ horizon) × SoughtInTime sought × InTime e ⌝ }
     ensures { λ r. ⌜ r ≡ isNoticed psi slack t sought e ⌝ }
 {
@@ -130,7 +130,7 @@ fn is_noticed(psi: Clock, slack: u64, t: Clock, sought: Sought, e: Entry) -> boo
 }
 
 // What was found, without the ranks.
-fn seen(overdue: Ranked, late: Ranked, best: Ranked) -> Seen
+pub fn seen(overdue: Ranked, late: Ranked, best: Ranked) -> Seen
     ensures { λ r. ⌜ r ≡ seenBy overdue late best ⌝ }
 {
     let first_overdue = overdue.found;
@@ -161,7 +161,7 @@ fn ties(sought: Sought, e: Entry, rest: Ranked) -> bool
 }
 
 // Whether it does so among those that are late, or among what is sought.
-fn ties_either(
+pub fn ties_either(
     psi: Clock,
     slack: u64,
     t: Clock,

@@ -27,7 +27,7 @@ use Rattle.run.specs.declared.Answer.{Answer}
 use Rattle.run.specs.declared.Call.{Call}
 use Rattle.run.specs.declared.Checked.{Checked}
 use Rattle.run.specs.declared.Effect.{Effect}
-use Rattle.run.specs.Calls.{answer, heard, stops, isDone, learnt, callOf, readingOf}
+use Rattle.run.specs.Calls.{answer, heard, stops, isDone, learnt}
 use Rattle.run.specs.Inner.Calls.{toldRun, replyAfter, haltAfter}
 use Rattle.run.specs.Inner.Loads.{Loads}
 use Rattle.run.specs.Inner.Checks.{checkOf}
@@ -158,7 +158,3 @@ Named run (Effect.Learns i x e o) = (i < 512) × (e < run .plan .events) × (o <
 -- the run with these parts; of the moment, its times
 abbrev pub runAt : Plan → Progress → List Entry → Moment → Halt → Run
 runAt plan progress window m halt = record { plan = plan; psi = m .psi; slack = m .slack; progress = progress; window = window; last = m .last; halt = halt }
-
--- an effect that carried out gives the answer to the call
-abbrev pub Answers : Run → Call → Effect → Type 0
-Answers run c x = (acted run (readingOf c) x ≡ callOf run c) × Named run x

@@ -16,9 +16,7 @@ look-requires c κs = let p = c .before .before .before .before .pre in (p .0 .0
 
 returns-2 : tie.Need-returns-2
 unfolding timelyBy
-returns-2 c = let q = c .before .before .look .ensures in rw (le-ltb _ _ (c .before .before .before .before .before .if1 .left), ap (λ (s : Seen). s .overdue) (sym q), ap (λ (s : Seen). s .late) (sym q), ap (λ (s : Seen). s .sought) (sym q), sym (c .before .check-late .ensures)) (c .check-overdue .ensures)
+returns-2 c = let q = c .before .look .ensures in rw (le-ltb _ _ (c .before .before .before .before .if1 .left), ap (λ (s : Seen). s .overdue) (sym q), ap (λ (s : Seen). s .late) (sym q), ap (λ (s : Seen). s .sought) (sym q)) (c .check-seen .ensures)
 
 pub check-reading-spec : {M : Type 1} → statement M
-check-reading-spec =
-    tie.close
-    (tie.spec returns look-requires (λ c κs. search needs) (λ c κs. search needs) returns-2)
+check-reading-spec = tie.close (tie.spec returns look-requires (λ c κs. search needs) returns-2)

@@ -8,8 +8,8 @@ use Rattle.run_outcomes.specs.Told.{toldOf}
 use Rattle.run.specs.declared.Effect.{Effect}
 use Rattle.run.specs.Calls.{callOf}
 use Rattle.run.specs.Inner.Effects.{acted, Named}
-use Rattle.run.proofs.Acting.{call-acted, call-named, rests-acted, stores-acted}
-use Rattle.run.proofs.Loaded.{storing, answerBy, learnt-parts}
+use Rattle.run.specs.Laws.Acting.{call-acted, call-named, rests-acted, stores-acted}
+use Rattle.run.specs.Laws.Loaded.{storing, answerBy, learnt-parts}
 use borrow.Author.Needs.{needs}
 use Rattle.run.proofs.Run.call.Statement.{statement}
 use Rattle.run.proofs.Run.call.Tie as tie

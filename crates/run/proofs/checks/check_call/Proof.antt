@@ -4,33 +4,28 @@ use Prim.Native.Nat.{_<_}
 use native.Mathlib.Omega.{arith}
 use lib.ListN.{length}
 use Rattle.basis.specs.Laws.Lists.{unmapped}
-use Rattle.run.specs.declared.Run.{Run}
 use Rattle.run.specs.Inner.Checks.{checkOf}
-use Rattle.run.specs.Inner.Effects.{runAt}
-use Rattle.run.proofs.Checking.{timed}
-use Rattle.run.proofs.Acting.{place-below}
+use Rattle.run.specs.Laws.Checking.{timed}
+use Rattle.run.specs.Laws.Acting.{place-below}
 use borrow.Author.Needs.{needs}
 use Rattle.run.proofs.checks.check_call.Statement.{statement}
 use Rattle.run.proofs.checks.check_call.Tie as tie
 
-abbrev given : tie.Start → Run
-given s = runAt (s .args .t1) (s .args .progress) (s .args .window) (s .args .m) (s .args .halt)
+long : (c : tie.Start) → length (c .args .run .window) ≡ 512
+long c = search unmapped
 
-long : (s : tie.Start) → length (s .args .window) ≡ 512
-long s = search unmapped
-
-said : (c : tie.After-check-call) → c .check-call .result ≡ checkOf (given (c .before .before .before .before)) (c .before .before .before .before .args .m .t) (c .before .before .before .before .args .sought)
+said : (c : tie.After-check-call) → c .check-call .result ≡ checkOf (c .before .before .before .before .before .before .before .before .args .run) (c .before .before .before .before .before .before .before .before .args .t) (c .before .before .before .before .before .before .before .before .args .sought)
 unfolding checkOf
-said c = rw (sym (c .before .before .run-in-limits .ensures)) (c .check-call .ensures)
+said c = rw (sym (c .before .before .before .before .before .run-in-limits .ensures)) (c .check-call .ensures)
 
 below : (c : tie.After-place-of) → c .place-of .result < 2048
-below c = let s = c .before .before .before .before .before in omega (arith, c .place-of .ensures, place-below (given s) (long s) (s .args .m .t) (s .args .sought) _ (said (c .before)))
+below c = let s = c .before .before .before .before .before .before .before .before .before in omega (arith, c .place-of .ensures, place-below (s .args .run) (long s) (s .args .t) (s .args .sought) _ (said (c .before)))
 
 run-in-limits-requires : tie.Need-run-in-limits-requires
 run-in-limits-requires c κs = c .in-limits .ensures
 
 check-call-requires : tie.Need-check-call-requires
-check-call-requires c κs = λ b. let s = c .before .before .before in let g = sym (c .before .run-in-limits .ensures) ∙ b in (timed (given s) g (s .args .m .t), s .pre g)
+check-call-requires c κs = λ b. let s = c .before .before .before .before .before .before .before in let g = sym (c .before .before .before .before .run-in-limits .ensures) ∙ b in (timed (s .args .run) g (s .args .t), s .pre g)
 
 mul-node : tie.Need-mul-node
 mul-node c = let l = below c in omega arith

@@ -1,7 +1,7 @@
 -- `learns` learns an outcome that the event has, and refuses the others.
 use mathlib.Core.Path.{_∙_}
 use borrow.Author.Tests.{lt-ltb, le-ltb}
-use Rattle.run.proofs.Acting.{no-learning}
+use Rattle.run.proofs.Unlearnt.{no-learning}
 use borrow.Author.Needs.{needs}
 use Rattle.run.proofs.effects.learns.Statement.{statement}
 use Rattle.run.proofs.effects.learns.Tie as tie

@@ -3,7 +3,7 @@ use mathlib.Core.Path.{_≡_, sym}
 use native.Mathlib.Omega.{arith}
 use lib.ListN.{length}
 use Rattle.basis.specs.Laws.Lists.{unmapped}
-use Rattle.run.proofs.Acting.{no-outcomes, getD-past}
+use Rattle.run.proofs.Unlearnt.{no-outcomes, getD-past}
 use borrow.Author.Needs.{needs}
 use Rattle.run.proofs.effects.outcomes_for.Statement.{statement}
 use Rattle.run.proofs.effects.outcomes_for.Tie as tie

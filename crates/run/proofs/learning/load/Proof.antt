@@ -1,15 +1,11 @@
--- `load` stores the outcome, clears the reported place and loads the next paths; carried out, that is the answer to the report.
-use mathlib.Core.Path.{_≡_, refl, _∙_, ap}
+-- `load` stores the outcome, clears the reported place and loads the next paths.
+use mathlib.Core.Path.{_∙_, ap}
 use native.Mathlib.Omega.{arith}
 use lib.ListN.{set}
 use Rattle.times.specs.declared.Progress.{Progress}
 use Rattle.run_window.specs.declared.Entry.{Entry}
-use Rattle.run_window.specs.Window.{vacant}
-use Rattle.run_checks.specs.declared.Halt.{Halt}
 use Rattle.run_outcomes.specs.Told.{toldOf}
 use Rattle.run_loading.specs.Loading.{further, mostPending}
-use Rattle.run.specs.Inner.Effects.{runAt}
-use Rattle.run.proofs.Loaded.{loaded-as}
 use Rattle.run.proofs.Telling.{told-loads}
 use borrow.Author.Needs.{needs}
 use Rattle.run.proofs.learning.load.Statement.{statement}
@@ -21,19 +17,14 @@ told-of-requires c κs = (omega (arith, c .pre .0 .plan .events, c .pre .2), c .
 further-requires : tie.Need-further-requires
 further-requires c κs = let s = c .before .before in told-loads (s .args .plan) (s .args .before) (s .pre .0) _ (s .pre .2) _ (s .pre .3) (s .args .x) _ (c .before .told-of .ensures)
 
-loaded : (c : tie.After-further) → let a = c .before .before .before .args in c .further .result ≡ further (a .plan) mostPending (toldOf (a .before) (a .e) (a .x) (a .o)) (set (a .places) (a .i) vacant)
-loaded c =
+returns : tie.Need-returns
+returns c =
     let a = c .before .before .before .args in
     let g = c .before .before .told-of in
     let v = c .before .vacant in
     c .further .ensures
     ∙ ap (λ (y : Progress). further (a .plan) mostPending y (set (a .places) (a .i) (v .result))) (g .ensures)
     ∙ ap (λ (y : Entry). further (a .plan) mostPending (toldOf (a .before) (a .e) (a .x) (a .o)) (set (a .places) (a .i) y)) (v .ensures)
-
-returns : tie.Need-returns
-returns c =
-    let a = c .before .before .before .args in
-    (loaded c, λ m. loaded-as (runAt (a .plan) (a .before) (a .places) m Halt.Going) refl (m .t) (a .i) (toldOf (a .before) (a .e) (a .x) (a .o)) _ (loaded c))
 
 pub load-spec : {M : Type 1} → statement M
 load-spec =

@@ -6,7 +6,7 @@ load-requires : tie.Need-load-requires
 load-requires c κs = c .before .before .before .pre
 
 returns : tie.Need-returns
-returns c = c .load .ensures .0
+returns c = c .load .ensures
 
 pub load-after-spec : {M : Type 1} → statement M
 load-after-spec = tie.close (tie.spec load-requires returns)

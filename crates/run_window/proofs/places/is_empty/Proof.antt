@@ -5,7 +5,7 @@ use native.Mathlib.Omega.{arith}
 use lib.ListN.{length, drop}
 use Rattle.run_window.specs.Window.{isEmpty}
 use Rattle.basis.specs.Laws.Lists.{unmapped}
-use Rattle.run_window.proofs.Scans.{empty-past, empty-not, empty-all}
+use Rattle.run_window.specs.Laws.Scans.{empty-past, empty-not, empty-all}
 use borrow.Author.Needs.{needs}
 use Rattle.run_window.proofs.places.is_empty.Statement.{statement}
 use Rattle.run_window.proofs.places.is_empty.Tie as tie

@@ -5,7 +5,7 @@ use native.Mathlib.Nat.{zero-add}
 use native.Mathlib.Omega.{arith}
 use lib.ListN.{length}
 use Rattle.basis.specs.Laws.Lists.{unmapped}
-use Rattle.run_window.proofs.Scans.{FromOn, where-past, where-here, where-nowhere}
+use Rattle.run_window.specs.Laws.Scans.{FromOn, where-past, where-here, where-nowhere}
 use borrow.Author.Needs.{needs}
 use Rattle.run_window.proofs.places.place_of.Statement.{statement}
 use Rattle.run_window.proofs.places.place_of.Tie as tie

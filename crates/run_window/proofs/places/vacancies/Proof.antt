@@ -5,7 +5,7 @@ use native.Mathlib.Omega.{arith}
 use lib.ListN.{length, drop}
 use Rattle.run_window.specs.Window.{vacancies}
 use Rattle.basis.specs.Laws.Lists.{unmapped}
-use Rattle.run_window.proofs.Scans.{vacancies-none, vacancies-here, vacancies-past}
+use Rattle.run_window.specs.Laws.Scans.{vacancies-none, vacancies-here, vacancies-past}
 use borrow.Author.Needs.{needs}
 use Rattle.run_window.proofs.places.vacancies.Statement.{statement}
 use Rattle.run_window.proofs.places.vacancies.Tie as tie

@@ -11,7 +11,7 @@ use Rattle.run_window.specs.Inner.Search.{ranked}
 use Rattle.run_window.specs.Laws.Sought.{noticed-held}
 use Rattle.basis.specs.Laws.Bools.{or-false}
 use Rattle.basis.specs.Laws.Lists.{unmapped}
-use Rattle.run_window.proofs.Scans.{rankedFrom, ranked-none, ranked-turn, ranked-passed, ranked-found}
+use Rattle.run_window.specs.Laws.Scans.{rankedFrom, ranked-none, ranked-turn, ranked-passed, ranked-found}
 use borrow.Author.Tests.{not-true, not-false}
 use borrow.Author.Needs.{needs}
 use Rattle.run_window.proofs.search.look_by_rank.Statement.{statement}

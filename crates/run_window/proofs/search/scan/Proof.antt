@@ -7,7 +7,7 @@ use Rattle.run_window.specs.declared.Ranked.{Ranked}
 use Rattle.run_window.specs.declared.Sought.{Sought}
 use Rattle.basis.specs.Laws.Bools.{or-false}
 use Rattle.basis.specs.Laws.Lists.{unmapped}
-use Rattle.run_window.proofs.Scans.{FirstFrom, scan-none, scan-passed, scan-turn, overdue-agrees, untied-agrees}
+use Rattle.run_window.specs.Laws.Scans.{FirstFrom, scan-none, scan-passed, scan-turn, overdue-agrees, untied-agrees}
 use borrow.Author.Tests.{not-true}
 use borrow.Author.Needs.{needs}
 use Rattle.run_window.proofs.search.scan.Statement.{statement}

@@ -1,0 +1,3 @@
+-- What the proofs share.
+pub mod Mapped
+pub mod MappedPlaces

@@ -1,0 +1,4 @@
+-- What is proved of the definitions.
+pub mod Checking
+pub mod Acting
+pub mod Loaded
