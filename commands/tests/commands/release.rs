@@ -130,8 +130,8 @@ pub fn packed(mutation: Mutation) -> Answer {
     unpacked(&packing, &archive)
 }
 
-/// Unpacked elsewhere: the checksums hold, what is told is there, the commands run with nothing on the PATH, and so does the
-/// example, once it is compiled.
+/// Unpacked elsewhere: the checksums hold, what is told is there, the commands run with nothing on the PATH, and the example is
+/// compiled and runs.
 fn unpacked(packing: &Packing, archive: &Path) -> Answer {
     let elsewhere = Folder::new();
     let mut tar = Command::new("tar");

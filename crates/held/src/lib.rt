@@ -120,7 +120,7 @@ pub struct Held {
 
 // ---- from numbers
 
-// A plan with the nodes of its activities: a call reads no others, and to read them all would take longer than the call.
+// A plan with the nodes of its activities: loading reads no others, and to convert them all takes long.
 pub fn plan_upto(h: HeldPlan) -> Plan
     ensures { λ r. ⌜ r ≡ planUpto h ⌝ }
 {

@@ -157,7 +157,7 @@ pub fn effect_on(h: Held, c: Call) -> Effect
     held_checks::effect(c, check, nodes, outcomes)
 }
 
-// Carries out every effect but an outcome that loads: only `outcome` has one, and the room on the stack for it.
+// Carries out every effect but `Learns`: only `outcome` has that, and the room on the stack for it.
 pub fn carried(finals: u64, rest: HeldRest, c: Call, effect: Effect) -> Stepped
     requires { ⌜ Carries rest effect ⌝ }
     ensures { λ r. ⌜ r ≡ carriedBy finals rest c effect ⌝ }
