@@ -12,6 +12,7 @@ pub mod Following
 pub mod Halts
 pub mod Later
 pub mod Lowest
+pub mod Spare
 pub mod States
 pub mod Ways
 pub mod Works

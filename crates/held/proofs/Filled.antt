@@ -26,6 +26,10 @@ fill-turn X Y f w v u d i h e p = ap (λ (l : List Y). set l i (f (getD w i d)))
 pub fill-end : (X Y : Type 0) (f : X → Y) (w : List X) (v : List Y) (i : ℕ) → length w ≤ i → length w ≡ length v → filled X Y f w v i ≡ map f w
 fill-end X Y f w v i h e = rw (take-all i w h, drop-of-length-le v (subst (λ (n : ℕ). n ≤ i) e h), append-nil (map f w))
 
+-- behind the end nothing is left to fill in
+pub fill-past : (X Y : Type 0) (f : X → Y) (w : List X) (v : List Y) (i n : ℕ) → length w ≤ i → length w ≤ n → length w ≡ length v → filled X Y f w v i ≡ filled X Y f w v n
+fill-past X Y f w v i n h k e = fill-end X Y f w v i h e ∙ sym (fill-end X Y f w v n k e)
+
 -- what is not reached yet is as it was
 unreached : (X : Type 0) (f : X → X) (w v : List X) (d : X) (i : ℕ) → i < length w → length w ≡ length v → getD (filled X X f w v i) i d ≡ getD v i d
 unreached X f [] v d i h e = absurd (not-suc-le-zero h)

@@ -120,18 +120,18 @@ pub struct Held {
 
 // ---- from numbers
 
-// A plan with the nodes of its activities: loading reads no others, and to convert them all takes long.
+// A plan with the nodes of its activities and its transitions: loading reads no others, and to convert them all takes long. The nodes
+// are put where they stay: a function that hands back an array copies it.
 pub fn plan_upto(h: HeldPlan) -> Plan
     ensures { λ r. ⌜ r ≡ planUpto h ⌝ }
 {
-    let held_nodes = h.nodes;
     let held_moves = h.moves;
-    let nodes = nodes::nodes_upto(h.activities, held_nodes);
-    let moves = moves::moves_of(held_moves);
+    let moves = moves::moves_upto(h.count, held_moves);
     let belongs = h.belongs;
     let sizes = h.sizes;
     let outcomes = h.outcomes;
-    Plan {
+    let zero = nodes::zero_node();
+    let mut plan = Plan {
         resources: h.resources,
         peripherals: h.peripherals,
         belongs,
@@ -139,7 +139,7 @@ pub fn plan_upto(h: HeldPlan) -> Plan
         outcomes,
         activities: h.activities,
         sizes,
-        nodes,
+        nodes: [zero; NODES],
         automaton: Automaton {
             states: h.states,
             initial: h.initial,
@@ -147,7 +147,19 @@ pub fn plan_upto(h: HeldPlan) -> Plan
             count: h.count,
             moves,
         },
+    };
+    let most = 64 * (h.activities as usize);
+    let mut i: usize = 0;
+    while i < NODES {
+        if i >= most {
+            return plan;
+        }
+        let x = h.nodes[i];
+        let n = nodes::node_of(x);
+        plan.nodes[i] = n;
+        i += 1;
     }
+    plan
 }
 
 // ---- as numbers

@@ -6,6 +6,7 @@ use plan::Transition;
 ghost use mathlib.Core.List.{map};
 ghost use mathlib.Core.Path.{_≡_};
 ghost use Rattle.held.specs.Held.{inputOf, outputOf, moveOf, inputNumber, inputEvent, inputOutcome, outputNumber, outputActivity, heldMove};
+ghost use Rattle.held.specs.Inner.Plans.{movesUpto};
 
 fn input_of(input: u8, event: u8, outcome: u8) -> Input
     ensures { λ r. ⌜ r ≡ inputOf input event outcome ⌝ }
@@ -100,8 +101,9 @@ fn hold_move(m: Transition) -> HeldMove
     }
 }
 
-pub fn moves_of(held: [HeldMove; 256]) -> [Transition; 256]
-    ensures { λ r. ⌜ r ≡ map moveOf held ⌝ }
+// The first transitions; behind them zeros.
+pub fn moves_upto(count: u16, held: [HeldMove; 256]) -> [Transition; 256]
+    ensures { λ r. ⌜ r ≡ movesUpto count held ⌝ }
 {
     let zero = Transition {
         from: 0,
@@ -109,9 +111,13 @@ pub fn moves_of(held: [HeldMove; 256]) -> [Transition; 256]
         input: Input::Nothing,
         output: Output::Empty,
     };
+    let most = count as usize;
     let mut moves = [zero; 256];
     let mut i: usize = 0;
     while i < 256 {
+        if i >= most {
+            return moves;
+        }
         let h = held[i];
         let m = move_of(h);
         moves[i] = m;

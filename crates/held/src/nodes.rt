@@ -5,9 +5,8 @@ use plan::NODES;
 use plan::Node;
 ghost use mathlib.Core.List.{map};
 ghost use mathlib.Core.Path.{_≡_};
-ghost use Prim.Native.Nat.{_*_};
 ghost use Rattle.held.specs.Held.{kindOf, nodeOf, kindNumber, numberIn, peripheralIn, heldNode};
-ghost use Rattle.held.specs.Inner.Plans.{nodesUpto};
+ghost use Rattle.held.specs.Inner.Plans.{zeroNode};
 
 fn kind_of(kind: u8, number: u8, peripheral: u8) -> Kind
     ensures { λ r. ⌜ r ≡ kindOf kind number peripheral ⌝ }
@@ -86,30 +85,17 @@ fn hold_node(n: Node) -> HeldNode
     }
 }
 
-// The nodes of the first activities; behind them zeros.
-pub fn nodes_upto(activities: u8, held: [HeldNode; NODES]) -> [Node; NODES]
-    ensures { λ r. ⌜ r ≡ nodesUpto (64 * activities) held ⌝ }
+// A node of zeros, for spare room.
+pub fn zero_node() -> Node
+    ensures { λ r. ⌜ r ≡ zeroNode ⌝ }
 {
     let preds = [0u8; 8];
-    let zero = Node {
+    Node {
         duration: 0,
         kind: Kind::Action(0, 0),
         count: 0,
         preds,
-    };
-    let most = 64 * (activities as usize);
-    let mut nodes = [zero; NODES];
-    let mut i: usize = 0;
-    while i < NODES {
-        if i >= most {
-            return nodes;
-        }
-        let h = held[i];
-        let n = node_of(h);
-        nodes[i] = n;
-        i += 1;
     }
-    nodes
 }
 
 pub fn hold_nodes(nodes: [Node; NODES]) -> [HeldNode; NODES]

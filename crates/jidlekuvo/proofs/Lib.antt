@@ -1,3 +1,4 @@
 -- What the proofs share.
 pub mod Stepping
 pub mod Carrying
+pub mod Deciding

@@ -1,4 +1,5 @@
 -- What the exported functions answer, and the run that they leave.
+use mathlib.Core.Path.{_≡_}
 use mathlib.Core.Bool.{Bool, true, false, cond}
 use Prim.Native.Nat.{ℕ}
 use Rattle.time.specs.declared.Clock.{Clock}
@@ -9,8 +10,9 @@ use Rattle.run.specs.declared.Opened.{Opened}
 use Rattle.held.specs.declared.HeldRest.{HeldRest}
 use Rattle.held.specs.declared.Held.{Held}
 use Rattle.held.specs.Held.{haltOf, restOf, heldOf}
+use Rattle.jidlekuvo.specs.declared.HostReply.{HostReply}
 use Rattle.jidlekuvo.specs.declared.HeldOpened.{HeldOpened}
-use Rattle.jidlekuvo.specs.Replies.{openingTold}
+use Rattle.jidlekuvo.specs.Replies.{toldOf, openingTold}
 
 -- the number of this form of a run's bytes
 abbrev pub abi : ℕ
@@ -44,3 +46,7 @@ restAfter h a = cond (isKept (haltOf (h .rest .halt)) (a .reply)) (h .rest) (res
 -- the plan's bytes stay at every call
 abbrev pub heldAfter : Held → Answer → Held
 heldAfter h a = record { rest = restAfter h a; plan = h .plan }
+
+-- a call to the run h that is answered with a: what it returns, and the run that it leaves
+abbrev pub Answers : Held → Answer → HostReply → Held → Type 0
+Answers h a reply after = (reply ≡ toldOf (a .reply)) × (after ≡ heldAfter h a)

@@ -12,8 +12,7 @@ ghost use Rattle.numbers.specs.Codes.{codeOf};
 ghost use Rattle.run.specs.Calls.{callOf, askOf, completionOf, outcomeOf};
 ghost use Rattle.run.specs.Opening.{openOf};
 ghost use Rattle.held.specs.Held.{runOf};
-ghost use Rattle.jidlekuvo.specs.Replies.{toldOf};
-ghost use Rattle.jidlekuvo.specs.Host.{abi, clock, openedAs, heldAfter};
+ghost use Rattle.jidlekuvo.specs.Host.{abi, clock, openedAs, Answers};
 ghost use Rattle.jidlekuvo.specs.Inner.Steps.{steppedTo, Plain, askStep, completionStep, outcomeStep};
 
 pub mod replies; // what is answered, as numbers
@@ -51,9 +50,12 @@ fn step(h: Held, c: Call) -> Stepped
     requires { ⌜ Plain c ⌝ }
     ensures { λ r. ⌜ r ≡ steppedTo h (callOf (runOf h) c) ⌝ }
 {
-    let effect = steps::effect_on(h, c);
+    let plan = h.plan;
     let rest = h.rest;
-    steps::carried(h.plan.finals, rest, c, effect)
+    let limits = steps::in_limits(plan, rest, c);
+    let check = steps::check_on(limits, plan, rest, c);
+    let effect = steps::effect_on(plan, c, check);
+    steps::carried(plan.finals, rest, c, effect)
 }
 
 fn ask(h: Held, t: u64) -> Stepped
@@ -72,9 +74,11 @@ fn outcome(h: Held, t: u64, position: u32, node: u8, o: u8) -> Stepped
     ensures { λ r. ⌜ r ≡ outcomeStep h t position node o ⌝ }
 {
     let c = Call::Outcome(Clock(t), position, node, o);
-    let effect = steps::effect_on(h, c);
     let plan = h.plan;
     let rest = h.rest;
+    let limits = steps::in_limits(plan, rest, c);
+    let check = steps::check_on(limits, plan, rest, c);
+    let effect = steps::effect_on(plan, c, check);
     let Effect::Learns(i, x, e, told) = effect else {
         return steps::carried(plan.finals, rest, c, effect);
     };
@@ -117,7 +121,7 @@ pub extern "C" fn jidlekuvo_open(plan: &[u8], psi: u64, slack: u64, available: &
 // A call writes all of the run but its plan.
 #[no_mangle]
 pub extern "C" fn jidlekuvo_ask(run: &mut Held, t: u64) -> HostReply
-    ensures { λ r. ⌜ (r ≡ toldOf (askOf (runOf (now (run .entry))) (clock t) .reply)) × (now (run .exit) ≡ heldAfter (now (run .entry)) (askOf (runOf (now (run .entry))) (clock t))) ⌝ }
+    ensures { λ r. ⌜ Answers (now (run .entry)) (askOf (runOf (now (run .entry))) (clock t)) r (now (run .exit)) ⌝ }
 {
     let s = ask(*run, t);
     run.rest = s.rest;
@@ -126,7 +130,7 @@ pub extern "C" fn jidlekuvo_ask(run: &mut Held, t: u64) -> HostReply
 
 #[no_mangle]
 pub extern "C" fn jidlekuvo_completion(run: &mut Held, t: u64, position: u32, node: u8) -> HostReply
-    ensures { λ r. ⌜ (r ≡ toldOf (completionOf (runOf (now (run .entry))) (clock t) position node .reply)) × (now (run .exit) ≡ heldAfter (now (run .entry)) (completionOf (runOf (now (run .entry))) (clock t) position node)) ⌝ }
+    ensures { λ r. ⌜ Answers (now (run .entry)) (completionOf (runOf (now (run .entry))) (clock t) position node) r (now (run .exit)) ⌝ }
 {
     let s = completion(*run, t, position, node);
     run.rest = s.rest;
@@ -141,7 +145,7 @@ pub extern "C" fn jidlekuvo_outcome(
     node: u8,
     o: u8,
 ) -> HostReply
-    ensures { λ r. ⌜ (r ≡ toldOf (outcomeOf (runOf (now (run .entry))) (clock t) position node o .reply)) × (now (run .exit) ≡ heldAfter (now (run .entry)) (outcomeOf (runOf (now (run .entry))) (clock t) position node o)) ⌝ }
+    ensures { λ r. ⌜ Answers (now (run .entry)) (outcomeOf (runOf (now (run .entry))) (clock t) position node o) r (now (run .exit)) ⌝ }
 {
     let s = outcome(*run, t, position, node, o);
     run.rest = s.rest;

@@ -1,7 +1,6 @@
 // What a call does to a run that is given as numbers, and the answer that it then gets.
 use crate::Stepped;
 use crate::replies;
-use held::Held;
 use held::HeldEntry;
 use held::HeldPlan;
 use held::HeldRest;
@@ -10,6 +9,7 @@ use run::Effect;
 use run::Halt;
 use run::Reply;
 use run::Stop;
+use run_checks::Check;
 use run_checks::Moment;
 use run_loading::Loading;
 use run_window::Entry;
@@ -26,10 +26,11 @@ ghost use Rattle.run.specs.declared.Effect.{Effect};
 ghost use Rattle.run.specs.declared.Reply.{Reply};
 ghost use Rattle.run.specs.Calls.{readingOf};
 ghost use Rattle.run.specs.Inner.Calls.{haltAfter, replyAfter};
-ghost use Rattle.run.specs.Inner.Effects.{soughtBy, checkedOf, effectOf, acted, restsAs, runAt};
-ghost use Rattle.held.specs.Held.{entryOf, planOf, runOf};
+ghost use Rattle.run.specs.Inner.Effects.{soughtBy, foundBy, placeOf, acted, restsAs, runAt};
+ghost use Rattle.held.specs.Held.{entryOf, planOf};
+ghost use Rattle.held_checks.specs.Inner.Checks.{allButNodes, checkNodesLast};
 ghost use Rattle.jidlekuvo.specs.Replies.{toldOf};
-ghost use Rattle.jidlekuvo.specs.Inner.Steps.{steppedOf, steppedBy, steppedWith, Carries, carriedBy};
+ghost use Rattle.jidlekuvo.specs.Inner.Steps.{runBy, effectIn, steppedOf, steppedBy, steppedWith, Carries, carriedBy};
 
 // The answer of a call that leaves every byte of the run.
 fn kept(rest: HeldRest, told: Reply) -> Stepped
@@ -116,8 +117,10 @@ pub fn learns(
 {
     let held_window = rest.window;
     let plan = held::plan_upto(held);
-    let window = held::places::window_of(held_window);
-    let loading = run::learning::load(plan, progress, window, i, x, e, o);
+    let free = run_window::vacant();
+    let mut window = held::places::window_of(held_window);
+    window[i] = free;
+    let loading = run::learning::load(plan, progress, window, x, e, o);
     learnt(m, loading)
 }
 
@@ -135,23 +138,43 @@ fn at_rest(finals: u64, state: u8, rest: HeldRest) -> Reply
     Reply::Wait
 }
 
-// What a call does to the run. What is only handed on is not copied, and no more is made of the numbers than a call needs.
-pub fn effect_on(h: Held, c: Call) -> Effect
-    ensures { λ r. ⌜ r ≡ effectOf c (checkedOf (runOf h) (readingOf c) (soughtBy (runOf h .psi) c)) ⌝ }
+// ---- what a call does to the run
+
+// Each of the next three has two callers, `step` and `outcome`, and so stands by itself: in one function the arrays that they index
+// would be copied at its entry too. No more is made of the numbers than a call needs.
+
+// Whether the run lies within the limits, but for the nodes of its plan.
+pub fn in_limits(plan: HeldPlan, rest: HeldRest, c: Call) -> bool
+    ensures { λ r. ⌜ r ≡ allButNodes (runBy plan rest) ⌝ }
 {
-    let plan = h.plan;
-    let rest = h.rest;
     let held_progress = rest.progress;
     let held_halt = rest.halt;
-    let outcomes = plan.outcomes;
     let m = held_checks::moment_of(rest, c);
-    let psi = m.psi;
     let progress = held::progresses::progress_of(held_progress);
     let halt = held::halts::halt_of(held_halt);
-    let limits = held_checks::all_but_nodes(plan, rest, progress, m, halt);
+    held_checks::all_but_nodes(plan, rest, progress, m, halt)
+}
+
+// What the checks say, with the nodes taken to be within the limits.
+pub fn check_on(limits: bool, plan: HeldPlan, rest: HeldRest, c: Call) -> Check
+    requires { ⌜ limits ≡ allButNodes (runBy plan rest) ⌝ }
+    ensures { λ r. ⌜ r ≡ checkNodesLast (runBy plan rest) (readingOf c) (soughtBy (rest .psi) c) ⌝ }
+{
+    let held_halt = rest.halt;
+    let m = held_checks::moment_of(rest, c);
+    let psi = m.psi;
     let sought = run::effects::sought_by(psi, c);
     let seen = held_checks::look(limits, rest, plan, m, sought);
-    let check = held_checks::check_call(limits, halt, m, seen);
+    let halt = held::halts::halt_of(held_halt);
+    held_checks::check_call(limits, halt, m, seen)
+}
+
+// What the call then does.
+pub fn effect_on(plan: HeldPlan, c: Call, check: Check) -> Effect
+    requires { ⌜ placeOf (foundBy check) < 2_048 ⌝ }
+    ensures { λ r. ⌜ r ≡ effectIn plan c check ⌝ }
+{
+    let outcomes = plan.outcomes;
     let k = run::effects::place_of(check);
     let nodes = held_checks::plans::nodes_in_limits(plan, k);
     held_checks::effect(c, check, nodes, outcomes)

@@ -40,34 +40,33 @@ pub fn reply_after(failure: Failure) -> Reply
     }
 }
 
-// The outcome o of event e is known, the reported node leaves the window, and the next paths are loaded: "the report and any path
-// loaded before still count".
+// The outcome o of event e is known, and the next paths are loaded into the window, which the reported node has left: "the report and
+// any path loaded before still count".
 pub fn load(
     plan: Plan,
     before: Progress,
-    places: [Entry; Run::WINDOW],
-    i: usize,
+    window: [Entry; Run::WINDOW],
     x: Entry,
     e: u8,
     o: u8,
 ) -> Loading
-    requires { ⌜ Loads plan before × (i < 512) × (e < plan .events) × (o < outcomesOf plan e) ⌝ }
-    ensures { λ r. ⌜ r ≡ further plan mostPending (toldOf before e x o) (set places i vacant) ⌝ }
+    requires { ⌜ Loads plan before × (e < plan .events) × (o < outcomesOf plan e) ⌝ }
+    ensures { λ r. ⌜ r ≡ further plan mostPending (toldOf before e x o) window ⌝ }
 {
     let told = run_outcomes::told_of(before, e, x, o);
-    let free = run_window::vacant();
-    let mut window = places;
-    window[i] = free;
     run_loading::further(plan, told, window)
 }
 
-// The same of a run.
+// The same of a run, whose node at place i was reported. The place is cleared here, where the window is taken out of the run: a function
+// that changes what it is handed copies it.
 pub fn load_after(run: Run, i: usize, x: Entry, e: u8, o: u8) -> Loading
     requires { ⌜ Loads (run .plan) (run .progress) × (i < 512) × (e < run .plan .events) × (o < outcomesOf (run .plan) e) ⌝ }
     ensures { λ r. ⌜ r ≡ further (run .plan) mostPending (toldOf (run .progress) e x o) (set (run .window) i vacant) ⌝ }
 {
     let plan = run.plan;
     let progress = run.progress;
-    let window = run.window;
-    load(plan, progress, window, i, x, e, o)
+    let free = run_window::vacant();
+    let mut window = run.window;
+    window[i] = free;
+    load(plan, progress, window, x, e, o)
 }

@@ -22,7 +22,7 @@ ghost use Rattle.plan.specs.Limits.{InLimits, OutputNames};
 ghost use Rattle.run_path.specs.Path.{isWork, activityNumber, pathFrom, longestPath};
 ghost use Rattle.run_path.specs.Pathed.{ProgressIn, Leads, pathed};
 ghost use Rattle.activity.specs.Inner.Copied.{emptyNode};
-ghost use Rattle.run_path.specs.Inner.Path.{emittedOf, emittedCount, entryOf, countedOf, isKept, nothingYet};
+ghost use Rattle.run_path.specs.Inner.Path.{emittedOf, emittedCount, entryOf, countedOf, isKept};
 
 // A path: its entries, all counted and the first 512 kept, and where it ends.
 pub struct Pathed {
@@ -134,22 +134,9 @@ fn is_kept(place: usize, x: Node) -> bool
     false
 }
 
-// A path of no transition.
-fn nothing_yet(progress: Progress) -> Pathed
-    ensures { λ r. ⌜ r ≡ nothingYet progress ⌝ }
-{
-    let free = vacant();
-    Pathed {
-        beyond: false,
-        entries: [free; WINDOW],
-        count: 0,
-        progress: progress,
-    }
-}
-
 // The path from what a state does next, up to a waiting or final state, which an accepted plan reaches within 64 transitions. Its
-// activities are copied out of the plan here, and its entries put where they stay: a function that is handed a plan or a path
-// copies all of it.
+// activities are copied out of the plan here, and its entries put where they stay: a function that is handed a plan or a path, or
+// hands one back, copies all of it.
 pub fn path(plan: Plan, mut next: Next, progress: Progress) -> Pathed
     requires { ⌜ InLimits plan ⌝ }
     requires { ⌜ Leads (plan .automaton .count) next ⌝ }
@@ -157,7 +144,13 @@ pub fn path(plan: Plan, mut next: Next, progress: Progress) -> Pathed
     ensures { λ r. ⌜ r ≡ pathed (pathFrom plan longestPath next progress) ⌝ }
 {
     let automaton = plan.automaton;
-    let mut found = nothing_yet(progress);
+    let free = vacant();
+    let mut found = Pathed {
+        beyond: false,
+        entries: [free; WINDOW],
+        count: 0,
+        progress: progress,
+    };
     for _ in 0..64usize {
         let Next::Goes(t) = next else {
             return found;

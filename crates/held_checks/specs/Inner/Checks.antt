@@ -12,7 +12,7 @@ use Rattle.run_window.specs.declared.Found.{Found}
 use Rattle.run_window.specs.declared.Scan.{Scan}
 use Rattle.run_window.specs.declared.Seen.{Seen}
 use Rattle.run_window.specs.declared.Sought.{Sought}
-use Rattle.run_window.specs.Inner.Search.{Scanned}
+use Rattle.run_window.specs.Inner.Search.{Scanned, firstOf}
 use Rattle.run_limits.specs.Progress.{progressInLimits}
 use Rattle.run_limits.specs.Window.{windowInLimits}
 use Rattle.run_checks.specs.declared.Halt.{Halt}
@@ -21,11 +21,11 @@ use Rattle.run_checks.specs.declared.Objection.{Objection}
 use Rattle.run_checks.specs.declared.Check.{Check}
 use Rattle.run_checks.specs.declared.Moment.{Moment}
 use Rattle.run_checks.specs.Limits.{haltInLimits, slackInLimits}
-use Rattle.run_checks.specs.Order.{isBelow, readingThen, onHalt}
+use Rattle.run_checks.specs.Order.{isBelow, readingThen, onHalt, calledBy}
 use Rattle.run.specs.declared.Run.{Run}
 use Rattle.run.specs.declared.Call.{Call}
 use Rattle.run.specs.declared.Effect.{Effect}
-use Rattle.run.specs.Calls.{readingOf}
+use Rattle.run.specs.Calls.{momentOf, readingOf}
 use Rattle.run.specs.Inner.Effects.{outcomesFor, refusing, effectBy}
 use Rattle.held.specs.declared.HeldRest.{HeldRest}
 use Rattle.held_checks.specs.Inner.Limits.{numbersInLimits}
@@ -57,6 +57,11 @@ checkSeen limits halt m seen =
     cond limits
     (onHalt halt (λ s. Check.Objects (Objection.Keeps s)) (readingThen (isBelow m) (seen .overdue) (seen .late) Check.Objects (Check.Goes (seen .sought))))
     (Check.Objects (Objection.Refuses Refusal.OutOfLimits))
+
+-- what the checks of a run say, with the nodes of its plan taken to be within the limits
+abbrev pub checkNodesLast : Run → Clock → Sought → Check
+checkNodesLast run t sought =
+    calledBy (allButNodes run) (run .halt) (momentOf run t) (run .plan .nodes) (run .window) Check.Objects (Check.Goes (firstOf (run .plan .nodes) sought (run .window)))
 
 -- what the call does, from what the checks say, whether the nodes are within the limits, and the kind of the one that was found
 abbrev pub effectRead : Call → Check → Bool → Kind → List ℕ → Effect

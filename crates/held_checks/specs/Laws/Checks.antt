@@ -37,7 +37,7 @@ use Rattle.run.specs.Inner.Effects.{soughtBy, foundBy, placeOf, outcomesFor, ki
 use Rattle.run.specs.Laws.Checking.{tells-self, node-below, window-timed}
 use Rattle.run.specs.Laws.Acting.{found-holds}
 use Rattle.held_checks.specs.Inner.Limits.{countedInLimits, numbersInLimits, nodesGood}
-use Rattle.held_checks.specs.Inner.Checks.{allButNodes, checkSeen, effectRead}
+use Rattle.held_checks.specs.Inner.Checks.{allButNodes, checkSeen, checkNodesLast, effectRead}
 use Rattle.held_checks.specs.Laws.Limits.{both-parts}
 
 -- ---- the limits
@@ -120,11 +120,6 @@ module _ (run : Run) (good : allButNodes run ≡ true) where
       node-below (run .plan .activities) (run .plan .sizes) few small e (f .0 .held) (subst (λ (x : Entry). entryInLimits (run .plan .activities) (run .plan .sizes) x ≡ true) (f .0 .entry) (parts .1 .1 .0 i (f .1)))
 
 -- ---- what the checks say
-
--- with the nodes taken to be within the limits
-abbrev pub checkNodesLast : Run → Clock → Sought → Check
-checkNodesLast run t sought =
-    calledBy (allButNodes run) (run .halt) (momentOf run t) (run .plan .nodes) (run .window) Check.Objects (Check.Goes (firstOf (run .plan .nodes) sought (run .window)))
 
 -- by what was found
 pub seen-checked : (run : Run) (t : Clock) (sought : Sought) (limits : Bool) (seen : Seen) → limits ≡ allButNodes run

@@ -1,23 +1,28 @@
 -- The answer to a call and all of the run but its plan after it, before they are stored.
 use mathlib.Core.List.{List, map}
 use Prim.Native.Nat.{ℕ, _<_}
-use lib.ListN.{set}
+use lib.ListN.{getD, set}
+use Rattle.plan.specs.Plan.{pastNode}
 use Rattle.times.specs.declared.Progress.{Progress}
 use Rattle.run_window.specs.declared.Entry.{Entry}
+use Rattle.run_checks.specs.declared.Check.{Check}
 use Rattle.run_checks.specs.declared.Halt.{Halt}
 use Rattle.run_checks.specs.declared.Moment.{Moment}
+use Rattle.run.specs.declared.Run.{Run}
 use Rattle.run.specs.declared.Reply.{Reply}
 use Rattle.run.specs.declared.Answer.{Answer}
 use Rattle.run.specs.declared.Call.{Call}
 use Rattle.run.specs.declared.Effect.{Effect}
-use Rattle.run.specs.Inner.Effects.{restsAs}
+use Rattle.run.specs.Inner.Effects.{foundBy, placeOf, restsAs}
 use Rattle.run.specs.Calls.{askOf, completionOf, outcomeOf}
 use Rattle.held.specs.declared.Held.{Held}
 use Rattle.held.specs.declared.HeldEntry.{HeldEntry}
+use Rattle.held.specs.declared.HeldPlan.{HeldPlan}
 use Rattle.held.specs.declared.HeldRest.{HeldRest}
-use Rattle.held.specs.Held.{entryOf, progressOf, runOf, restOf}
+use Rattle.held.specs.Held.{entryOf, progressOf, planOf, runOf, restOf}
 use Rattle.held.specs.Inner.Rest.{restWith, restBy}
-use Rattle.held_checks.specs.Inner.Checks.{momentAt}
+use Rattle.held_checks.specs.Inner.Limits.{nodesGood}
+use Rattle.held_checks.specs.Inner.Checks.{momentAt, effectRead}
 use Rattle.jidlekuvo.specs.declared.Stepped.{Stepped}
 use Rattle.jidlekuvo.specs.Replies.{toldOf}
 use Rattle.jidlekuvo.specs.Host.{clock, restAfter}
@@ -37,7 +42,18 @@ steppedBy m window progress halt told = record { rest = restBy (m .psi) (m .slac
 abbrev pub steppedWith : Moment → List HeldEntry → Progress → Halt → Reply → Stepped
 steppedWith m window progress halt told = record { rest = restWith (m .psi) (m .slack) (m .t) window progress halt; reply = toldOf told }
 
--- ---- what a call does, carried out on the numbers
+-- ---- what a call does
+
+-- the run that the two parts of its numbers stand for
+abbrev pub runBy : HeldPlan → HeldRest → Run
+runBy plan rest = runOf (record { rest = rest; plan = plan })
+
+-- from what the checks say; 50 where a node of the plan lies outside the limits
+abbrev pub effectIn : HeldPlan → Call → Check → Effect
+effectIn plan c check =
+    effectRead c check (nodesGood (planOf plan)) (getD (planOf plan .nodes) (placeOf (foundBy check)) pastNode .kind) (plan .outcomes)
+
+-- ---- carried out on the numbers
 
 -- an effect that is no outcome that loads, and the state and place of which are the run's
 abbrev pub Carries : HeldRest → Effect → Type 0

@@ -1,6 +1,7 @@
 -- `path` meets its contract. The outer loop's invariant: the path is the part so far and then the path from what the state does
 -- next; the inner loops copy an activity out of the plan, and put the entries of its nodes after those before. Assumes nothing.
 use mathlib.Core.Path.{_≡_, refl, sym, ap, _∙_, subst}
+use mathlib.Core.Bool.{false}
 use mathlib.Core.List.{List, [], _∷_}
 use mathlib.Core.Logic.{⊎-elim}
 use Prim.Native.Nat.{ℕ, _+_, _-_, _*_, _≤_, _<_}
@@ -16,13 +17,13 @@ use Rattle.plan.specs.Limits.{OutputNames}
 use Rattle.plan.specs.declared.Plan.{Plan}
 use Rattle.plan.specs.declared.Node.{Node}
 use Rattle.plan.specs.declared.Activity.{Activity}
-use Rattle.times.specs.declared.Progress.{Progress}
+use Rattle.run_window.specs.declared.Entry.{Entry}
 use Rattle.activity.specs.Inner.Copied.{filled}
 use Rattle.activity.specs.Laws.Copied.{filled-more}
 use Rattle.run_path.specs.Path.{Path, takenBy, pathFrom}
 use Rattle.run_path.specs.Pathed.{pathed}
 use Rattle.run_path.specs.declared.Pathed.{Pathed}
-use Rattle.run_path.specs.Inner.Path.{stored, emittedOf, emittedCount, nothingYet}
+use Rattle.run_path.specs.Inner.Path.{stored, emittedOf, emittedCount}
 use Rattle.run_path.specs.Laws.Stepping.{advanced-is, Walking, walking-starts, walking-ended, walking-waits, walking-over, named, walking-stops, walking-on}
 use Rattle.run_path.specs.Laws.Storing.{number-below, size-below, emitted-as, step-taken, entries-are, kept-below, Storing, storing-starts, storing-kept, storing-passed, storing-ends, stored-beyond, taken-past, taken-whole}
 use Rattle.run_path.proofs.path.Statement.{statement}
@@ -52,10 +53,6 @@ rests p q left f Next.Ended w k = walking-ended p q left f w refl
 rests p q left f (Next.Waits e) w k = walking-waits p q left f w refl
 rests p q left f (Next.Goes t) w k = absurd (⊎-elim (λ e. omega arith) (λ e. omega arith) k)
 
--- the path from where the loop begins
-as-begun : (p : Plan) (next : Next) (g : Progress) (f r : Pathed) → f ≡ nothingYet g → r ≡ pathed (pathFrom p 64 next (f .progress)) → r ≡ pathed (pathFrom p 64 next g)
-as-begun p next g f r e h = h ∙ ap (λ (x : Pathed). pathed (pathFrom p 64 next (x .progress))) e
-
 one-less : (p : Plan) (q : Path) (n : ℕ) {next : Next} {f : Pathed} → Walking p q (64 - n - 1) next f → Walking p q (64 - (n + 1)) next f
 one-less p q n {next} {f} w = let z : 64 - n - 1 ≡ 64 - (n + 1) = omega arith in subst (λ (k : ℕ). Walking p q k next f) z w
 
@@ -73,17 +70,17 @@ names c =
 loop-holds : tie.Need-loop-holds Inv-loop2 μ-loop2 Inv-loop3 μ-loop3 Inv-loop μ-loop
 loop-holds c =
     let s = c .before .before in
-    let p = s .args .t1 in (
+    let p = s .args .t1 in
+    let e = ap {B = Pathed} (λ (x : Entry). record { beyond = false; entries = replicate 512 x; count = 0; progress = s .args .progress }) (c .vacant .ensures) in (
       omega arith,
-      subst (λ (f : Pathed). Walking p (pathFrom p 64 (s .args .next) (f .progress)) 64 (s .args .next) f) (sym (c .nothing-yet .ensures)) (walking-starts p (s .args .next) (s .args .progress) (s .pre .1 .0) (s .pre .1 .1)),
-      ap (λ (f : Pathed). length (f .entries)) (c .nothing-yet .ensures),
+      subst (λ (f : Pathed). Walking p (pathFrom p 64 (s .args .next) (f .progress)) 64 (s .args .next) f) (sym e) (walking-starts p (s .args .next) (s .args .progress) (s .pre .1 .0) (s .pre .1 .1)),
+      ap (λ (f : Pathed). length (f .entries)) e,
     )
 
 returns : tie.Need-returns Inv-loop2 μ-loop2 Inv-loop3 μ-loop3 Inv-loop μ-loop
 returns c =
     let l = c .before .before .loop in
-    let s = c .before .before .before .before .before .args in
-    as-begun (s .t1) (s .next) (s .progress) _ _ (c .before .before .before .nothing-yet .ensures) (rests _ _ (64 - l .counter) (l .found) (l .next) (l .inv .1) (c .match .keys2))
+    rests _ _ (64 - l .counter) (l .found) (l .next) (l .inv .1) (c .match .keys2)
 
 element-copy-out-m : tie.Need-element-copy-out-m Inv-loop2 μ-loop2 Inv-loop3 μ-loop3 Inv-loop μ-loop
 element-copy-out-m c = omega (arith, c .u16-to-usize .ensures, is-named c, c .before .before .before .before .before .before .before .before .pre .0 .transitions)
@@ -151,8 +148,7 @@ returns-2 : tie.Need-returns-2 Inv-loop2 μ-loop2 Inv-loop3 μ-loop3 Inv-loop μ
 returns-2 c =
     let s = c .before .before .before .before .before .before .before .before .before .before .before .before .before .before .before .before .before .before .before .before in
     let l = c .before .before .before .before .before .before .before .before .before .before .before .before .before .before .before .before .before .loop in
-    as-begun (s .args .t1) (s .args .next) (s .args .progress) _ _ (c .before .before .before .before .before .before .before .before .before .before .before .before .before .before .before .before .before .before .nothing-yet .ensures)
-    (walking-stops (s .args .t1) _ (64 - l .counter) (l .found) _ (l .inv .1) (c .before .before .before .before .before .before .before .before .before .before .before .before .before .before .next .given .1) (omega (arith, c .before .before .before .before .before .before .before .before .before .before .before .before .before .before .before .before .loop-test .taken)) (s .pre .0) _ (taken-past (s .args .t1) _ (l .found) (c .before .advance .result) (is-taken (c .before)) (c .if1 .taken)) refl)
+    walking-stops (s .args .t1) _ (64 - l .counter) (l .found) _ (l .inv .1) (c .before .before .before .before .before .before .before .before .before .before .before .before .before .before .next .given .1) (omega (arith, c .before .before .before .before .before .before .before .before .before .before .before .before .before .before .before .before .loop-test .taken)) (s .pre .0) _ (taken-past (s .args .t1) _ (l .found) (c .before .advance .result) (is-taken (c .before)) (c .if1 .taken)) refl
 
 loop3-holds : tie.Need-loop3-holds Inv-loop2 μ-loop2 Inv-loop3 μ-loop3 Inv-loop μ-loop
 loop3-holds c = (omega arith, storing-starts _ _ _ _ _ _ (c .before .before .before .before .before .before .before .before .before .before .before .before .before .before .before .before .before .before .loop .inv .2))
@@ -205,8 +201,7 @@ loop-again c =
 returns-3 : tie.Need-returns-3 Inv-loop2 μ-loop2 Inv-loop3 μ-loop3 Inv-loop μ-loop
 returns-3 c =
     let l = c .before .loop in
-    let s = c .before .before .before .before .args in
-    as-begun (s .t1) (s .next) (s .progress) _ _ (c .before .before .nothing-yet .ensures) (walking-over (s .t1) _ (64 - l .counter) (l .found) (l .inv .1) (omega arith))
+    walking-over (c .before .before .before .before .args .t1) _ (64 - l .counter) (l .found) (l .inv .1) (omega arith)
 
 pub path-spec : {M : Type 1} → statement M
 path-spec =

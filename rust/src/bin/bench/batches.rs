@@ -1,5 +1,5 @@
-//! The least time of a turn, over many short batches that several turns take one after the other: other work on the machine
-//! cuts into some batches of each, and the least is what it has not cut into.
+//! The time of a turn in many short batches that several turns take one after the other, round by round: other work on the
+//! machine cuts into some batches of each.
 
 use std::time::{Duration, Instant};
 
@@ -29,14 +29,9 @@ fn batch(turn: &mut Turn, turns: u32) -> f64 {
     took(turn, turns).as_secs_f64() * 1e6 / turns as f64
 }
 
-/// The least microseconds of one turn of each, over some rounds of batches.
-pub fn least(turns: &mut [&mut Turn]) -> Vec<f64> {
+/// The microseconds of one turn of each, in each of some rounds of batches.
+pub fn rounds(turns: &mut [&mut Turn]) -> Vec<Vec<f64>> {
     let counts: Vec<u32> = turns.iter_mut().map(|turn| turns_of(turn)).collect();
-    let mut least = vec![f64::INFINITY; turns.len()];
-    for _ in 0..ROUNDS {
-        for (at, turn) in turns.iter_mut().enumerate() {
-            least[at] = least[at].min(batch(turn, counts[at]));
-        }
-    }
-    least
+    let mut round = || turns.iter_mut().zip(&counts).map(|(turn, &count)| batch(turn, count)).collect();
+    (0..ROUNDS).map(|_| round()).collect()
 }

@@ -1,6 +1,6 @@
 //! What a row measures: the same input for both builds.
 
-use crate::batches::{least, Turn};
+use crate::batches::{rounds, Turn};
 use crate::rows::Row;
 use std::hint::black_box;
 
@@ -51,34 +51,53 @@ pub struct Case {
     pub rattle: Option<Work>,
 }
 
-/// The whole without the part, for each unit; none where the difference is lost in other work.
-fn of_one(times: &[f64], units: f64) -> Option<f64> {
-    let whole = *times.first()?;
-    let rest = whole - times.get(1).unwrap_or(&0.0);
-    (rest > 0.02 * whole).then_some(rest / units)
+/// The times of all turns of a case, round by round.
+type Rounds = Vec<Vec<f64>>;
+
+fn median(mut values: Vec<f64>) -> Option<f64> {
+    values.sort_by(f64::total_cmp);
+    values.get(values.len() / 2).copied()
+}
+
+/// The least time of the turn `at`: what other work has not cut into.
+fn least(rounds: &Rounds, at: usize) -> f64 {
+    rounds.iter().map(|times| times[at]).fold(f64::INFINITY, f64::min)
+}
+
+/// How much longer the turn `at` takes than the next one: the median of the rounds' differences. The least of each would
+/// come from two rounds, and their difference changes by a quarter from run to run.
+fn difference(rounds: &Rounds, at: usize) -> Option<f64> {
+    median(rounds.iter().map(|times| times[at] - times[at + 1]).collect())
 }
 
 impl Case {
-    /// Some rounds more, and four times as many for a difference, which has the disturbances of two; `times` are the least
-    /// so far, of the turns in order.
-    fn measure(&mut self, times: &mut Vec<f64>) {
+    /// Some rounds more, and four times as many for a difference, which has the disturbances of two.
+    fn measure(&mut self, measured: &mut Rounds) {
         let often = if self.rust.part.is_some() { 4 } else { 1 };
         let mut turns = self.rust.turns();
         turns.extend(self.rattle.iter_mut().flat_map(Work::turns));
-        times.resize(turns.len(), f64::INFINITY);
-        for _ in 0..often {
-            times.iter_mut().zip(least(&mut turns)).for_each(|(time, again)| *time = time.min(again));
+        (0..often).for_each(|_| measured.extend(rounds(&mut turns)));
+    }
+
+    /// Microseconds of a unit of the work whose turns begin at `at`; none where a difference is lost in other work.
+    fn of_one(&self, measured: &Rounds, at: usize) -> Option<f64> {
+        let whole = least(measured, at);
+        if self.rust.part.is_none() {
+            return Some(whole / self.units);
         }
+        let rest = difference(measured, at)?;
+        (rest > 0.02 * whole).then_some(rest / self.units)
     }
 
     /// Microseconds of a unit in both builds.
-    fn row(&self, times: &[f64]) -> Row {
-        let (rust, rattle) = times.split_at(1 + self.rust.part.is_some() as usize);
-        Row::new(&self.name, of_one(rust, self.units), of_one(rattle, self.units))
+    fn row(&self, measured: &Rounds) -> Row {
+        let second = 1 + self.rust.part.is_some() as usize;
+        let rattle = self.rattle.as_ref().and_then(|_| self.of_one(measured, second));
+        Row::new(&self.name, self.of_one(measured, 0), rattle)
     }
 
-    fn came_out(&self, times: &[f64]) -> bool {
-        let row = self.row(times);
+    fn came_out(&self, measured: &Rounds) -> bool {
+        let row = self.row(measured);
         row.rust.is_some() && row.rattle.is_some() == self.rattle.is_some()
     }
 }
@@ -88,13 +107,13 @@ const PASSES: usize = 10;
 
 /// The rows of some cases. Where a difference does not come out, it is measured again.
 pub fn timed(mut cases: Vec<Case>) -> Vec<Row> {
-    let mut times = vec![vec![]; cases.len()];
+    let mut measured = vec![vec![]; cases.len()];
     for pass in 0..8 * PASSES {
-        for (case, times) in cases.iter_mut().zip(&mut times) {
-            if pass < PASSES || !case.came_out(times) {
-                case.measure(times);
+        for (case, measured) in cases.iter_mut().zip(&mut measured) {
+            if pass < PASSES || !case.came_out(measured) {
+                case.measure(measured);
             }
         }
     }
-    cases.iter().zip(&times).map(|(case, times)| case.row(times)).collect()
+    cases.iter().zip(&measured).map(|(case, measured)| case.row(measured)).collect()
 }
