@@ -9,7 +9,8 @@ use time::Clock;
 ghost use mathlib.Core.Path.{_≡_};
 ghost use Rattle.judge.specs.Judge.{judgeOf};
 ghost use Rattle.numbers.specs.Codes.{codeOf};
-ghost use Rattle.run.specs.Calls.{callOf, askOf, completionOf, outcomeOf};
+ghost use Rattle.run.specs.Calls.{readingOf, callOf, askOf, completionOf, outcomeOf};
+ghost use Rattle.run.specs.Inner.Effects.{soughtBy, checkedOf, effectOf};
 ghost use Rattle.run.specs.Opening.{openOf};
 ghost use Rattle.held.specs.Held.{runOf};
 ghost use Rattle.jidlekuvo.specs.Host.{abi, clock, openedAs, Answers};
@@ -70,18 +71,28 @@ fn completion(h: Held, t: u64, position: u32, node: u8) -> Stepped
     step(h, Call::Completion(Clock(t), position, node))
 }
 
-fn outcome(h: Held, t: u64, position: u32, node: u8, o: u8) -> Stepped
-    ensures { λ r. ⌜ r ≡ outcomeStep h t position node o ⌝ }
+// What an outcome does. It is apart from `outcome`, so that what it has of the run has left the stack when a path is loaded.
+fn outcome_effect(h: Held, c: Call) -> Effect
+    ensures { λ r. ⌜ r ≡ effectOf c (checkedOf (runOf h) (readingOf c) (soughtBy (runOf h .psi) c)) ⌝ }
 {
-    let c = Call::Outcome(Clock(t), position, node, o);
     let plan = h.plan;
     let rest = h.rest;
     let limits = steps::in_limits(plan, rest, c);
     let check = steps::check_on(limits, plan, rest, c);
-    let effect = steps::effect_on(plan, c, check);
+    steps::effect_on(plan, c, check)
+}
+
+fn outcome(h: Held, t: u64, position: u32, node: u8, o: u8) -> Stepped
+    ensures { λ r. ⌜ r ≡ outcomeStep h t position node o ⌝ }
+{
+    let c = Call::Outcome(Clock(t), position, node, o);
+    let effect = outcome_effect(h, c);
     let Effect::Learns(i, x, e, told) = effect else {
-        return steps::carried(plan.finals, rest, c, effect);
+        let rest = h.rest;
+        return steps::carried(h.plan.finals, rest, c, effect);
     };
+    let plan = h.plan;
+    let rest = h.rest;
     let m = held_checks::moment_of(rest, c);
     let held_progress = rest.progress;
     let progress = held::progresses::progress_of(held_progress);

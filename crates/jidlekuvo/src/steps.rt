@@ -140,7 +140,7 @@ fn at_rest(finals: u64, state: u8, rest: HeldRest) -> Reply
 
 // ---- what a call does to the run
 
-// Each of the next three has two callers, `step` and `outcome`, and so stands by itself: in one function the arrays that they index
+// Each of the next three has two callers, `step` and `outcome_effect`, and so stands by itself: in one function the arrays that they index
 // would be copied at its entry too. No more is made of the numbers than a call needs.
 
 // Whether the run lies within the limits, but for the nodes of its plan.

@@ -11,12 +11,11 @@ use Rattle.run_loading.specs.Inner.Loading.{Loads}
 use Rattle.run.specs.declared.Call.{Call}
 use Rattle.run.specs.declared.Effect.{Effect}
 use Rattle.run.specs.Calls.{callOf, readingOf}
-use Rattle.run.specs.Inner.Effects.{soughtBy, checkedOf, effectOf, acted, runAt}
+use Rattle.run.specs.Inner.Effects.{acted, runAt}
 use Rattle.held.specs.Held.{planOf, progressOf, entryOf, runOf}
 use Rattle.jidlekuvo.specs.Host.{clock}
 use Rattle.jidlekuvo.specs.Inner.Steps.{steppedOf}
 use Rattle.jidlekuvo.proofs.Stepping.{learns-accepts, changes}
-use Rattle.jidlekuvo.proofs.Deciding.{place-below, effect-is}
 use Rattle.jidlekuvo.proofs.Carrying.{tag-settles, answered, named, carries, carried-out}
 use Rattle.jidlekuvo.proofs.outcome.Statement.{statement}
 use Rattle.jidlekuvo.proofs.outcome.Tie as tie
@@ -31,57 +30,46 @@ long s = length-map (s .args .h .rest .window) entryOf ∙ windowed s
 abbrev called : tie.Start → Call
 called s = let a = s .args in Call.Outcome (clock (a .t)) (a .position) (a .node) (a .o)
 
-abbrev start : tie.After-effect-on → tie.Start
-start c = c .before .before .before .before .before
-
-is-effect : (c : tie.After-effect-on) → let h = start c .args .h in c .effect-on .result ≡ effectOf (called (start c)) (checkedOf (runOf h) (readingOf (called (start c))) (soughtBy (runOf h .psi) (called (start c))))
-is-effect c = effect-is (start c .args .h) (called (start c)) (c .before .check-on .result) (c .before .check-on .ensures) (c .effect-on .result) (c .effect-on .ensures)
-
-effect-on-requires : tie.Need-effect-on-requires
-effect-on-requires c κs =
-    let s = c .before .before .before .before in
-    place-below (s .args .h) (called s) (c .check-on .result) (c .check-on .ensures)
-
 carried-requires : tie.Need-carried-requires
 carried-requires c κs =
-    let e = c .before in
-    carries (start e .args .h) (called (start e)) (e .effect-on .result) (is-effect e) (long (start e)) (tag-settles (e .effect-on .result) (c .match .keys2))
+    let e = c .before .before in
+    let s = e .before in
+    carries (s .args .h) (called s) (e .outcome-effect .result) (e .outcome-effect .ensures) (long s) (tag-settles (e .outcome-effect .result) (c .before .match .keys2))
 
 returns : tie.Need-returns
 unfolding callOf
 returns c =
-    let e = c .before .before in
-    c .carried .ensures ∙ carried-out (start e .args .h) (called (start e)) (e .effect-on .result) (is-effect e) (long (start e)) (tag-settles (e .effect-on .result) (c .before .match .keys2))
+    let e = c .before .before .before in
+    let s = e .before in
+    c .carried .ensures ∙ carried-out (s .args .h) (called s) (e .outcome-effect .result) (e .outcome-effect .ensures) (long s) (tag-settles (e .outcome-effect .result) (c .before .before .match .keys2))
 
 learns-requires : tie.Need-learns-requires
 unfolding runOf
 learns-requires c κs =
-    let e = c .before .before .before .before .before .before in
-    let s = start e in
-    let k = named (s .args .h) (called s) (e .effect-on .result) (is-effect e) (long s) _ (c .before .before .before .before .effect .given .1) in
+    let e = c .before .before .before .before .before .before .before .before in
+    let s = e .before in
+    let k = named (s .args .h) (called s) (e .outcome-effect .result) (e .outcome-effect .ensures) (long s) _ (c .before .before .before .before .before .before .effect .given .1) in
     (subst (Loads (planOf (s .args .h .plan))) (sym (c .progress-of .ensures)) (k .3), k .0, k .1, k .2)
 
 returns-2 : tie.Need-returns-2
 unfolding runOf callOf
 returns-2 c =
-    let e = c .before .before .before .before .before .before .before in
-    let s = start e in
+    let e = c .before .before .before .before .before .before .before .before .before in
+    let s = e .before in
     let h = s .args .h in
-    let x = c .before .before .before .before .before .effect .given in
+    let x = c .before .before .before .before .before .before .before .effect .given in
     let l = Effect.Learns (x .0 .0) (x .0 .1 .0) (x .0 .1 .1 .0) (x .0 .1 .1 .1 .0) in
-    let k = named h (called s) (e .effect-on .result) (is-effect e) (long s) l (x .1) in
+    let k = named h (called s) (e .outcome-effect .result) (e .outcome-effect .ensures) (long s) l (x .1) in
     c .learns .ensures
     ∙ ap (λ (g : Progress). steppedOf (acted (runAt (planOf (h .plan)) g (map entryOf (h .rest .window)) (c .before .before .before .moment-of .result) Halt.Going) (c .before .before .before .moment-of .result .t) l)) (c .before .progress-of .ensures)
     ∙ ap (λ (m : Moment). steppedOf (acted (runAt (planOf (h .plan)) (progressOf (h .rest .progress)) (map entryOf (h .rest .window)) m Halt.Going) (m .t) l)) (c .before .before .before .moment-of .ensures)
-    ∙ changes h (called s) (runOf h) refl (acted (runOf h) (readingOf (called s)) l) (answered h (called s) (e .effect-on .result) (is-effect e) l (x .1)) (k .4) (learns-accepts (runOf h) (readingOf (called s)) (x .0 .0) (x .0 .1 .0) (x .0 .1 .1 .0) (x .0 .1 .1 .1 .0))
+    ∙ changes h (called s) (runOf h) refl (acted (runOf h) (readingOf (called s)) l) (answered h (called s) (e .outcome-effect .result) (e .outcome-effect .ensures) l (x .1)) (k .4) (learns-accepts (runOf h) (readingOf (called s)) (x .0 .0) (x .0 .1 .0) (x .0 .1 .1 .0) (x .0 .1 .1 .1 .0))
 
 pub outcome-spec : {M : Type 1} → statement M
 outcome-spec =
     tie.close
     (tie.spec
     (λ c κs. search needs)
-    (λ c κs. c .in-limits .ensures)
-    effect-on-requires
     (λ c. search needs)
     carried-requires
     returns
