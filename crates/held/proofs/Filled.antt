@@ -1,18 +1,16 @@
 -- A list whose elements are filled in one after the other, each from the element of another list at its place.
 use mathlib.Core.Path.{_≡_, refl, sym, _∙_, ap, subst}
-use mathlib.Core.List.{List, [], _∷_, _++_, map, append-nil}
+use mathlib.Core.List.{List, [], _∷_, map, append-nil}
 use Prim.Native.Nat.{ℕ, zero, suc, _+_, _≤_, _<_}
 use native.Mathlib.Nat.{le-of-suc-le-suc, not-suc-le-zero, suc-inj}
 use native.Mathlib.Numerals.{add-one}
-use lib.ListN.{length, getD, take, drop, set, length-map, drop-of-length-le}
+use lib.ListN.{length, getD, set, drop-of-length-le}
 use lib.Seq.{take-all}
-
-pub unmapped : (X Y : Type 0) (f : X → Y) (l : List X) (n : ℕ) → length (map f l) ≡ n → length l ≡ n
-unmapped X Y f l n e = sym (length-map l f) ∙ e
+use Rattle.held.specs.Inner.Plans.{upto}
 
 -- w's first i, mapped, over the rest of v
 abbrev pub filled : (X Y : Type 0) → (X → Y) → List X → List Y → ℕ → List Y
-filled X Y f w v i = map f (take i w) ++ drop i v
+filled X Y f w v i = upto f i w v
 
 turn : (X Y : Type 0) (f : X → Y) (w : List X) (v : List Y) (d : X) (i : ℕ) → i < length w → length w ≡ length v → set (filled X Y f w v i) i (f (getD w i d)) ≡ filled X Y f w v (suc i)
 turn X Y f [] v d i h e = absurd (not-suc-le-zero h)

@@ -130,7 +130,7 @@ pub fn plan_upto(h: HeldPlan) -> Plan
     let belongs = h.belongs;
     let sizes = h.sizes;
     let outcomes = h.outcomes;
-    let zero = nodes::zero_node();
+    let zero = plan_nodes::zero_node();
     let mut plan = Plan {
         resources: h.resources,
         peripherals: h.peripherals,

@@ -6,7 +6,6 @@ use plan::Node;
 ghost use mathlib.Core.List.{map};
 ghost use mathlib.Core.Path.{_≡_};
 ghost use Rattle.held.specs.Held.{kindOf, nodeOf, kindNumber, numberIn, peripheralIn, heldNode};
-ghost use Rattle.held.specs.Inner.Plans.{zeroNode};
 
 fn kind_of(kind: u8, number: u8, peripheral: u8) -> Kind
     ensures { λ r. ⌜ r ≡ kindOf kind number peripheral ⌝ }
@@ -81,19 +80,6 @@ fn hold_node(n: Node) -> HeldNode
         number: number_in(kind),
         peripheral: peripheral_in(kind),
         count: n.count,
-        preds,
-    }
-}
-
-// A node of zeros, for spare room.
-pub fn zero_node() -> Node
-    ensures { λ r. ⌜ r ≡ zeroNode ⌝ }
-{
-    let preds = [0u8; 8];
-    Node {
-        duration: 0,
-        kind: Kind::Action(0, 0),
-        count: 0,
         preds,
     }
 }

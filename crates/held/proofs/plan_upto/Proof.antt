@@ -5,34 +5,22 @@ use mathlib.Core.Path.{_≡_, refl, _∙_, ap}
 use mathlib.Core.List.{List}
 use Prim.Native.Nat.{ℕ, _≤_, _-_, _*_}
 use lib.ListN.{length, replicate}
+use Rattle.basis.specs.Laws.Lists.{unmapped}
+use Rattle.plan.specs.Nodes.{zeroNode}
 use Rattle.plan.specs.declared.Node.{Node}
 use Rattle.plan.specs.declared.Plan.{Plan}
 use Rattle.plan.specs.declared.Transition.{Transition}
 use Rattle.held.specs.declared.HeldNode.{HeldNode}
 use Rattle.held.specs.declared.HeldPlan.{HeldPlan}
 use Rattle.held.specs.Held.{nodeOf}
-use Rattle.held.specs.Inner.Plans.{zeroNode, nodesUpto, movesUpto}
-use Rattle.held.proofs.Filled.{unmapped, fill-turn, fill-past}
+use Rattle.held.specs.Inner.Plans.{nodesUpto, movesUpto, planWith}
+use Rattle.held.proofs.Filled.{fill-turn, fill-past}
 use Rattle.held.proofs.plan_upto.Statement.{statement}
 use Rattle.held.proofs.plan_upto.Tie as tie
 
-abbrev planWith : HeldPlan → List Transition → List Node → Plan
-planWith h moves nodes =
-    record {
-      resources = h .resources;
-      peripherals = h .peripherals;
-      belongs = h .belongs;
-      events = h .events;
-      outcomes = h .outcomes;
-      activities = h .activities;
-      sizes = h .sizes;
-      nodes = nodes;
-      automaton = record { states = h .states; initial = h .initial; finals = h .finals; count = h .count; moves = moves };
-    }
-
 -- with its transitions and these nodes
 abbrev having : HeldPlan → List Node → Plan
-having h nodes = planWith h (movesUpto (h .count) (h .moves)) nodes
+having h nodes = planWith h nodes (movesUpto (h .count) (h .moves))
 
 abbrev Inv-loop : tie.InvT-loop
 Inv-loop h plan₀ most i₀ plan i = (i ≤ 2048) × (i ≤ most) × (most ≡ 64 * h .activities) × (plan ≡ having h (nodesUpto i (h .nodes)))
@@ -44,7 +32,7 @@ long : (c : tie.Start Inv-loop μ-loop) → length (c .args .t1 .nodes) ≡ 2048
 long c = search unmapped
 
 -- no node yet
-none : (h : HeldPlan) (moves : List Transition) (z : Node) → moves ≡ movesUpto (h .count) (h .moves) → z ≡ zeroNode → planWith h moves (replicate 2048 z) ≡ having h (nodesUpto 0 (h .nodes))
+none : (h : HeldPlan) (moves : List Transition) (z : Node) → moves ≡ movesUpto (h .count) (h .moves) → z ≡ zeroNode → planWith h (replicate 2048 z) moves ≡ having h (nodesUpto 0 (h .nodes))
 none h moves z m e = rw (m, e)
 
 loop-holds : tie.Need-loop-holds Inv-loop μ-loop

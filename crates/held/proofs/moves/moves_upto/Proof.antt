@@ -4,10 +4,11 @@ use native.Mathlib.Omega.{arith}
 use mathlib.Core.Path.{_≡_, refl, _∙_, ap}
 use Prim.Native.Nat.{ℕ, _≤_, _-_}
 use lib.ListN.{length, replicate}
+use Rattle.plan.specs.Plan.{pastMove}
 use Rattle.plan.specs.declared.Transition.{Transition}
 use Rattle.held.specs.declared.HeldMove.{HeldMove}
 use Rattle.held.specs.Held.{moveOf}
-use Rattle.held.specs.Inner.Plans.{zeroMove, movesUpto}
+use Rattle.held.specs.Inner.Plans.{movesUpto}
 use Rattle.held.proofs.Filled.{fill-turn, fill-past}
 use Rattle.held.proofs.moves.moves_upto.Statement.{statement}
 use Rattle.held.proofs.moves.moves_upto.Tie as tie
@@ -25,7 +26,7 @@ loop-again : tie.Need-loop-again Inv-loop μ-loop
 loop-again c =
     let start = c .before .before .before .before .before in
     let l = c .before .before .before .before .loop in
-    (omega arith, omega arith, l .inv .2, rw (c .move-of .ensures) (fill-turn HeldMove Transition moveOf (start .args .t2) (replicate 256 zeroMove) _ _ _ (omega (arith, long start)) (long start) (l .inv .3)))
+    (omega arith, omega arith, l .inv .2, rw (c .move-of .ensures) (fill-turn HeldMove Transition moveOf (start .args .t2) (replicate 256 pastMove) _ _ _ (omega (arith, long start)) (long start) (l .inv .3)))
 
 returns : tie.Need-returns Inv-loop μ-loop
 returns c =
@@ -37,7 +38,7 @@ returns-2 : tie.Need-returns-2 Inv-loop μ-loop
 returns-2 c =
     let start = c .before .before in
     let l = c .before .loop in
-    l .inv .3 ∙ fill-past HeldMove Transition moveOf (start .args .t2) (replicate 256 zeroMove) (l .i) (start .args .count) (omega (arith, long start)) (omega (arith, long start)) (long start)
+    l .inv .3 ∙ fill-past HeldMove Transition moveOf (start .args .t2) (replicate 256 pastMove) (l .i) (start .args .count) (omega (arith, long start)) (omega (arith, long start)) (long start)
 
 pub moves-upto-spec : {M : Type 1} → statement M
 moves-upto-spec =

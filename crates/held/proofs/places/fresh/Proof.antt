@@ -7,7 +7,8 @@ use Prim.Native.Nat.{_≤_, _-_}
 use lib.ListN.{length}
 use Rattle.held.specs.declared.HeldEntry.{HeldEntry}
 use Rattle.held.specs.Held.{entryOf, heldEntry}
-use Rattle.held.proofs.Filled.{unmapped, filled, fill-own, fill-end}
+use Rattle.basis.specs.Laws.Lists.{unmapped}
+use Rattle.held.proofs.Filled.{filled, fill-own, fill-end}
 use Rattle.held.proofs.places.fresh.Statement.{statement}
 use Rattle.held.proofs.places.fresh.Tie as tie
 

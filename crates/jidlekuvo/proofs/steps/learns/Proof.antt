@@ -7,6 +7,7 @@ use Prim.Native.Nat.{ℕ, _*_, _<_}
 use lib.ListN.{length, getD, set, replicate, drop}
 use Rattle.basis.specs.Laws.Lists.{unmapped}
 use Rattle.plan.specs.Plan.{pastNode, pastMove, move, outcomesOf}
+use Rattle.plan.specs.Nodes.{zeroNode}
 use Rattle.plan.specs.declared.Node.{Node}
 use Rattle.plan.specs.declared.Transition.{Transition}
 use Rattle.plan.specs.declared.Plan.{Plan}
@@ -20,7 +21,7 @@ use Rattle.run_loading.specs.Laws.SpareMoves.{room-loads, room-further}
 use Rattle.run.specs.Inner.Effects.{runAt}
 use Rattle.run.specs.Laws.Loaded.{loaded-as}
 use Rattle.held.specs.Held.{nodeOf, moveOf, entryOf, planOf}
-use Rattle.held.specs.Inner.Plans.{zeroNode, zeroMove, nodesUpto, movesUpto, planUpto}
+use Rattle.held.specs.Inner.Plans.{nodesUpto, movesUpto, planUpto}
 use Rattle.held.specs.Laws.Upto.{upto-at}
 use Rattle.jidlekuvo.specs.Inner.Steps.{steppedOf}
 use Rattle.jidlekuvo.proofs.steps.learns.Statement.{statement}
@@ -51,7 +52,7 @@ moves-same : (s : tie.Start) (i : ℕ) → i < s .args .held .count → move (pl
 moves-same s i l =
     let h = s .args .held in
     let few = s .pre .0 .plan .transitions in
-    upto-at moveOf (h .count) (h .moves) (drop (h .count) (replicate 256 zeroMove)) pastMove i l (omega (arith, wide s, few))
+    upto-at moveOf (h .count) (h .moves) (drop (h .count) (replicate 256 pastMove)) pastMove i l (omega (arith, wide s, few))
 
 -- ---- what is loaded
 
