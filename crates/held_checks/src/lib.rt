@@ -16,16 +16,15 @@ use run_window::Found;
 use run_window::Scan;
 use run_window::Seen;
 use run_window::Sought;
+use time::Clock;
 use time::HORIZON;
-use times::Progress;
 ghost use mathlib.Core.Bool.{true};
 ghost use mathlib.Core.List.{map};
 ghost use mathlib.Core.Path.{_≡_};
 ghost use Rattle.run_window.specs.Inner.Search.{SoughtInTime, seenOf};
 ghost use Rattle.run_checks.specs.Order.{Timed, isBelow, readingThen};
-ghost use Rattle.run.specs.Inner.Effects.{runAt};
-ghost use Rattle.held.specs.Held.{entryOf, nodeOf, planOf};
-ghost use Rattle.held_checks.specs.Inner.Checks.{momentAt, limitsBy, allButNodes, ScannedIn, checkSeen, effectRead};
+ghost use Rattle.held.specs.Held.{entryOf, nodeOf};
+ghost use Rattle.held_checks.specs.Inner.Checks.{momentAt, runBy, limitsBy, allButNodes, ScannedIn, checkSeen, effectRead};
 
 pub mod places; // the window
 pub mod plans; // the plan
@@ -48,8 +47,8 @@ pub fn moment_of(rest: HeldRest, c: Call) -> Moment
 // ---- 50
 
 // The run, where it is known of plan, progress and window whether they are within the limits.
-fn run_in_limits(good: bool, stands: bool, holds: bool, m: Moment, halt: Halt) -> bool
-    ensures { λ r. ⌜ r ≡ limitsBy good stands holds (m .psi) (m .slack) halt ⌝ }
+fn run_in_limits(good: bool, stands: bool, holds: bool, psi: Clock, slack: u64, halt: Halt) -> bool
+    ensures { λ r. ⌜ r ≡ limitsBy good stands holds psi slack halt ⌝ }
 {
     if !good {
         return false;
@@ -60,27 +59,26 @@ fn run_in_limits(good: bool, stands: bool, holds: bool, m: Moment, halt: Halt) -
     if !holds {
         return false;
     }
-    if m.psi.0 > HORIZON {
+    if psi.0 > HORIZON {
         return false;
     }
-    if !run_checks::bounds::slack_in_limits(m.slack) {
+    if !run_checks::bounds::slack_in_limits(slack) {
         return false;
     }
     run_checks::bounds::halt_in_limits(halt)
 }
 
 // The whole run but the nodes of its plan.
-pub fn all_but_nodes(
-    plan: HeldPlan,
-    rest: HeldRest,
-    progress: Progress,
-    m: Moment,
-    halt: Halt,
-) -> bool
-    ensures { λ r. ⌜ r ≡ allButNodes (runAt (planOf plan) progress (map entryOf (rest .window)) m halt) ⌝ }
+pub fn all_but_nodes(plan: HeldPlan, rest: HeldRest) -> bool
+    ensures { λ r. ⌜ r ≡ allButNodes (runBy plan rest) ⌝ }
 {
     let outcomes = plan.outcomes;
     let sizes = plan.sizes;
+    let psi = rest.psi;
+    let held_progress = rest.progress;
+    let held_halt = rest.halt;
+    let progress = held::progresses::progress_of(held_progress);
+    let halt = held::halts::halt_of(held_halt);
     let good = plans::numbers_in_limits(plan);
     let stands = run_limits::progress::progress_within(
         plan.resources,
@@ -90,7 +88,7 @@ pub fn all_but_nodes(
         progress,
     );
     let holds = places::window_in_limits(plan.activities, sizes, rest);
-    run_in_limits(good, stands, holds, m, halt)
+    run_in_limits(good, stands, holds, psi, rest.slack, halt)
 }
 
 // ---- what a call finds

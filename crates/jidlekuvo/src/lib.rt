@@ -53,7 +53,7 @@ fn step(h: Held, c: Call) -> Stepped
 {
     let plan = h.plan;
     let rest = h.rest;
-    let limits = steps::in_limits(plan, rest, c);
+    let limits = held_checks::all_but_nodes(plan, rest);
     let check = steps::check_on(limits, plan, rest, c);
     let effect = steps::effect_on(plan, c, check);
     steps::carried(plan.finals, rest, c, effect)
@@ -77,7 +77,7 @@ fn outcome_effect(h: Held, c: Call) -> Effect
 {
     let plan = h.plan;
     let rest = h.rest;
-    let limits = steps::in_limits(plan, rest, c);
+    let limits = held_checks::all_but_nodes(plan, rest);
     let check = steps::check_on(limits, plan, rest, c);
     steps::effect_on(plan, c, check)
 }

@@ -28,9 +28,9 @@ ghost use Rattle.run.specs.Calls.{readingOf};
 ghost use Rattle.run.specs.Inner.Calls.{haltAfter, replyAfter};
 ghost use Rattle.run.specs.Inner.Effects.{soughtBy, foundBy, placeOf, acted, restsAs, runAt};
 ghost use Rattle.held.specs.Held.{entryOf, planOf};
-ghost use Rattle.held_checks.specs.Inner.Checks.{allButNodes, checkNodesLast};
+ghost use Rattle.held_checks.specs.Inner.Checks.{runBy, allButNodes, checkNodesLast};
 ghost use Rattle.jidlekuvo.specs.Replies.{toldOf};
-ghost use Rattle.jidlekuvo.specs.Inner.Steps.{runBy, effectIn, steppedOf, steppedBy, steppedWith, Carries, carriedBy};
+ghost use Rattle.jidlekuvo.specs.Inner.Steps.{effectIn, steppedOf, steppedBy, steppedWith, Carries, carriedBy};
 
 // The answer of a call that leaves every byte of the run.
 fn kept(rest: HeldRest, told: Reply) -> Stepped
@@ -140,20 +140,8 @@ fn at_rest(finals: u64, state: u8, rest: HeldRest) -> Reply
 
 // ---- what a call does to the run
 
-// Each of the next three has two callers, `step` and `outcome_effect`, and so stands by itself: in one function the arrays that they index
-// would be copied at its entry too. No more is made of the numbers than a call needs.
-
-// Whether the run lies within the limits, but for the nodes of its plan.
-pub fn in_limits(plan: HeldPlan, rest: HeldRest, c: Call) -> bool
-    ensures { λ r. ⌜ r ≡ allButNodes (runBy plan rest) ⌝ }
-{
-    let held_progress = rest.progress;
-    let held_halt = rest.halt;
-    let m = held_checks::moment_of(rest, c);
-    let progress = held::progresses::progress_of(held_progress);
-    let halt = held::halts::halt_of(held_halt);
-    held_checks::all_but_nodes(plan, rest, progress, m, halt)
-}
+// `held_checks::all_but_nodes` and these two have two callers each, `step` and `outcome_effect`, and so stand by themselves: in one
+// function the arrays that they index would be copied at its entry too. No more is made of the numbers than a call needs.
 
 // What the checks say, with the nodes taken to be within the limits.
 pub fn check_on(limits: bool, plan: HeldPlan, rest: HeldRest, c: Call) -> Check

@@ -27,11 +27,17 @@ use Rattle.run.specs.declared.Call.{Call}
 use Rattle.run.specs.declared.Effect.{Effect}
 use Rattle.run.specs.Calls.{momentOf, readingOf}
 use Rattle.run.specs.Inner.Effects.{outcomesFor, refusing, effectBy}
+use Rattle.held.specs.declared.HeldPlan.{HeldPlan}
 use Rattle.held.specs.declared.HeldRest.{HeldRest}
+use Rattle.held.specs.Held.{runOf}
 use Rattle.held_checks.specs.Inner.Limits.{numbersInLimits}
 
 abbrev pub momentAt : HeldRest → Call → Moment
 momentAt rest c = record { psi = rest .psi; slack = rest .slack; last = rest .last; t = readingOf c }
+
+-- the run that the two parts of its numbers stand for
+abbrev pub runBy : HeldPlan → HeldRest → Run
+runBy plan rest = runOf (record { rest = rest; plan = plan })
 
 -- where it is known of plan, progress and window whether they are within the limits
 abbrev pub limitsBy : Bool → Bool → Bool → Clock → ℕ → Halt → Bool

@@ -15,4 +15,4 @@ returns c =
     effect-is (a .h) (a .c) (c .before .check-on .result) (c .before .check-on .ensures) (c .effect-on .result) (c .effect-on .ensures)
 
 pub outcome-effect-spec : {M : Type 1} → statement M
-outcome-effect-spec = tie.close (tie.spec (λ c κs. search needs) (λ c κs. c .in-limits .ensures) effect-on-requires returns)
+outcome-effect-spec = tie.close (tie.spec (λ c κs. search needs) (λ c κs. c .all-but-nodes .ensures) effect-on-requires returns)

@@ -51,7 +51,7 @@ step-spec =
     tie.close
     (tie.spec
     (λ c κs. search needs)
-    (λ c κs. c .in-limits .ensures)
+    (λ c κs. c .all-but-nodes .ensures)
     effect-on-requires
     carried-requires
     returns)

@@ -8,7 +8,6 @@ use Rattle.run_window.specs.declared.Entry.{Entry}
 use Rattle.run_checks.specs.declared.Check.{Check}
 use Rattle.run_checks.specs.declared.Halt.{Halt}
 use Rattle.run_checks.specs.declared.Moment.{Moment}
-use Rattle.run.specs.declared.Run.{Run}
 use Rattle.run.specs.declared.Reply.{Reply}
 use Rattle.run.specs.declared.Answer.{Answer}
 use Rattle.run.specs.declared.Call.{Call}
@@ -43,10 +42,6 @@ abbrev pub steppedWith : Moment → List HeldEntry → Progress → Halt → Rep
 steppedWith m window progress halt told = record { rest = restWith (m .psi) (m .slack) (m .t) window progress halt; reply = toldOf told }
 
 -- ---- what a call does
-
--- the run that the two parts of its numbers stand for
-abbrev pub runBy : HeldPlan → HeldRest → Run
-runBy plan rest = runOf (record { rest = rest; plan = plan })
 
 -- from what the checks say; 50 where a node of the plan lies outside the limits
 abbrev pub effectIn : HeldPlan → Call → Check → Effect

@@ -65,7 +65,7 @@ fn least(rounds: &Rounds, at: usize) -> f64 {
 }
 
 /// How much longer the turn `at` takes than the next one: the median of the rounds' differences. The least of each would
-/// come from two rounds, and their difference changes by a quarter from run to run.
+/// come from two rounds, and their difference has changed by a quarter from one day to another.
 fn difference(rounds: &Rounds, at: usize) -> Option<f64> {
     median(rounds.iter().map(|times| times[at] - times[at + 1]).collect())
 }
