@@ -1,4 +1,5 @@
 // A record of 16 bytes for the opening, for each call, for each node's place and for each busy time. Its form is in specs/Records.antt.
+#![tactic(auto)]
 ghost use Rattle.std.specs.Prelude.{◌≡◌, ◌+◌, ◌≤◌, length};
 ghost use Rattle.wire.specs.Puts.{Puts};
 ghost use Rattle.drive_records.specs.Records.{bare, stop_record, opening_record, reply_record, place_record, busy_record, record_bytes};

@@ -1,6 +1,7 @@
 // A run as numbers, for a host in C. No enum has a layout that C may know, so each is a number and the fields of its cases; a
 // number that no case has is read as case 0, so that all bytes are a run. The meaning of each number is in specs/Held.antt.
 // Fields stand by falling alignment and spare bytes are named: there is no padding.
+#![tactic(auto)]
 ghost use Rattle.std.specs.Prelude.{◌≡◌};
 ghost use Rattle.held.specs.Held.{held_plan, held_of};
 ghost use Rattle.held.specs.Inner.Plans.{plan_upto};

@@ -1,4 +1,5 @@
 // Calls and replies as messages of the host link.
+#![tactic(auto)]
 use run::{Call, Refusal, Reply};
 
 mod calls;

@@ -1,5 +1,6 @@
 // A made-up run as bytes, two calls of it and its busy times after them: for tests from another language. The form of the bytes is in
 // made/specs/Layout.antt and specs/Made.antt, that of the answer in specs/Answers.antt.
+#![tactic(auto)]
 ghost use Rattle.std.specs.Prelude.{◌≡◌, ◌+◌, ◌≤◌, length};
 ghost use Rattle.wire.specs.Puts.{Puts};
 ghost use Rattle.made_up.specs.Made.{stop_of, halt_of, halt_at, made_of, call_of_kind, call_at};

@@ -1,5 +1,7 @@
 // The plan of a behaviour, as document 01's section "The plan file" describes it: its types.
 // Slots past a count are spare room: zeros where the engine makes them, and never read.
+#![tactic(auto)]
+
 ghost use Rattle.std.specs.Prelude.{◌≡◌, ◌<◌};
 ghost use Rattle.plan.specs.Plan.{final_bit};
 

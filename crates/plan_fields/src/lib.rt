@@ -1,4 +1,5 @@
 // Fields of the plan file: a number and the offset past it, or a fault and the field's place.
+#![tactic(auto)]
 ghost use Rattle.std.specs.Prelude.{◌≡◌, ◌+◌, ◌^◌, ◌<◌, ltb};
 ghost use Rattle.wire.specs.Number.{number};
 ghost use Rattle.plan.specs.Limits.{longest};

@@ -1,4 +1,5 @@
 // Writing a plan into a lent buffer.
+#![tactic(auto)]
 mod bytes;
 
 ghost use Rattle.std.specs.Prelude.{◌≡◌};

@@ -1,4 +1,5 @@
 // The limits of what a run stores beside its plan (number 50): where its behaviour stands, its window and its busy times.
+#![tactic(auto)]
 ghost use Rattle.std.specs.Prelude.{◌≡◌};
 ghost use Rattle.run_limits.specs.Progress.{progress_in_limits};
 

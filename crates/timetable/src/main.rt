@@ -1,4 +1,5 @@
 // "The program timetable reads the plan's length (two bytes), the plan and outcome bytes".
+#![tactic(auto)]
 use timetable_output::{print_cut, print_table};
 use timetable_text::plan_length;
 

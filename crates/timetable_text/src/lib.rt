@@ -1,4 +1,6 @@
 // Numbers as text, put into a lent buffer: each function answers the offset past what it puts.
+#![tactic(auto)]
+
 ghost use Rattle.std.specs.Prelude.{◌≡◌, [], ◌∷◌, ◌+◌, ◌*◌, ◌≤◌, ◌<◌};
 ghost use Rattle.wire.specs.Puts.{Puts};
 ghost use Rattle.timetable_text.specs.Text.{digits, decimal, space, newline};

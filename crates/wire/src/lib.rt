@@ -1,4 +1,6 @@
 // Numbers in bytes: fields of one, two, four and eight bytes, lowest byte first, and a byte put into a lent buffer.
+#![tactic(auto)]
+
 ghost use Rattle.std.specs.Prelude.{◌≡◌, ◌+◌, ◌≤◌, ◌<◌, length, set, leb};
 ghost use Rattle.wire.specs.Number.{little, field_at};
 

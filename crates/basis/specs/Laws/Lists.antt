@@ -142,6 +142,7 @@ among_at d (x ∷ xs) zero l = inl refl
 among_at d (x ∷ xs) (suc k) l = inr (among_at d xs k (omega arith))
 
 pub at_among : {A : Type 0} (d : A) (x : A) (xs : List A) → Among x xs → (k : ℕ) × (k < length xs) × (get_or xs k d ≡ x)
+at_among {A = A} d x [] h = elim h [ ]
 at_among d x (y ∷ ys) (inl e) = (0, omega arith, sym e)
 at_among d x (y ∷ ys) (inr h) = let r = at_among d x ys h in (suc r.0, (let u = r.1 in omega arith), r.2)
 

@@ -1,0 +1,7 @@
+-- The space, then the number.
+use borrow.Author.Rules.{rules}
+use Rattle.wire.specs.Laws.Puts.{puts_join}
+use Rattle.timetable_text.proofs.put_after_space.Goals as goal
+
+pub returns : goal.returns
+returns c = puts_join c.put_byte-next.ensures c.put_decimal.ensures
