@@ -1,5 +1,6 @@
 // Fields of the plan file: a number and the offset past it, or a fault and the field's place.
 #![tactic(auto)]
+
 ghost use Rattle.std.specs.Prelude.{◌≡◌, ◌+◌, ◌^◌, ◌<◌, ltb};
 ghost use Rattle.wire.specs.Number.{number};
 ghost use Rattle.plan.specs.Limits.{longest};

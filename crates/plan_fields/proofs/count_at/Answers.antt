@@ -1,0 +1,7 @@
+-- A count is a field of 1 to `most`.
+use mathlib.Core.Path.{◌∙◌}
+use borrow.Author.Rules.{rules}
+use Rattle.plan_fields.proofs.count_at.Goals as goal
+
+pub returns : goal.returns
+returns c = c.byte_in.ensures ∙ rw c.u8_to_u16.ensures

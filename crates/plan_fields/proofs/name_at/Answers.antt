@@ -1,0 +1,7 @@
+-- A name is a field below the number of things.
+use mathlib.Core.Path.{◌∙◌}
+use borrow.Author.Rules.{rules}
+use Rattle.plan_fields.proofs.name_at.Goals as goal
+
+pub returns : goal.returns
+returns c = c.byte_in.ensures ∙ rw c.u8_to_u16.ensures

@@ -1,0 +1,13 @@
+-- A count that is present iff its bit stands.
+use Rattle.plan.specs.Fields.{byte_at, optional_count}
+use Rattle.wire.specs.Number.{optional}
+use borrow.Author.Rules.{rules}
+use Rattle.plan_fields.proofs.optional_count.Goals as goal
+
+pub returns-then-stands : goal.returns-then-stands
+unfolding optional_count optional byte_at
+returns-then-stands c = rw c.if-stands.true c.count_at.ensures
+
+pub returns : goal.returns
+unfolding optional_count optional
+returns c = rw c.if-stands.false
