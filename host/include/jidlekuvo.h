@@ -3,8 +3,7 @@
  * What the host owes, because no function can look:
  *   - a pointer is not null, except that of bytes or availabilities whose length is 0; it points to that many, which are
  *     initialised; a run and availabilities are aligned to 8 bytes, as their types ask
- *   - while a call lasts, nobody else reads or writes its run, and nobody writes its bytes or availabilities; while
- *     jidlekuvo_busy lasts, which is no call, nobody writes its run
+ *   - while a call lasts, nobody else reads or writes its run, and nobody writes its bytes or availabilities
  *   - jidlekuvo_abi() equals JIDLEKUVO_ABI
  *   - the stack has the room that host/stack.txt gives for each function (docs/HOST.md, "Stack")
  * Nothing else: every function answers whatever numbers and bytes it is given, a run of any bytes too. A run may be copied,
@@ -82,11 +81,6 @@ jidlekuvo_reply jidlekuvo_completion(jidlekuvo_run *run, uint64_t reading, uint3
 
 /* Reports the outcome of a started event, which completes it. */
 jidlekuvo_reply jidlekuvo_outcome(jidlekuvo_run *run, uint64_t reading, uint32_t position, uint8_t node, uint8_t outcome);
-
-/* The busy time of a peripheral, in microseconds: the sum, over the completions of its actions that were taken, of the
- * completion's reading minus the start's. 0 for a peripheral that the plan lacks, and for a run whose calls get 50; a stopped
- * run tells it too. It may be read at any time: it has no reading and changes nothing. */
-uint64_t jidlekuvo_busy(const jidlekuvo_run *run, uint8_t peripheral);
 
 /* Opens a run in place, the run of zeros where the opening is refused, and returns the reply. */
 static inline jidlekuvo_reply jidlekuvo_begin(jidlekuvo_run *run, const uint8_t *plan, size_t plan_length, uint64_t psi,

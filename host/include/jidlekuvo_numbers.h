@@ -6,8 +6,8 @@
 #include <stdint.h>
 
 /* The form of a run's bytes that this header is made for, and how many they are. */
-#define JIDLEKUVO_ABI 2
-#define JIDLEKUVO_RUN_SIZE 54200
+#define JIDLEKUVO_ABI 1
+#define JIDLEKUVO_RUN_SIZE 49592
 
 /* The numbers of refusals and stops. */
 #define JIDLEKUVO_ENDS 1

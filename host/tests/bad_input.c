@@ -19,13 +19,6 @@ static int leaves_all(call c, jidlekuvo_reply wanted)
     return is_call_reply(reply) && same_reply(reply, wanted) && memcmp(&before, &run, sizeof run) == 0;
 }
 
-/* Whether busy times are those of T after so many of its calls, and to read them leaves every byte. */
-static int reads_well(size_t count)
-{
-    memcpy(&before, &run, sizeof run);
-    return tells_busy_times(&run, count) && memcmp(&before, &run, sizeof run) == 0;
-}
-
 /* Each call, at readings and of nodes from one end of their types to the other. */
 static int all_leave_all(jidlekuvo_reply wanted)
 {
@@ -48,15 +41,13 @@ static int is_zeros(void)
     return at == sizeof run;
 }
 
-/* Whether an opening is refused so, over a run that was open; the run is then zeros, every call gets 50, and all busy times
-   are 0. */
+/* Whether an opening is refused so, over a run that was open; the run is then zeros, and every call gets 50. */
 static int is_refused(const uint8_t *plan, size_t length, uint64_t psi, uint64_t slack, const uint64_t *available, size_t count,
                       jidlekuvo_reply wanted)
 {
     CHECK(open_t(&run).kind == JIDLEKUVO_OPENED);
     jidlekuvo_reply reply = jidlekuvo_begin(&run, plan, length, psi, slack, available, count);
-    return is_opening_reply(reply) && same_reply(reply, wanted) && is_zeros() &&
-           all_leave_all(refused(JIDLEKUVO_OUT_OF_LIMITS, 0)) && reads_well(0);
+    return is_opening_reply(reply) && same_reply(reply, wanted) && is_zeros() && all_leave_all(refused(JIDLEKUVO_OUT_OF_LIMITS, 0));
 }
 
 static int t_is_refused(uint64_t psi, uint64_t slack, const uint64_t *available, size_t count, jidlekuvo_reply wanted)
@@ -109,7 +100,6 @@ static void reports(void)
     CHECK(leaves_all((call){COMPLETION, PSI + 8000, 0, 4, 0}, refused(JIDLEKUVO_OTHER_KIND, 0)));
     CHECK(leaves_all((call){OUTCOME, PSI + 8000, 0, 4, 2}, refused(JIDLEKUVO_OUTCOME_LACKING, 0)));
     CHECK(leaves_all((call){OUTCOME, PSI + 8000, 0, 4, 255}, refused(JIDLEKUVO_OUTCOME_LACKING, 0)));
-    CHECK(reads_well(7) && busy_of_t(7, 0) == 4999 && busy_of_t(7, 1) == 0 && busy_of_t(7, 2) == 2999);
 }
 
 /* A stop is kept, whatever is asked and reported after it. */
@@ -122,18 +112,7 @@ static void after_a_stop(void)
     CHECK(all_leave_all(late));
     CHECK(open_t(&run).kind == JIDLEKUVO_OPENED && play_t(&run, 2) == 2);
     CHECK(same_reply(jidlekuvo_completion(&run, PSI + 3000, 0, 2), overdue));
-    CHECK(all_leave_all(overdue) && reads_well(2));
-}
-
-/* Busy times are told after a stop too; the completion that comes too late is not in them. */
-static void busy_times_after_a_stop(void)
-{
-    CHECK(open_t(&run).kind == JIDLEKUVO_OPENED && play_t(&run, 4) == 4);
-    CHECK(same_reply(jidlekuvo_ask(&run, UINT64_MAX), naming(JIDLEKUVO_STOPPED, JIDLEKUVO_LATE, 0, 0, 3)));
-    CHECK(reads_well(4) && busy_of_t(4, 2) == 2999);
-    CHECK(open_t(&run).kind == JIDLEKUVO_OPENED && play_t(&run, 5) == 5);
-    CHECK(same_reply(jidlekuvo_completion(&run, PSI + 8000, 0, 3), naming(JIDLEKUVO_STOPPED, JIDLEKUVO_OVERDUE, 0, 0, 3)));
-    CHECK(reads_well(5) && busy_of_t(5, 0) == 0);
+    CHECK(all_leave_all(overdue));
 }
 
 /* After done: done again, no node to report, and no way back. */
@@ -146,7 +125,6 @@ static void after_the_end(void)
     CHECK(leaves_all((call){ASK, 0, 0, 0, 0}, refused(JIDLEKUVO_READING_BELOW, 0)));
     CHECK(same_reply(jidlekuvo_ask(&run, UINT64_MAX), bare(JIDLEKUVO_DONE, 0, 0)));
     CHECK(leaves_all((call){ASK, UINT64_MAX, 0, 0, 0}, bare(JIDLEKUVO_DONE, 0, 0)));
-    CHECK(reads_well(STEPS_OF_T));
 }
 
 int main(void)
@@ -156,7 +134,6 @@ int main(void)
     openings();
     reports();
     after_a_stop();
-    busy_times_after_a_stop();
     after_the_end();
     return finish();
 }

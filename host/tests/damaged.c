@@ -1,62 +1,42 @@
 /* damaged FIRST STRIDE: runs whose bytes no opening or call has left. From byte FIRST on each STRIDE-th byte of runs of T is
    changed in turn, and each call is put to the result; then runs with several bytes changed, of any bytes, of zeros and of ones.
-   Every call is answered, a refused one and one to a stopped run leave every byte, and none changes the plan's. No busy time is
-   above the last reading, a run whose calls get 50 and a peripheral that the plan lacks have none, and to read one leaves every
-   byte. PLAN_AT, HALT_AT, LAST_AT and PERIPHERALS_AT are the offsets of the plan, of the number of a stop, of the last reading
-   and of the plan's count of peripherals, from host/layout.txt. */
+   Every call is answered, a refused one and one to a stopped run leave every byte, and none changes the plan's.
+   PLAN_AT and HALT_AT are the offsets of the plan and of the number of a stop, from host/layout.txt. */
 #include "check.h"
 #include "plan_t.h"
 #include <stdlib.h>
 
 #define SIZE sizeof(jidlekuvo_run)
 
-/* How often each kind, number 50, and a busy time above 0 were met. */
-static unsigned long met[JIDLEKUVO_STOPPED + 1], met_50, met_busy;
+/* How often each kind, and number 50, was met. */
+static unsigned long met[JIDLEKUVO_STOPPED + 1], met_50;
 
 static int is_stopped(const uint8_t *run)
 {
     return run[HALT_AT] >= 1 && run[HALT_AT] <= 4;
 }
 
-/* Puts a call to a copy of the damaged run and looks at the reply and at every byte after it; gives the reply's number. */
-static uint8_t is_answered_well(const jidlekuvo_run *damaged, call c)
+/* Puts a call to a copy of the damaged run and looks at the reply and at every byte after it. */
+static void is_answered_well(const jidlekuvo_run *damaged, call c)
 {
     static jidlekuvo_run run;
     memcpy(&run, damaged, SIZE);
     jidlekuvo_reply reply = put(&run, c);
     if (!CHECK(is_call_reply(reply)))
-        return reply.number;
+        return;
     met[reply.kind]++;
     met_50 += reply.number == JIDLEKUVO_OUT_OF_LIMITS ? 1 : 0;
     int is_kept = reply.kind == JIDLEKUVO_REFUSED || is_stopped((const uint8_t *)damaged);
     size_t from = is_kept ? 0 : PLAN_AT;
     CHECK(memcmp((const uint8_t *)&run + from, (const uint8_t *)damaged + from, SIZE - from) == 0);
     CHECK(!is_stopped((const uint8_t *)damaged) || reply.kind == JIDLEKUVO_STOPPED || reply.number == JIDLEKUVO_OUT_OF_LIMITS);
-    return reply.number;
 }
 
-/* Reads the busy time of one peripheral after the other from a copy of each damaged run. */
-static void is_read_well(const jidlekuvo_run *damaged, int gets_50)
-{
-    static const uint8_t peripherals[] = {0, 2, 1, 3, 0, 63, 2, 64, 255};
-    static jidlekuvo_run run;
-    static size_t turn;
-    uint8_t peripheral = peripherals[turn++ % sizeof peripherals];
-    uint64_t last;
-    memcpy(&run, damaged, SIZE);
-    memcpy(&last, (const uint8_t *)damaged + LAST_AT, sizeof last);
-    uint64_t busy = jidlekuvo_busy(&run, peripheral);
-    int is_silent = gets_50 || peripheral >= ((const uint8_t *)damaged)[PERIPHERALS_AT];
-    CHECK(busy <= last && (busy == 0 || !is_silent));
-    CHECK(memcmp(&run, damaged, SIZE) == 0);
-    met_busy += busy > 0 ? 1 : 0;
-}
-
-/* An ask, a completion and an outcome of one node at one reading, and a busy time. */
+/* An ask, a completion and an outcome of one node at one reading. */
 static void each_call(const jidlekuvo_run *damaged, call c)
 {
     c.request = ASK;
-    is_read_well(damaged, is_answered_well(damaged, c) == JIDLEKUVO_OUT_OF_LIMITS);
+    is_answered_well(damaged, c);
     c.request = COMPLETION;
     is_answered_well(damaged, c);
     c.request = OUTCOME;
@@ -158,17 +138,17 @@ static void one_byte_alone(int value)
 
 static void all_kinds_were_met(void)
 {
-    printf("start %lu, wait %lu, done %lu, taken %lu, refused %lu (50: %lu), stopped %lu; busy %lu\n", met[1], met[2], met[3],
-           met[4], met[5], met_50, met[6], met_busy);
+    printf("start %lu, wait %lu, done %lu, taken %lu, refused %lu (50: %lu), stopped %lu\n", met[1], met[2], met[3], met[4],
+           met[5], met_50, met[6]);
     CHECK(met[JIDLEKUVO_START] > 0 && met[JIDLEKUVO_WAIT] > 0 && met[JIDLEKUVO_TAKEN] > 0 && met[JIDLEKUVO_STOPPED] > 0);
-    CHECK(met_50 > 0 && met[JIDLEKUVO_REFUSED] > met_50 && met_busy > 0);
+    CHECK(met_50 > 0 && met[JIDLEKUVO_REFUSED] > met_50);
 }
 
 int main(int count, char **words)
 {
     size_t first = count == 3 ? (size_t)strtoul(words[1], NULL, 10) : SIZE;
     size_t stride = count == 3 ? (size_t)strtoul(words[2], NULL, 10) : 0;
-    if (!CHECK(first < stride && PLAN_AT < SIZE && HALT_AT < PLAN_AT && LAST_AT < HALT_AT && PERIPHERALS_AT > PLAN_AT))
+    if (!CHECK(first < stride && PLAN_AT < SIZE && HALT_AT < PLAN_AT))
         return finish();
     bytes_of_t(first, stride);
     several_bytes(6000 / stride);

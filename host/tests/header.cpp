@@ -14,7 +14,5 @@ int main()
     std::unique_ptr<jidlekuvo_run> run(new jidlekuvo_run);
     const bool is_open = jidlekuvo_begin(run.get(), plan, sizeof plan, 0, 1, nullptr, 0).kind == JIDLEKUVO_OPENED;
     const bool is_done = jidlekuvo_ask(run.get(), 0).kind == JIDLEKUVO_DONE;
-    const jidlekuvo_run &lent = *run;
-    const bool is_idle = jidlekuvo_busy(&lent, 0) == 0;
-    return is_open && is_done && is_idle && jidlekuvo_abi() == JIDLEKUVO_ABI && jidlekuvo_judge(plan, sizeof plan) == 0 ? 0 : 1;
+    return is_open && is_done && jidlekuvo_abi() == JIDLEKUVO_ABI && jidlekuvo_judge(plan, sizeof plan) == 0 ? 0 : 1;
 }

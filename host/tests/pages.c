@@ -22,7 +22,6 @@ static void t_is_run(side of_plan, side of_available, side of_run)
     CHECK(jidlekuvo_judge(plan, sizeof PLAN_T) == 0);
     CHECK(same_reply(jidlekuvo_begin(run, plan, sizeof PLAN_T, PSI, SLACK, available, 2), bare(JIDLEKUVO_OPENED, 0, 0)));
     CHECK(play_t(run, STEPS_OF_T) == STEPS_OF_T);
-    CHECK(tells_busy_times(run, STEPS_OF_T));
 }
 
 /* The result itself stands beside the page; the run in it is then called there. */
@@ -32,7 +31,6 @@ static void an_opening_is_stored(side where)
     CHECK(raw_open(opened, PLAN_T, sizeof PLAN_T, PSI, SLACK, AT_ONCE, 2) == opened);
     CHECK(same_reply(opened->reply, bare(JIDLEKUVO_OPENED, 0, 0)));
     CHECK(play_t(&opened->run, STEPS_OF_T) == STEPS_OF_T);
-    CHECK(tells_busy_times(&opened->run, STEPS_OF_T));
     *opened = jidlekuvo_open(PLAN_T, sizeof PLAN_T - 1, PSI, SLACK, AT_ONCE, 2);
     CHECK(same_reply(opened->reply, bare(JIDLEKUVO_REFUSED, JIDLEKUVO_ENDS, sizeof PLAN_T - 1)));
 }
@@ -58,7 +56,6 @@ static void null_is_empty(void)
                      bare(JIDLEKUVO_REFUSED, JIDLEKUVO_AVAILABILITIES, 0)));
     CHECK(same_reply(jidlekuvo_begin(&run, PLAN_K3, sizeof PLAN_K3, PSI, SLACK, NULL, 0), bare(JIDLEKUVO_OPENED, 0, 0)));
     CHECK(same_reply(jidlekuvo_ask(&run, PSI), bare(JIDLEKUVO_DONE, 0, 0)));
-    CHECK(jidlekuvo_busy(&run, 0) == 0);
 }
 
 int main(void)

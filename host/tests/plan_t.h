@@ -91,43 +91,4 @@ static inline size_t play_t(jidlekuvo_run *run, size_t count)
     return good;
 }
 
-#define PERIPHERALS_OF_T 3
-
-/* The peripheral of an action of T; the event has one that T lacks. */
-static inline unsigned peripheral_of_t(uint8_t activity, uint8_t node)
-{
-    if (activity == 1)
-        return 1;
-    return node == 2 ? 2 : node == 3 ? 0 : PERIPHERALS_OF_T;
-}
-
-/* What lies between start and completion of a peripheral's actions, over the first so many calls of T. They start one node after
-   the other. */
-static inline uint64_t busy_of_t(size_t count, unsigned peripheral)
-{
-    uint64_t sum = 0, begun = 0;
-    unsigned of = PERIPHERALS_OF_T;
-    for (size_t at = 0; at < count; at++) {
-        step s = RUN_OF_T[at];
-        if (s.kind == JIDLEKUVO_START) {
-            begun = s.call.reading;
-            of = peripheral_of_t(s.activity, s.call.node);
-        }
-        if (s.call.request == COMPLETION && of == peripheral)
-            sum += s.call.reading - begun;
-    }
-    return sum;
-}
-
-/* Whether a run tells the busy times of T after so many of its calls, and 0 for every peripheral that T lacks. */
-static inline int tells_busy_times(const jidlekuvo_run *run, size_t count)
-{
-    int good = 1;
-    for (unsigned peripheral = 0; peripheral < 256; peripheral++) {
-        uint64_t wanted = peripheral < PERIPHERALS_OF_T ? busy_of_t(count, peripheral) : 0;
-        good &= jidlekuvo_busy(run, (uint8_t)peripheral) == wanted;
-    }
-    return good;
-}
-
 #endif

@@ -1,5 +1,5 @@
 /* threads TIMES: two threads with a run each, which goes through T so often, give what one thread gives after the other: replies,
-   busy times, and every byte of the runs. */
+   and every byte of the runs. */
 #include "check.h"
 #include "plan_t.h"
 #include <pthread.h>
@@ -9,7 +9,7 @@
 
 static unsigned long times;
 
-/* How a run is opened, and a sum over its replies, busy times and bytes. */
+/* How a run is opened, and a sum over its replies and bytes. */
 typedef struct job {
     jidlekuvo_run run;
     uint64_t psi, sum;
@@ -32,17 +32,7 @@ static void next_call(job *j, call c)
     j->sum = added(j->sum, &reply, sizeof reply);
 }
 
-/* The busy times of T's peripherals, and of the first that it lacks. */
-static void read_busy_times(job *j)
-{
-    for (uint8_t peripheral = 0; peripheral <= PERIPHERALS_OF_T; peripheral++) {
-        uint64_t busy = jidlekuvo_busy(&j->run, peripheral);
-        j->bad += busy == busy_of_t(STEPS_OF_T, peripheral) * (peripheral < PERIPHERALS_OF_T) ? 0 : 1;
-        j->sum = added(j->sum, &busy, sizeof busy);
-    }
-}
-
-/* Runs T to its end many times. Busy times are read, and the bytes summed, where the run has ended. */
+/* Runs T to its end many times. The bytes are summed where the run has ended. */
 static void *work(void *of)
 {
     job *j = of;
@@ -50,7 +40,6 @@ static void *work(void *of)
         j->bad += jidlekuvo_begin(&j->run, PLAN_T, sizeof PLAN_T, j->psi, SLACK, AT_ONCE, 2).kind == JIDLEKUVO_OPENED ? 0 : 1;
         for (size_t at = 0; at < STEPS_OF_T; at++)
             next_call(j, RUN_OF_T[at].call);
-        read_busy_times(j);
         j->sum = added(j->sum, &j->run, sizeof j->run);
         j->psi++;
     }

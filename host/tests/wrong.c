@@ -12,13 +12,11 @@ void *__real_jidlekuvo_open(void *, const uint8_t *, size_t, uint64_t, uint64_t,
 jidlekuvo_reply __real_jidlekuvo_ask(jidlekuvo_run *, uint64_t);
 jidlekuvo_reply __real_jidlekuvo_completion(jidlekuvo_run *, uint64_t, uint32_t, uint8_t);
 jidlekuvo_reply __real_jidlekuvo_outcome(jidlekuvo_run *, uint64_t, uint32_t, uint8_t, uint8_t);
-uint64_t __real_jidlekuvo_busy(const jidlekuvo_run *, uint8_t);
 uint64_t __wrap_jidlekuvo_judge(const uint8_t *, size_t);
 void *__wrap_jidlekuvo_open(void *, const uint8_t *, size_t, uint64_t, uint64_t, const uint64_t *, size_t);
 jidlekuvo_reply __wrap_jidlekuvo_ask(jidlekuvo_run *, uint64_t);
 jidlekuvo_reply __wrap_jidlekuvo_completion(jidlekuvo_run *, uint64_t, uint32_t, uint8_t);
 jidlekuvo_reply __wrap_jidlekuvo_outcome(jidlekuvo_run *, uint64_t, uint32_t, uint8_t, uint8_t);
-uint64_t __wrap_jidlekuvo_busy(const jidlekuvo_run *, uint8_t);
 
 static int is(const char *fault)
 {
@@ -122,22 +120,4 @@ jidlekuvo_reply __wrap_jidlekuvo_outcome(jidlekuvo_run *run, uint64_t reading, u
 {
     uint8_t stop = before(run);
     return after(run, stop, __real_jidlekuvo_outcome(run, reading, position, node, outcome));
-}
-
-/* What is lent to be read alone may yet be written, since the programs' runs are no constants. */
-uint64_t __wrap_jidlekuvo_busy(const jidlekuvo_run *run, uint8_t peripheral)
-{
-    int next = is("the busy time of the next peripheral is told") ? 1 : 0;
-    uint64_t busy = __real_jidlekuvo_busy(run, (uint8_t)(peripheral + next));
-    look("a busy time is read behind the run", run, (ptrdiff_t)SIZE);
-    look("a busy time is read before the run", run, -1);
-    if (is("a busy time that is read is stored"))
-        ((uint8_t *)run)[PLAN_AT - 1] = 1;
-    if (is("a busy time passes the last reading") && busy > 0)
-        busy = UINT64_MAX;
-    if (is("a run that gets 50 has a busy time") && busy == 0)
-        busy = 1;
-    if (is("a stopped run has no busy time") && ((const uint8_t *)run)[HALT_AT] != 0)
-        busy = 0;
-    return busy;
 }

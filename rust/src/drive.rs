@@ -4,28 +4,26 @@
 //! Input: plan length (2 bytes), plan, Ψ (8), slack (8), availability count (1), availabilities
 //! (8 each), then parts, each with its kind (1) first. Kinds 0 to 2 are calls: reading (8), for
 //! reports position (4) and node (1), for an outcome the outcome (1). Kind 3 asks where a node
-//! stands: position (4) and node (1). Kind 4 asks for a busy time: peripheral (1). Questions have no
-//! reading and change nothing. Output: 16 bytes for the opening and for each part.
+//! stands: position (4) and node (1), no reading; it changes nothing. Output: 16 bytes for the
+//! opening and for each part.
 
 use crate::run::{Call, Opening, Reply, Request, Run};
 use crate::Fault;
 
 pub const RECORD: usize = 16;
 
-/// What follows the opening: a call, or the question for a node's place in the window or for a
-/// peripheral's busy time.
+/// What follows the opening: a call, or the question for a node's place in the window.
 #[derive(Clone, Copy, Debug, PartialEq, Eq)]
 pub enum Part {
     Call(Call),
     Place { position: u32, node: u8 },
-    Busy { peripheral: u8 },
 }
 
 /// The calls among parts, in order.
 pub fn calls_among(parts: &[Part]) -> Vec<Call> {
     let call = |part: &Part| match *part {
         Part::Call(call) => Some(call),
-        Part::Place { .. } | Part::Busy { .. } => None,
+        Part::Place { .. } => None,
     };
     parts.iter().filter_map(call).collect()
 }
@@ -57,16 +55,12 @@ impl<'a> Input<'a> {
         Some(Opening { plan, psi, slack, availabilities })
     }
 
-    /// A kind above 4 is no part; the list ends there.
+    /// A kind above 3 is no part; the list ends there.
     fn part(&mut self) -> Option<Part> {
-        match self.number(1)? {
-            3 => Some(Part::Place { position: self.number(4)? as u32, node: self.number(1)? as u8 }),
-            4 => Some(Part::Busy { peripheral: self.number(1)? as u8 }),
-            kind => self.call(kind),
+        let kind = self.number(1)?;
+        if kind == 3 {
+            return Some(Part::Place { position: self.number(4)? as u32, node: self.number(1)? as u8 });
         }
-    }
-
-    fn call(&mut self, kind: u64) -> Option<Part> {
         let reading = self.number(8)?;
         let request = match kind {
             0 => Request::Ask,
@@ -110,7 +104,6 @@ pub fn encode(opening: &Opening, parts: &[Part]) -> Vec<u8> {
                 out.extend(position.to_le_bytes());
                 out.push(*node);
             }
-            Part::Busy { peripheral } => out.extend([4, *peripheral]),
         }
     }
     out
@@ -169,10 +162,6 @@ pub fn place_record(place: usize) -> [u8; RECORD] {
     record(7, 0, 0, 0, place as u64)
 }
 
-pub fn busy_record(busy: u64) -> [u8; RECORD] {
-    record(8, 0, 0, 0, busy)
-}
-
 /// What a short buffer gets: number 36, place 0.
 pub const TOO_SHORT: usize = 36 << 32;
 
@@ -199,7 +188,6 @@ pub fn drive_shown(input: &[u8], out: &mut [u8], mut show: impl FnMut(&Run, Repl
                 reply_record(reply)
             }
             Part::Place { position, node } => place_record(run.place_of(position, node)),
-            Part::Busy { peripheral } => busy_record(run.busy(peripheral)),
         });
     }
     room.copy_from_slice(records.as_flattened());

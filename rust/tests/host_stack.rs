@@ -81,23 +81,6 @@ fn of_calls() -> [usize; 3] {
     deepest
 }
 
-/// The deepest reading of a busy time, after the calls of each plan: of its first peripheral, and of one that it lacks.
-fn of_busy_times() -> usize {
-    let of_one = |opening: Opening| {
-        let mut opened = host::open(&opening);
-        for call in calls_in_time(&opening, 8) {
-            host::call(&mut opened.run, call);
-        }
-        let of_peripheral = |peripheral: u8| {
-            needed(&mut || {
-                black_box(host::busy(black_box(&opened.run), black_box(peripheral)));
-            })
-        };
-        of_peripheral(0).max(of_peripheral(255))
-    };
-    openings().into_iter().map(of_one).max().expect("there are openings")
-}
-
 fn of_openings() -> usize {
     let of_one = |opening: Opening| {
         needed(&mut || {
@@ -126,7 +109,6 @@ fn no_function_needs_more_stack_than_is_told() {
         ("jidlekuvo_ask", ask),
         ("jidlekuvo_completion", completion),
         ("jidlekuvo_outcome", outcome),
-        ("jidlekuvo_busy", of_busy_times()),
     ];
     measured.iter().for_each(|(name, depth)| println!("{name} {depth}, told {}", told(name)));
     for (name, depth) in measured {

@@ -20,7 +20,7 @@ use nodes::{held, labels, look, node_number};
 use plan::{Activity, Fault, Kind, Node, Plan, Verdict};
 
 // The judgement on one activity.
-#[derive(Drop)]
+#[derive(Clone, Copy)]
 pub enum Finding {
     Good,
     Bad(Fault),

@@ -14,7 +14,7 @@ use crate::words::{any, has, marked, meet, with, within};
 use plan::{Activity, Kind};
 
 // Words of the nodes before a node, after it and like it, and of the claims and releases of its resource.
-#[derive(Drop)]
+#[derive(Clone, Copy)]
 pub struct Sight {
     pub before: u64,
     pub after: u64,

@@ -7,7 +7,7 @@ use basis::u16_to_usize;
 use plan::{Automaton, Input};
 
 // What a state does next.
-#[derive(Drop)]
+#[derive(Clone, Copy)]
 pub enum Next {
     // nothing leaves it
     Ended,
@@ -18,14 +18,14 @@ pub enum Next {
 }
 
 // The transition taken on an outcome, if the state has one.
-#[derive(Drop)]
+#[derive(Clone, Copy)]
 pub enum Chosen {
     Nothing,
     Move(u16),
 }
 
 // The states that paths from the initial one reach, and at 16 * state + event how many are pending there.
-#[derive(Drop)]
+#[derive(Clone, Copy)]
 pub struct Explored {
     pub reached: [bool; 64],
     pub counts: [u16; 1024],

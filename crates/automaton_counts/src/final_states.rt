@@ -22,7 +22,7 @@ fn finals_of(finals: u64) -> [bool; 64]
 }
 
 // The states marked after a pass over the transitions, and whether the pass marked one.
-#[derive(Drop)]
+#[derive(Clone, Copy)]
 pub struct Marked {
     pub done: [bool; 64],
     pub changed: bool,

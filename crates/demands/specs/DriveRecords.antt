@@ -1,13 +1,12 @@
 -- `drive_records`: the records of the exported drive are that of the opening and one for each part of the list. Those of the calls
 -- are the log's answers, so that demand 3 and `answers_by_log` speak of what it writes; that of a question is a node's place in the
--- window of the run that the calls before it left, or a peripheral's busy time in that run.
+-- window of the run that the calls before it left.
 use Rattle.std.specs.Prelude.{◌≡◌, true, List, [], ◌∷◌, ◌++◌, ℕ, ◌+◌, length, take, drop}
 use Rattle.wire.specs.Number.{little}
 use Rattle.time.specs.declared.Clock.{Clock}
 use Rattle.run.specs.declared.Call.{Call}
 use Rattle.run.specs.declared.Unopened.{Unopened}
 use Rattle.run.specs.declared.Opening.{Opening}
-use Rattle.run.specs.Busy.{busy_of}
 use Rattle.run.specs.Opening.{open_of}
 use Rattle.run_window.specs.Where.{place_of}
 use Rattle.demands_log.specs.Log.{Log}
@@ -15,7 +14,7 @@ use Rattle.demands_log.specs.Drive.{Driven}
 use Rattle.drive_input.specs.declared.Part.{Part}
 use Rattle.drive_input.specs.Input.{plan_length, plan_of, clock_at, count_of, availabilities_from, is_whole}
 use Rattle.drive_records.specs.declared.Record.{Record}
-use Rattle.drive_records.specs.Records.{opening_record, reply_record, place_record, busy_record}
+use Rattle.drive_records.specs.Records.{opening_record, reply_record, place_record}
 use Rattle.drive.specs.Drive.{opened, parts_of, calls_among, records_of}
 use Rattle.demands.specs.Accepted.{Bytes}
 use Rattle.demands.specs.Demand3.{driven_by}
@@ -40,7 +39,6 @@ at_calls [] records = []
 at_calls (part ∷ parts) [] = []
 at_calls (Part.Call call ∷ parts) (r ∷ records) = r ∷ at_calls parts records
 at_calls (Part.Place position node ∷ parts) (r ∷ records) = at_calls parts records
-at_calls (Part.Busy peripheral ∷ parts) (r ∷ records) = at_calls parts records
 
 -- the records after that of the opening
 pub record PartsRecords (b : List ℕ) (records : List Record) : Type 0 where
@@ -53,9 +51,6 @@ pub record PartsRecords (b : List ℕ) (records : List Record) : Type 0 where
   pub places : (before after : List Part) (position node : ℕ) → parts_of b ≡ before ++ (Part.Place position node ∷ after)
       → take 1 (drop (length before) records)
       ≡ place_record (place_of position node (driven_of b (calls_among before)).run.window) ∷ []
-  -- or the busy time of its peripheral in that run
-  pub busy : (before after : List Part) (peripheral : ℕ) → parts_of b ≡ before ++ (Part.Busy peripheral ∷ after)
-      → take 1 (drop (length before) records) ≡ busy_record (busy_of (driven_of b (calls_among before)).run peripheral) ∷ []
 
 abbrev pub StatementDriveRecords : Type 0
 StatementDriveRecords =

@@ -1,6 +1,6 @@
 -- A host in C or Rust: what the exported functions answer to any opening and any list of calls, each given the bytes of the run
 -- that the one before left.
-use Rattle.std.specs.Prelude.{◌≡◌, true, List, [], ◌∷◌, map, ◌↔◌, ℕ, ◌<◌}
+use Rattle.std.specs.Prelude.{◌≡◌, true, List, [], ◌∷◌, map, ◌↔◌, ℕ}
 use Rattle.basis.specs.Lists.{Among}
 use Rattle.judge.specs.Judge.{judge_of}
 use Rattle.run_checks.specs.declared.Halt.{Halt}
@@ -11,7 +11,6 @@ use Rattle.run.specs.declared.Opening.{Opening}
 use Rattle.run.specs.Limits.{run_in_limits}
 use Rattle.run.specs.Calls.{ask_of, completion_of, outcome_of}
 use Rattle.run.specs.Opening.{open_of, zero_run}
-use Rattle.run.specs.Busy.{busy_of}
 use Rattle.held.specs.declared.Held.{Held}
 use Rattle.held.specs.Held.{run_of, held_of}
 use Rattle.jidlekuvo.specs.declared.HostReply.{HostReply}
@@ -20,7 +19,6 @@ use Rattle.jidlekuvo.specs.Replies.{told_of, opening_told, reply_of}
 use Rattle.jidlekuvo.specs.Host.{clock, opened_as, held_after}
 use Rattle.demands_log.specs.Log.{Log, said}
 use Rattle.demands_log.specs.Drive.{Driven, drive}
-use Rattle.demands_log.specs.Busy.{busy_in}
 use Rattle.demands.specs.Accepted.{Bytes}
 use Rattle.demands.specs.Demand3.{driven_by, Demand3Of}
 use Rattle.demands.specs.Messages.{replies_of}
@@ -96,19 +94,6 @@ abbrev pub StatementHostNever50 : Type 0
 StatementHostNever50 =
     (bytes : List ℕ) → Bytes bytes → (psi slack : ℕ) (ts : List ℕ) → (opened_by bytes psi slack ts).reply.kind ≡ 0 → (cs : List Call)
     → (r : HostReply) → Among r (replies_to (opened_by bytes psi slack ts).run cs) → r.kind ≡ 5 → r.number ≡ 50 → ⊥
-
--- ---- busy times
-
--- what jidlekuvo_busy returns
-abbrev pub busy_read : Held → ℕ → ℕ
-busy_read h x = busy_of (run_of h) x
-
--- after an accepted opening and any list of calls it is the sum of the host's own log
-abbrev pub StatementHostBusy : Type 0
-StatementHostBusy =
-    (bytes : List ℕ) → Bytes bytes → (psi slack : ℕ) (ts : List ℕ) → (opened_by bytes psi slack ts).reply.kind ≡ 0 → (cs : List Call)
-    → (x : ℕ) → x < (judge_of bytes).plan.peripherals
-    → busy_read (left_by_all (opened_by bytes psi slack ts).run cs) x ≡ busy_in (judge_of bytes).plan x (hosted (opened_by bytes psi slack ts).run cs).log
 
 -- ---- what leaves every byte, made-up ones included
 

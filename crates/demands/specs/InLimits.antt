@@ -1,7 +1,6 @@
 -- "50 a run in which a stored count, number or time lies outside this paper's or its plan's limits": a run in limits.
-use Rattle.std.specs.Prelude.{◌≡◌, true, ◌↔◌, ℕ, ◌≤◌, ◌<◌, get_or}
+use Rattle.std.specs.Prelude.{◌≡◌, true, ◌↔◌, ℕ, ◌≤◌, ◌<◌}
 use Rattle.time.specs.Time.{horizon}
-use Rattle.time.specs.declared.Clock.{Clock}
 use Rattle.plan.specs.Plan.{size_of}
 use Rattle.plan.specs.Limits.{InLimits}
 use Rattle.plan.specs.declared.Plan.{Plan}
@@ -16,15 +15,13 @@ use Rattle.run.specs.declared.Call.{Call}
 use Rattle.run.specs.Limits.{run_in_limits}
 use Rattle.run.specs.Calls.{call_of}
 
--- an entry of the window: a node of the plan, at a position up to 1,000,000,000, with specified times up to 10^15, and a start reading up
--- to the last reading: "a stored one that does, or such a start reading, gives 50"
-pub record EntryInLimits (p : Plan) (last : Clock) (e : Entry) : Type 0 where
+-- an entry of the window: a node of the plan, at a position up to 1,000,000,000, with times up to 10^15
+pub record EntryInLimits (p : Plan) (e : Entry) : Type 0 where
   pub position : e.position ≤ last_position
   pub activity : e.activity < p.activities
   pub node : e.node < size_of p e.activity
   pub start : e.start.0 ≤ horizon
   pub end : e.end.0 ≤ horizon
-  pub begun : e.begun.0 ≤ last.0
 
 -- the node that a stop names, by position and number; its activity is not stored, and "a node count" is "1 to 64"
 abbrev pub StopInLimits : Stop → Type 0
@@ -37,7 +34,7 @@ abbrev pub HaltInLimits : Halt → Type 0
 HaltInLimits Halt.Going = Unit {0}
 HaltInLimits (Halt.Stopped s) = StopInLimits s
 
--- all that a run stores; the last reading itself is any number
+-- all that a run stores, but for the last reading, which is any number
 pub record RunInLimits (run : Run) : Type 0 where
   -- "The plan file": each count, number and duration of it, line by line in plan/Limits
   pub plan : InLimits run.plan
@@ -50,9 +47,7 @@ pub record RunInLimits (run : Run) : Type 0 where
   -- position, at most one past 1,000,000,000 (its loading is then 44); and the state
   pub progress : ProgressIn run.plan run.progress
   -- each place of the window that holds a node
-  pub window : (i : ℕ) (e : Entry) → Holds run.window i e → EntryInLimits run.plan run.last e
-  -- "No peripheral's busy time exceeds the last reading": of the peripherals that the plan has
-  pub busy : (x : ℕ) → x < run.plan.peripherals → get_or run.busy x 0 ≤ run.last.0
+  pub window : (i : ℕ) (e : Entry) → Holds run.window i e → EntryInLimits run.plan e
   pub halt : HaltInLimits run.halt
 
 abbrev pub StatementInLimits : Type 0

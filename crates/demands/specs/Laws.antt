@@ -38,7 +38,6 @@ pub mod ConditionsHold
 pub mod Demand3Holds
 pub mod FirstFaultsHold
 pub mod InLimitsIff
-pub mod BusyLow
 pub mod InLimitsKept
 pub mod MarkersHold
 pub mod OpeningsHold
@@ -59,4 +58,3 @@ pub mod MessagesGood
 pub mod MessagesRefused
 pub mod MessagesSent
 pub mod HostedHolds
-pub mod BusyHoursHold

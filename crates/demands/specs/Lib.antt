@@ -16,8 +16,6 @@ pub mod Markers
 -- Request (h): places of the window
 pub mod Places
 pub mod RepliesByContent
--- Request (f): busy times of the peripherals
-pub mod BusyHours
 -- Request (a): messages of the host link
 pub mod Messages
 -- Demand 1, and the strength of the contracts

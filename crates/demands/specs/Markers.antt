@@ -54,7 +54,7 @@ StatementWaiting = (bytes : List ℕ) (p : Plan) → Bytes bytes → judge_of by
 -- the run with place i free and t as its last reading
 abbrev pub closed_at : Run → Clock → ℕ → Run
 closed_at run t i =
-    record { plan = run.plan; psi = run.psi; slack = run.slack; progress = run.progress; window = set run.window i vacant; last = t; halt = run.halt; busy = run.busy }
+    record { plan = run.plan; psi = run.psi; slack = run.slack; progress = run.progress; window = set run.window i vacant; last = t; halt = run.halt }
 
 -- in every run, a made-up one too: a timely outcome 0 of a started event with one outcome is taken, and nothing else changes
 abbrev pub StatementMarkerTaken : Type 0

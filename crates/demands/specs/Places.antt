@@ -22,7 +22,7 @@ use Rattle.run.specs.declared.Call.{Call}
 use Rattle.run.specs.declared.Reply.{Reply}
 use Rattle.run.specs.declared.Opening.{Opening}
 use Rattle.run.specs.Loading.{load}
-use Rattle.run.specs.Calls.{call_of, reading_of, cleared}
+use Rattle.run.specs.Calls.{call_of, cleared}
 use Rattle.run.specs.Opening.{open_of}
 use Rattle.demands_log.specs.Log.{Id, id, Log, Fails, Reports}
 use Rattle.demands_log.specs.Drive.{drive}
@@ -33,9 +33,9 @@ use Rattle.demands.specs.Conditions as Conditions
 
 -- ---- "A node keeps its place from its loading to its report"
 
--- place i still holds the node of entry e, which may have been started at the reading t
-abbrev pub Kept : List Entry → ℕ → Clock → Entry → Type 0
-Kept w i t e = Holds w i e ⊎ Holds w i (started_of t e)
+-- place i still holds the node of entry e, started or not
+abbrev pub Kept : List Entry → ℕ → Entry → Type 0
+Kept w i e = Holds w i e ⊎ Holds w i (started_of e)
 
 -- the call reports the node at place i, and its answer is taken, or stopped by 43 or 44 because loading after it fails. The
 -- run was going, so the answer is no stop that it kept.
@@ -45,7 +45,7 @@ pub record ReportedAt (run : Run) (c : Call) (i : ℕ) : Type 0 where
 
 -- in every run, a made-up one too, and at every call
 abbrev pub StatementPlaceKept : Type 0
-StatementPlaceKept = (run : Run) (c : Call) (i : ℕ) (e : Entry) → Holds run.window i e → Kept (call_of run c).run.window i (reading_of c) e ⊎ ReportedAt run c i
+StatementPlaceKept = (run : Run) (c : Call) (i : ℕ) (e : Entry) → Holds run.window i e → Kept (call_of run c).run.window i e ⊎ ReportedAt run c i
 
 -- node x is reported by one of the calls of the log `newer`, which come after those of `older`
 abbrev pub ReportedSince : Log → Log → Id → Type 0

@@ -23,7 +23,6 @@ pub record OtherPlaces (run other : Run) : Type 0 where
   pub progress : run.progress ≡ other.progress
   pub last : run.last ≡ other.last
   pub halt : run.halt ≡ other.halt
-  pub busy : run.busy ≡ other.busy
   pub content : SameContent run.window other.window
   pub loaded : (i : ℕ) (e : Entry) → Holds run.window i e → e.position < run.progress.position
 

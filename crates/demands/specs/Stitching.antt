@@ -1,7 +1,7 @@
 -- Request (i), "Same outcomes, same stitching": "Take two runs of one plan with equal availabilities and slack, each with its own
 -- Ψ, both ending in done, with equal processed outcomes in order. They started the same nodes, and each node's start reading
 -- less Ψ differs between them by at most the slack. Completion reports may differ in any way."
-use Rattle.std.specs.Prelude.{◌≡◌, List, [], ◌∷◌, ◌↔◌, ℕ, ◌+◌, ◌≤◌}
+use Rattle.std.specs.Prelude.{◌≡◌, List, [], ◌∷◌, ◌⊎◌, ◌↔◌, ℕ, ◌+◌, ◌≤◌}
 use Rattle.time.specs.declared.Clock.{Clock}
 use Rattle.plan.specs.Plan.{move}
 use Rattle.plan.specs.declared.Input.{Input}
@@ -11,7 +11,7 @@ use Rattle.run.specs.declared.Call.{Call}
 use Rattle.run.specs.declared.Reply.{Reply}
 use Rattle.run.specs.declared.Opening.{Opening}
 use Rattle.run.specs.Opening.{open_of}
-use Rattle.demands_log.specs.Log.{Id, Log, Started, Sometime, StartedAt, Finishes}
+use Rattle.demands_log.specs.Log.{Id, Said, Log, reading, Starts, Started, Finishes}
 use Rattle.demands_theory.specs.TheWord.{TheWord}
 use Rattle.demands.specs.Accepted.{Bytes}
 use Rattle.demands.specs.Demand3.{driven_by}
@@ -40,6 +40,15 @@ pub record Processed (p : Plan) (log : Log) (os : List ℕ) : Type 0 where
 abbrev pub EndsInDone : Log → Type 0
 EndsInDone [] = ⊥
 EndsInDone (y ∷ older) = Finishes y.reply
+
+-- P holds of one of its calls
+abbrev pub Sometime : (Said → Type 0) → Log → Type 0
+Sometime P [] = ⊥
+Sometime P (y ∷ older) = P y ⊎ Sometime P older
+
+-- "A node is started by the ask answered start with it, at that ask's reading."
+abbrev pub StartedAt : Log → Id → ℕ → Type 0
+StartedAt log x t = Sometime (λ y. Starts y.reply x × (reading y.call ≡ t)) log
 
 -- it is started by an answer that names this activity
 abbrev pub NamedWith : Log → Id → ℕ → Type 0

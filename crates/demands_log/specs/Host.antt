@@ -1,10 +1,17 @@
 -- The host's side of demand 3: a well-behaved host.
-use Rattle.std.specs.Prelude.{◌≡◌, false, cond, [], ◌∷◌, ◌⊎◌, ℕ, ◌+◌, ◌≤◌, ◌<◌}
-pub use Rattle.run.specs.Calls.{is_refused}
+use Rattle.std.specs.Prelude.{◌≡◌, Bool, true, false, cond, [], ◌∷◌, ◌⊎◌, ℕ, ◌+◌, ◌≤◌, ◌<◌}
 use Rattle.run.specs.declared.Call.{Call}
 use Rattle.run.specs.declared.Reply.{Reply}
 use Rattle.run_checks.specs.declared.Stop.{Stop}
 use Rattle.demands_log.specs.Log.{Id, Log, Always, reading, Started, Reported}
+
+abbrev pub is_refused : Reply → Bool
+is_refused (Reply.Start p a n) = false
+is_refused Reply.Wait = false
+is_refused Reply.Done = false
+is_refused Reply.Taken = false
+is_refused (Reply.Refused f) = true
+is_refused (Reply.Stopped s) = false
 
 -- the latest reading among the calls not refused
 pub data Reading : Type 0 where

@@ -1,6 +1,5 @@
 -- What is proved of the definitions.
 pub mod Kept
 pub mod ByCases
-pub mod Busy
 pub mod Latest
 pub mod PlanStays

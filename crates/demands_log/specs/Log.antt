@@ -53,14 +53,6 @@ abbrev pub Started : Log → Id → Type 0
 Started [] x = ⊥
 Started (y ∷ older) x = Starts y.reply x ⊎ Started older x
 
--- P holds of one of its calls
-abbrev pub Sometime : (Said → Type 0) → Log → Type 0
-Sometime P [] = ⊥
-Sometime P (y ∷ older) = P y ⊎ Sometime P older
-
-abbrev pub StartedAt : Log → Id → ℕ → Type 0
-StartedAt log x t = Sometime (λ y. Starts y.reply x × (reading y.call ≡ t)) log
-
 -- ---- stopped, and failed loadings
 
 abbrev pub Stops : Reply → Type 0

@@ -1,9 +1,6 @@
 -- The proofs: the calls that load nothing; one transition, a path and further paths; an outcome; the opening; the engine's laws.
 pub mod Later
 pub mod Bounds
-pub mod Busy
-pub mod OneStarted
-pub mod Changes
 pub mod Ways
 pub mod Counts
 pub mod Taken

@@ -10,7 +10,7 @@ use Rattle.run.specs.declared.Run.{Run}
 use Rattle.run.specs.declared.Reply.{Reply}
 use Rattle.run_checks.specs.declared.Refusal.{Refusal}
 use Rattle.run_checks.specs.declared.Stop.{Stop}
-use Rattle.demands_log.specs.Log.{Id, Said, Log, Always, reading, IsAsk, Starts, Started, StartedAt, StoppedBy, Reports, Reported, FailedIn, Finishes}
+use Rattle.demands_log.specs.Log.{Id, Said, Log, Always, reading, IsAsk, Starts, Started, StoppedBy, Reports, Reported, FailedIn, Finishes}
 use Rattle.demands_log.specs.Host.{Host, Mild}
 use Rattle.demands_log.specs.Drive.{Driven}
 use Rattle.demands_theory.specs.Nodes.{whose, Work, EmitsAt, id_of}
@@ -90,8 +90,6 @@ pub record Demand3 (p : Plan) (psi slack : ℕ) (available : ℕ → ℕ) (is : 
   pub window_only : (i : ℕ) (e : Entry) → Holds d.run.window i e → OfTheWord p is S C d.log e
   pub window_once : (i j : ℕ) (e f : Entry) → Holds d.run.window i e → Holds d.run.window j f → id_of e ≡ id_of f → i ≡ j
   pub window_started : (i : ℕ) (e : Entry) → Holds d.run.window i e → (is_started e.phase ≡ true) ↔ Started d.log (id_of e)
-  -- "Each window entry now keeps the reading at which its node was started": that of the ask that started it
-  pub begun_kept : (i : ℕ) (e : Entry) → Holds d.run.window i e → is_started e.phase ≡ true → StartedAt d.log (id_of e) e.begun.0
   -- "It says done if the path ended in a final state and the window is empty, otherwise wait when nothing is due"
   pub done : (FailedIn d.log → ⊥) → Ends p is d.log
   -- under a well-behaved host the run never stops as late or overdue

@@ -14,17 +14,16 @@ use Rattle.run.specs.declared.Call.{Call}
 use Rattle.run.specs.declared.Answer.{Answer}
 use Rattle.run.specs.declared.Opened.{Opened}
 use Rattle.run.specs.Calls.{call_of}
-use Rattle.run.specs.Busy.{busy_of}
 use Rattle.run_window.specs.Where.{place_of}
 use Rattle.drive_input.specs.declared.Head.{Head}
 use Rattle.drive_input.specs.declared.HeadRead.{HeadRead}
 use Rattle.drive_input.specs.declared.Part.{Part}
 use Rattle.drive_input.specs.declared.PartRead.{PartRead}
 use Rattle.drive_records.specs.declared.Record.{Record}
-use Rattle.drive_input.specs.Input.{byte_at, parts_at, head_of, ask_at, completion_at, outcome_at, place_at, busy_at, part_at}
+use Rattle.drive_input.specs.Input.{byte_at, parts_at, head_of, ask_at, completion_at, outcome_at, place_at, part_at}
 use Rattle.drive_input.specs.Laws.Whole.{whole_is}
 use Rattle.drive.specs.Drive.{opened_by}
-use Rattle.drive_records.specs.Records.{record_bytes, opening_record, reply_record, place_record, busy_record}
+use Rattle.drive_records.specs.Records.{record_bytes, opening_record, reply_record, place_record}
 use Rattle.drive.specs.Drive.{on_part, parts_from, parts_of, part_record, run_after, records_from, records_of, joined, text_of}
 
 -- ---- a part lies within the input, after the offset where it begins
@@ -59,18 +58,13 @@ module _ (b : List ℕ) (at : ℕ) where
   unfolding place_at
   ahead_place = ahead_up_to b at (at + 6) _ (omega arith) (leb (at + 6) (length b)) refl
 
-  ahead_busy : Ahead b at (busy_at b at)
-  unfolding busy_at
-  ahead_busy = ahead_up_to b at (at + 2) _ (omega arith) (leb (at + 2) (length b)) refl
-
   any_ahead : Ahead b at (part_at b at)
   unfolding part_at
   any_ahead =
       ahead_cond b at (leb (at + 1) (length b)) _ _
       (ahead_cond b at (eqb (byte_at b at) 0) _ _ ahead_ask
       (ahead_cond b at (eqb (byte_at b at) 1) _ _ ahead_completion
-      (ahead_cond b at (eqb (byte_at b at) 2) _ _ ahead_outcome
-      (ahead_cond b at (eqb (byte_at b at) 3) _ _ ahead_place (ahead_cond b at (eqb (byte_at b at) 4) _ _ ahead_busy tt)))))
+      (ahead_cond b at (eqb (byte_at b at) 2) _ _ ahead_outcome (ahead_cond b at (eqb (byte_at b at) 3) _ _ ahead_place tt))))
       tt
 
   pub part_ahead : (part : Part) (next : ℕ) → part_at b at ≡ PartRead.Some part next → (at < next) × (next ≤ length b)
@@ -127,31 +121,25 @@ module _ (b : List ℕ) (at : ℕ) (run : Run) (left k : ℕ) (more : left ≡ s
 
   module _ (part : Part) (next : ℕ) (e : part_at b at ≡ PartRead.Some part next)
       (r : Record) {out mid after : List ℕ} {end past last : ℕ} (p : Puts out end (record_bytes r) mid past) where
-    turn_one : (same : Part) → part ≡ same → r ≡ part_record run same
-        → Puts mid past (driven_from k (run_after run same) b next) after last
-        → Puts out end (driven_from left run b at) after last
-    turn_one same kind answers q =
-        rw (driven_one same next (e ∙ ap (λ (x : Part). PartRead.Some x next) kind), ← answers) (puts_join p q)
-
     pub turn_calls : (call : Call) → part ≡ Part.Call call
         → (a : Answer) → a ≡ call_of run call → r ≡ reply_record a.reply
         → Puts mid past (driven_from k a.run b next) after last
         → Puts out end (driven_from left run b at) after last
     turn_calls call kind a is answers q =
-        turn_one (Part.Call call) kind (answers ∙ ap (λ (x : Answer). reply_record x.reply) is)
-        (subst (λ (x : Answer). Puts mid past (driven_from k x.run b next) after last) is q)
+        let one : driven_from left run b at ≡ record_bytes (reply_record (call_of run call).reply) ++ driven_from k (call_of run call).run b next =
+        driven_one (Part.Call call) next (e ∙ ap (λ (x : Part). PartRead.Some x next) kind)
+        in
+        rw (one, ← is, ← answers) (puts_join p q)
 
     pub turn_asks : (position node : ℕ) → part ≡ Part.Place position node
         → (place : ℕ) → place ≡ place_of position node run.window → r ≡ place_record place
         → Puts mid past (driven_from k run b next) after last
         → Puts out end (driven_from left run b at) after last
-    turn_asks position node kind place is answers q = turn_one (Part.Place position node) kind (answers ∙ ap place_record is) q
-
-    pub turn_reads : (peripheral : ℕ) → part ≡ Part.Busy peripheral
-        → (busy : ℕ) → busy ≡ busy_of run peripheral → r ≡ busy_record busy
-        → Puts mid past (driven_from k run b next) after last
-        → Puts out end (driven_from left run b at) after last
-    turn_reads peripheral kind busy is answers q = turn_one (Part.Busy peripheral) kind (answers ∙ ap busy_record is) q
+    turn_asks position node kind place is answers q =
+        let one : driven_from left run b at ≡ record_bytes (place_record (place_of position node run.window)) ++ driven_from k run b next =
+        driven_one (Part.Place position node) next (e ∙ ap (λ (x : Part). PartRead.Some x next) kind)
+        in
+        rw (one, ← is, ← answers) (puts_join p q)
 
 pub turn_over : (b : List ℕ) (at : ℕ) (run : Run) (left : ℕ) → left ≡ 0 → (out : List ℕ) (end : ℕ) → Puts out end (driven_from left run b at) out end
 unfolding parts_from

@@ -7,7 +7,6 @@ use Rattle.run.specs.declared.Call.{Call}
 use Rattle.run.specs.declared.Opened.{Opened}
 use Rattle.run.specs.Opening.{open_of}
 use Rattle.run.specs.Calls.{call_of}
-use Rattle.run.specs.Busy.{busy_of}
 use Rattle.run_window.specs.Where.{place_of as place_in_window}
 use Rattle.drive_input.specs.declared.Part.{Part}
 use Rattle.drive_input.specs.declared.PartRead.{PartRead}
@@ -16,7 +15,7 @@ use Rattle.drive.specs.declared.NotRecorded.{NotRecorded}
 use Rattle.drive.specs.declared.Recorded.{Recorded}
 use Rattle.drive_input.specs.declared.Head.{Head}
 use Rattle.drive_input.specs.Input.{plan_of, availabilities_from, head, is_whole, parts_at, part_at}
-use Rattle.drive_records.specs.Records.{record_bytes, opening_record, reply_record, place_record, busy_record}
+use Rattle.drive_records.specs.Records.{record_bytes, opening_record, reply_record, place_record}
 
 -- the answer to the opening that has these numbers
 abbrev pub opened_by : List ℕ → Head → Opened
@@ -43,19 +42,16 @@ abbrev pub calls_among : List Part → List Call
 calls_among [] = []
 calls_among (Part.Call call ∷ parts) = call ∷ calls_among parts
 calls_among (Part.Place position node ∷ parts) = calls_among parts
-calls_among (Part.Busy peripheral ∷ parts) = calls_among parts
 
--- a call is answered by its reply, a question by the node's place in the window or by the peripheral's busy time
+-- a call is answered by its reply, a question by the node's place in the window
 abbrev pub part_record : Run → Part → Record
 part_record run (Part.Call call) = reply_record (call_of run call).reply
 part_record run (Part.Place position node) = place_record (place_in_window position node run.window)
-part_record run (Part.Busy peripheral) = busy_record (busy_of run peripheral)
 
 -- a question leaves the run as it is
 abbrev pub run_after : Run → Part → Run
 run_after run (Part.Call call) = (call_of run call).run
 run_after run (Part.Place position node) = run
-run_after run (Part.Busy peripheral) = run
 
 -- the records of a list of parts, each given the run that the part before it left
 abbrev pub records_from : Run → List Part → List Record

@@ -1,5 +1,5 @@
-// A whole list of calls, and of questions for a node's place or a busy time, as bytes, driven through a run: for tests from
-// another language. The form of the input is in drive_input, that of the records in drive_records.
+// A whole list of calls, and of questions for a node's place, as bytes, driven through a run: for tests from another
+// language. The form of the input is in drive_input, that of the records in drive_records.
 #![tactic(auto)]
 ghost use Rattle.std.specs.Prelude.{◌≡◌, ◌+◌, ◌*◌, ◌≤◌, ◌<◌, length};
 ghost use Rattle.wire.specs.Puts.{Puts};
@@ -9,18 +9,16 @@ ghost use Rattle.drive.specs.Drive.{opened_by, parts_from, parts_of, records_fro
 
 use basis::u8_to_usize;
 use drive_input::{Head, HeadRead, Part, PartRead};
-use drive_records::{busy_record, opening_record, place_record, put_at, reply_record};
 use run::{Opened, Run};
-use run_window::place_of;
 
 // Why nothing was written.
-#[derive(Drop)]
+#[derive(Clone, Copy)]
 pub enum NotRecorded {
     TooShort,
 }
 
 // How many bytes of records were written, or why none were.
-#[derive(Drop)]
+#[derive(Clone, Copy)]
 pub enum Recorded {
     Bytes(usize),
     Refused(NotRecorded),
@@ -82,21 +80,21 @@ fn parts_from(
         let PartRead::Some(part, next) = drive_input::part_at(input, at) else {
             return end;
         };
-        at = next;
-        left -= 1;
         match part {
             Part::Call(call) => {
                 let answer = run.call(call);
                 let reply = answer.reply;
-                end = put_at(out, end, reply_record(reply));
+                end = drive_records::put_at(out, end, drive_records::reply_record(reply));
                 run = answer.run;
+                at = next;
+                left -= 1;
             }
             Part::Place(position, node) => {
                 let window = run.window;
-                end = put_at(out, end, place_record(place_of(window, position, node)));
-            }
-            Part::Busy(peripheral) => {
-                end = put_at(out, end, busy_record(run.busy(peripheral)));
+                let place = run_window::place_of(window, position, node);
+                end = drive_records::put_at(out, end, drive_records::place_record(place));
+                at = next;
+                left -= 1;
             }
         }
     }
@@ -110,8 +108,8 @@ fn opened_and_called(input: &[u8], head: Head, out: &mut [u8], parts: usize) -> 
 {
     let opened = open(input, head);
     let opening = opened.opening;
-    let record = opening_record(opening);
-    let end = put_at(out, 0, record);
+    let record = drive_records::opening_record(opening);
+    let end = drive_records::put_at(out, 0, record);
     let run = opened.run;
     parts_from(input, head.parts, run, out, end, parts)
 }

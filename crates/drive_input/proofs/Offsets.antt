@@ -10,7 +10,7 @@ use Rattle.run.specs.declared.Call.{Call}
 use Rattle.drive_input.specs.declared.HeadRead.{HeadRead}
 use Rattle.drive_input.specs.declared.Part.{Part}
 use Rattle.drive_input.specs.declared.PartRead.{PartRead}
-use Rattle.drive_input.specs.Input.{byte_at, plan_length, parts_at, head_of, ask_at, completion_at, outcome_at, place_at, busy_at, part_at}
+use Rattle.drive_input.specs.Input.{byte_at, plan_length, parts_at, head_of, ask_at, completion_at, outcome_at, place_at, part_at}
 
 module _ (b : List ℕ) where
   pub head_cut : length b < parts_at b → HeadRead.Ends ≡ head_of b
@@ -53,14 +53,6 @@ module _ (b : List ℕ) (at : ℕ) where
   unfolding place_at
   place_there p position h = rw (position, le-leb (at + 6) (length b) h)
 
-  pub busy_cut : length b < at + 2 → PartRead.None ≡ busy_at b at
-  unfolding busy_at
-  busy_cut h = rw (lt-leb (at + 2) (length b) h)
-
-  pub busy_there : at + 2 ≤ length b → PartRead.Some (Part.Busy (byte_at b (at + 1))) (at + 2) ≡ busy_at b at
-  unfolding busy_at
-  busy_there h = rw (le-leb (at + 2) (length b) h)
-
   module _ (t : ℕ) (reading : t ≡ little 8 b (at + 1)) where
     pub ask_there : at + 9 ≤ length b → PartRead.Some (Part.Call (Call.Ask (record { 0 = t }))) (at + 9) ≡ ask_at b at
     unfolding ask_at
@@ -99,19 +91,13 @@ module _ (b : List ℕ) (at : ℕ) where
     unfolding part_at
     is_place k = rw (le-leb (at + 1) (length b) (omega arith), k)
 
-    pub is_busy : byte_at b at ≡ 4 → busy_at b at ≡ part_at b at
+    pub no_kind : (byte_at b at ≡ 0 → ⊥) → (byte_at b at ≡ 1 → ⊥) → (byte_at b at ≡ 2 → ⊥) → (byte_at b at ≡ 3 → ⊥) → PartRead.None ≡ part_at b at
     unfolding part_at
-    is_busy k = rw (le-leb (at + 1) (length b) (omega arith), k)
-
-    pub no_kind : (byte_at b at ≡ 0 → ⊥) → (byte_at b at ≡ 1 → ⊥) → (byte_at b at ≡ 2 → ⊥) → (byte_at b at ≡ 3 → ⊥) → (byte_at b at ≡ 4 → ⊥)
-        → PartRead.None ≡ part_at b at
-    unfolding part_at
-    no_kind i j k l m =
+    no_kind i j k l =
         rw (
           le-leb (at + 1) (length b) (omega arith),
           ne_eqb (byte_at b at) 0 i,
           ne_eqb (byte_at b at) 1 j,
           ne_eqb (byte_at b at) 2 k,
           ne_eqb (byte_at b at) 3 l,
-          ne_eqb (byte_at b at) 4 m,
         )

@@ -1,4 +1,4 @@
--- The parts of the input: an opening, then calls and questions for a node's place or a busy time. A number has its lowest byte first; offsets count from the first byte.
+-- The parts of the input: an opening, then calls and questions for a node's place. A number has its lowest byte first; offsets count from the first byte.
 use Rattle.std.specs.Prelude.{Bool, cond, List, [], ◌∷◌, ℕ, zero, suc, ◌+◌, ◌*◌, length, get_or, take, drop, leb, eqb}
 use Rattle.wire.specs.Number.{little}
 use Rattle.time.specs.declared.Clock.{Clock}
@@ -80,16 +80,11 @@ outcome_at b at =
 unfoldable pub place_at : List ℕ → ℕ → PartRead
 place_at b at = part_up_to b (at + 6) (Part.Place (little 4 b (at + 1)) (byte_at b (at + 5)))
 
--- kind 4, a peripheral's busy time: peripheral (1); no call, so no reading
-unfoldable pub busy_at : List ℕ → ℕ → PartRead
-busy_at b at = part_up_to b (at + 2) (Part.Busy (byte_at b (at + 1)))
-
--- "kind (1: 0 ask, 1 completion, 2 outcome)", 3 for a node's place and 4 for a busy time; any other kind ends the list
+-- "kind (1: 0 ask, 1 completion, 2 outcome)", and 3 for a node's place; any other kind ends the list
 abbrev pub part_of_kind : ℕ → List ℕ → ℕ → PartRead
 part_of_kind kind b at =
     cond (eqb kind 0) (ask_at b at)
-    (cond (eqb kind 1) (completion_at b at)
-    (cond (eqb kind 2) (outcome_at b at) (cond (eqb kind 3) (place_at b at) (cond (eqb kind 4) (busy_at b at) PartRead.None))))
+    (cond (eqb kind 1) (completion_at b at) (cond (eqb kind 2) (outcome_at b at) (cond (eqb kind 3) (place_at b at) PartRead.None)))
 
 -- the part at `at`, if there is one, and the offset past it
 unfoldable pub part_at : List ℕ → ℕ → PartRead

@@ -1,8 +1,8 @@
-// The parts of an input: an opening, then calls and questions for a node's place or a busy time. Their form is in specs/Input.antt.
+// The parts of an input: an opening, then calls and questions for a node's place. Their form is in specs/Input.antt.
 #![tactic(auto)]
 ghost use Rattle.std.specs.Prelude.{◌≡◌, ◌+◌, ◌*◌, ◌≤◌, ◌<◌, length, take};
 ghost use Rattle.wire.specs.Number.{little};
-ghost use Rattle.drive_input.specs.Input.{availabilities_from, head_of, ask_at, completion_at, outcome_at, place_at, busy_at, part_at};
+ghost use Rattle.drive_input.specs.Input.{availabilities_from, head_of, ask_at, completion_at, outcome_at, place_at, part_at};
 
 use basis::u8_to_usize;
 use run::Call;
@@ -10,7 +10,7 @@ use time::Clock;
 use wire::Short;
 
 // The numbers of an opening: the plan's length, Ψ, slack, availability count, and where the parts after it begin.
-#[derive(Drop)]
+#[derive(Clone, Copy)]
 pub struct Head {
     pub length: usize,
     pub psi: Clock,
@@ -20,23 +20,21 @@ pub struct Head {
 }
 
 // The input holds the opening whole, or ends inside it.
-#[derive(Drop)]
+#[derive(Clone, Copy)]
 pub enum HeadRead {
     Whole(Head),
     Ends,
 }
 
-// What stands after the opening: a call, or a question: where does the node with this position and number stand, or what is this
-// peripheral's busy time?
-#[derive(Drop)]
+// What stands after the opening: a call, or a question: where does the node with this position and number stand?
+#[derive(Clone, Copy)]
 pub enum Part {
     Call(Call),
     Place(u32, u8),
-    Busy(u8),
 }
 
 // A part, and the offset past it.
-#[derive(Drop)]
+#[derive(Clone, Copy)]
 pub enum PartRead {
     Some(Part, usize),
     None,
@@ -164,19 +162,6 @@ fn place_at(input: &[u8], at: usize) -> PartRead
     PartRead::Some(Part::Place(position, node), at + 6)
 }
 
-// Kind 4: the question what a peripheral's busy time is. It has no reading.
-fn busy_at(input: &[u8], at: usize) -> PartRead
-    requires { at ≤ length input.now }
-    ensures { result ≡ busy_at input.now at }
-{
-    if input.len() - at < 2 {
-        return PartRead::None;
-    }
-    let last = at + 1;
-    let peripheral = input[last];
-    PartRead::Some(Part::Busy(peripheral), at + 2)
-}
-
 // The part at `at`, if there is one: any other kind ends the list.
 pub fn part_at(input: &[u8], at: usize) -> PartRead
     requires { at ≤ length input.now }
@@ -197,9 +182,6 @@ pub fn part_at(input: &[u8], at: usize) -> PartRead
     }
     if kind == 3 {
         return place_at(input, at);
-    }
-    if kind == 4 {
-        return busy_at(input, at);
     }
     PartRead::None
 }

@@ -1,4 +1,4 @@
--- A record of 16 bytes for the opening, for each call, for each node's place and for each busy time.
+-- A record of 16 bytes for the opening, for each call and for each node's place.
 use Rattle.std.specs.Prelude.{List, ◌∷◌, ◌++◌, ℕ}
 use Rattle.wire.specs.Number.{bytes_of}
 use Rattle.run_checks.specs.declared.Stop.{Stop}
@@ -8,7 +8,7 @@ use Rattle.run.specs.Numbers.{refusal_number, stop_number, open_number, open_pla
 use Rattle.drive_records.specs.declared.Record.{Record}
 
 -- byte 0 the answer, byte 1 the number or the activity, byte 2 the node, byte 3 zero, bytes 4 to 7 the position, bytes 8
--- to 15 the place or the busy time
+-- to 15 the place
 unfoldable pub record_bytes : Record → List ℕ
 record_bytes r = r.answer ∷ r.number ∷ r.node ∷ 0 ∷ (bytes_of 4 r.position ++ bytes_of 8 r.place)
 
@@ -49,7 +49,3 @@ reply_record (Reply.Stopped s) = stop_record s
 -- 7 a node's place in the window, or the number of places where none holds it
 unfoldable pub place_record : ℕ → Record
 place_record place = bare 7 0 place
-
--- 8 a peripheral's busy time
-unfoldable pub busy_record : ℕ → Record
-busy_record busy = bare 8 0 busy

@@ -1,13 +1,13 @@
-// A record of 16 bytes for the opening, for each call, for each node's place and for each busy time. Its form is in specs/Records.antt.
+// A record of 16 bytes for the opening, for each call and for each node's place. Its form is in specs/Records.antt.
 #![tactic(auto)]
 ghost use Rattle.std.specs.Prelude.{◌≡◌, ◌+◌, ◌≤◌, length};
 ghost use Rattle.wire.specs.Puts.{Puts};
-ghost use Rattle.drive_records.specs.Records.{bare, stop_record, opening_record, reply_record, place_record, busy_record, record_bytes};
+ghost use Rattle.drive_records.specs.Records.{bare, stop_record, opening_record, reply_record, place_record, record_bytes};
 
 use run::{Opening, Reply, Stop};
 
-// An answer: what was answered, the number or the activity, the node, the position, the place or the busy time.
-#[derive(Drop)]
+// An answer: what was answered, the number or the activity, the node, the position, the place.
+#[derive(Clone, Copy)]
 pub struct Record {
     pub answer: u8,
     pub number: u8,
@@ -95,14 +95,6 @@ pub fn place_record(place: usize) -> Record
     ensures { result ≡ place_record place }
 {
     bare(7, 0, place as u64)
-}
-
-// ---- a busy time
-
-pub fn busy_record(busy: u64) -> Record
-    ensures { result ≡ busy_record busy }
-{
-    bare(8, 0, busy)
 }
 
 // ---- into a buffer

@@ -100,9 +100,8 @@ fn recorded_code(r: Recorded) -> usize
     }
 }
 
-// Drives a list of calls, and of questions where a node stands or what a peripheral's busy time is, through a run, and writes a
-// record for the opening and for each of them: how many bytes it wrote, or 36 * 2^32 for a buffer that is too short, which stays as
-// it was.
+// Drives a list of calls, and of questions where a node stands, through a run, and writes a record for the opening and for
+// each of them: how many bytes it wrote, or 36 * 2^32 for a buffer that is too short, which stays as it was.
 #[unsafe(no_mangle)]
 pub extern "C" fn jidlekuvo_drive(input: &[u8], out: &mut [u8]) -> usize
     ensures { (result ≡ recorded_code (recorded_of input.now out.old)) × (out.new ≡ buffer_of input.now out.old) }
@@ -110,8 +109,8 @@ pub extern "C" fn jidlekuvo_drive(input: &[u8], out: &mut [u8]) -> usize
     recorded_code(drive::drive(input, out))
 }
 
-// Two calls of a run that no opening made, all as bytes (any bytes are such a run), and a record for each and for each of the 64
-// busy times after them: how many bytes it wrote, or 36 * 2^32 for a buffer too short.
+// Two calls of a run that no opening made, all as bytes (any bytes are such a run), and a record for each: how many bytes
+// it wrote, or 36 * 2^32 for a buffer too short.
 #[unsafe(no_mangle)]
 pub extern "C" fn jidlekuvo_made_up(bytes: &[u8], out: &mut [u8]) -> usize
     ensures { (result ≡ made_code out.old) × (out.new ≡ made_buffer bytes.now out.old) }

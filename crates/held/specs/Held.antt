@@ -145,7 +145,7 @@ phase_of phase = cond (eqb phase 1) Phase.Loaded (cond (eqb phase 2) Phase.Start
 
 abbrev pub entry_of : HeldEntry → Entry
 entry_of h =
-    record { start = h.start; end = h.end; begun = h.begun; position = h.position; activity = h.activity; node = h.node; phase = phase_of h.phase }
+    record { start = h.start; end = h.end; position = h.position; activity = h.activity; node = h.node; phase = phase_of h.phase }
 
 abbrev pub phase_number : Phase → ℕ
 phase_number Phase.Free = 0
@@ -154,7 +154,7 @@ phase_number Phase.Started = 2
 
 abbrev pub held_entry : Entry → HeldEntry
 held_entry e =
-    record { start = e.start; end = e.end; begun = e.begun; position = e.position; activity = e.activity; node = e.node; phase = phase_number e.phase; spare = 0 }
+    record { start = e.start; end = e.end; position = e.position; activity = e.activity; node = e.node; phase = phase_number e.phase; spare = 0 }
 
 -- ---- where the behaviour stands; of a pending instance, 0 nothing was told, 1 an outcome
 
@@ -215,7 +215,6 @@ run_of h =
       window = map entry_of h.rest.window;
       last = h.rest.last;
       halt = halt_of h.rest.halt;
-      busy = h.rest.busy;
     }
 
 -- all of a run but its plan
@@ -225,7 +224,6 @@ rest_of r =
       psi = r.psi;
       slack = r.slack;
       last = r.last;
-      busy = r.busy;
       window = map held_entry r.window;
       progress = held_progress r.progress;
       halt = held_halt r.halt;

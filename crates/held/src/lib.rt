@@ -20,7 +20,7 @@ pub mod places; // the window
 pub mod progresses; // where the behaviour stands
 
 #[repr(C)]
-#[derive(Drop)]
+#[derive(Clone, Copy)]
 pub struct HeldNode {
     pub duration: u32,
     pub kind: u8,
@@ -31,7 +31,7 @@ pub struct HeldNode {
 }
 
 #[repr(C)]
-#[derive(Drop)]
+#[derive(Clone, Copy)]
 pub struct HeldMove {
     pub from: u8,
     pub to: u8,
@@ -44,7 +44,7 @@ pub struct HeldMove {
 }
 
 #[repr(C)]
-#[derive(Drop)]
+#[derive(Clone, Copy)]
 pub struct HeldPlan {
     pub finals: u64,
     pub nodes: [HeldNode; NODES],
@@ -62,11 +62,10 @@ pub struct HeldPlan {
 }
 
 #[repr(C)]
-#[derive(Drop)]
+#[derive(Clone, Copy)]
 pub struct HeldEntry {
     pub start: Specified,
     pub end: Specified,
-    pub begun: Clock,
     pub position: u32,
     pub activity: u8,
     pub node: u8,
@@ -75,7 +74,7 @@ pub struct HeldEntry {
 }
 
 #[repr(C)]
-#[derive(Drop)]
+#[derive(Clone, Copy)]
 pub struct HeldInstance {
     pub end: Specified,
     pub position: u32,
@@ -86,7 +85,7 @@ pub struct HeldInstance {
 }
 
 #[repr(C)]
-#[derive(Drop)]
+#[derive(Clone, Copy)]
 pub struct HeldProgress {
     pub available: [Specified; 16],
     pub latest: [Specified; 16],
@@ -98,7 +97,7 @@ pub struct HeldProgress {
 }
 
 #[repr(C)]
-#[derive(Drop)]
+#[derive(Clone, Copy)]
 pub struct HeldHalt {
     pub position: u32,
     pub node: u8,
@@ -108,19 +107,18 @@ pub struct HeldHalt {
 
 // All of a run but its plan: what a call may change.
 #[repr(C)]
-#[derive(Drop)]
+#[derive(Clone, Copy)]
 pub struct HeldRest {
     pub psi: Clock,
     pub slack: u64,
     pub last: Clock,
-    pub busy: [u64; 64],
     pub window: [HeldEntry; WINDOW],
     pub progress: HeldProgress,
     pub halt: HeldHalt,
 }
 
 #[repr(C)]
-#[derive(Drop)]
+#[derive(Clone, Copy)]
 pub struct Held {
     pub rest: HeldRest,
     pub plan: HeldPlan,
@@ -205,12 +203,11 @@ pub fn rest_with(
     psi: Clock,
     slack: u64,
     last: Clock,
-    busy: [u64; 64],
     window: [HeldEntry; WINDOW],
     reached: Progress,
     stop: Halt,
 ) -> HeldRest
-    ensures { result ≡ rest_with psi slack last busy window reached stop }
+    ensures { result ≡ rest_with psi slack last window reached stop }
 {
     let progress = progresses::hold_progress(reached);
     let halt = halts::hold_halt(stop);
@@ -218,7 +215,6 @@ pub fn rest_with(
         psi,
         slack,
         last,
-        busy,
         window,
         progress,
         halt,
@@ -230,15 +226,14 @@ pub fn rest_of(
     psi: Clock,
     slack: u64,
     last: Clock,
-    busy: [u64; 64],
     entries: [Entry; WINDOW],
     reached: Progress,
     stop: Halt,
 ) -> HeldRest
-    ensures { result ≡ rest_by psi slack last busy entries reached stop }
+    ensures { result ≡ rest_by psi slack last entries reached stop }
 {
     let window = places::hold_window(entries);
-    rest_with(psi, slack, last, busy, window, reached, stop)
+    rest_with(psi, slack, last, window, reached, stop)
 }
 
 pub fn hold_run(run: Run) -> Held
@@ -247,11 +242,10 @@ pub fn hold_run(run: Run) -> Held
     let run_plan = run.plan;
     let psi = run.psi;
     let last = run.last;
-    let busy = run.busy;
     let window = run.window;
     let progress = run.progress;
     let halt = run.halt;
-    let rest = rest_of(psi, run.slack, last, busy, window, progress, halt);
+    let rest = rest_of(psi, run.slack, last, window, progress, halt);
     let plan = hold_plan(run_plan);
     Held { rest, plan }
 }

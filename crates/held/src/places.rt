@@ -1,10 +1,10 @@
-// The places of the window, 32 bytes each.
+// The places of the window, 24 bytes each.
 ghost use Rattle.std.specs.Prelude.{map, ◌≡◌};
 ghost use Rattle.held.specs.Held.{phase_of, entry_of, phase_number, held_entry};
 
 use crate::{HeldEntry, HeldRest};
 use run_window::{Entry, Phase, WINDOW};
-use time::{Clock, Specified};
+use time::Specified;
 
 fn phase_of(phase: u8) -> Phase
     ensures { result ≡ phase_of phase }
@@ -24,11 +24,9 @@ pub fn entry_of(h: HeldEntry) -> Entry
     let phase = phase_of(h.phase);
     let start = h.start;
     let end = h.end;
-    let begun = h.begun;
     Entry {
         start,
         end,
-        begun,
         position: h.position,
         activity: h.activity,
         node: h.node,
@@ -52,11 +50,9 @@ pub fn hold_entry(e: Entry) -> HeldEntry
     let phase = e.phase;
     let start = e.start;
     let end = e.end;
-    let begun = e.begun;
     HeldEntry {
         start,
         end,
-        begun,
         position: e.position,
         activity: e.activity,
         node: e.node,
@@ -86,7 +82,6 @@ pub fn hold_window(window: [Entry; WINDOW]) -> [HeldEntry; WINDOW]
     let zero = HeldEntry {
         start: Specified(0),
         end: Specified(0),
-        begun: Clock(0),
         position: 0,
         activity: 0,
         node: 0,

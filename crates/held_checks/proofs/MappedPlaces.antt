@@ -10,7 +10,7 @@ use Rattle.held.specs.Held.{entry_of}
 
 -- past the end of the numbers
 abbrev pub zeros : HeldEntry
-zeros = record { start = record { 0 = 0 }; end = record { 0 = 0 }; begun = record { 0 = 0 }; position = 0; activity = 0; node = 0; phase = 0; spare = 0 }
+zeros = record { start = record { 0 = 0 }; end = record { 0 = 0 }; position = 0; activity = 0; node = 0; phase = 0; spare = 0 }
 
 pub place_read : (held : List HeldEntry) (i : ℕ) {e : Entry} → e ≡ entry_of (get_or held i zeros) → e ≡ get_or (map entry_of held) i vacant
 place_read held i p = p ∙ sym (get_or-map entry_of held i zeros)

@@ -34,17 +34,9 @@ pub fn moment_of(rest: HeldRest, c: Call) -> Moment
 
 // ---- 50
 
-// The run, where it is known of plan, progress, window and busy times whether they are within the limits.
-fn run_in_limits(
-    good: bool,
-    stands: bool,
-    holds: bool,
-    busy: bool,
-    psi: Clock,
-    slack: u64,
-    halt: Halt,
-) -> bool
-    ensures { result ≡ limits_by good stands holds busy psi slack halt }
+// The run, where it is known of plan, progress and window whether they are within the limits.
+fn run_in_limits(good: bool, stands: bool, holds: bool, psi: Clock, slack: u64, halt: Halt) -> bool
+    ensures { result ≡ limits_by good stands holds psi slack halt }
 {
     if !good {
         return false;
@@ -53,9 +45,6 @@ fn run_in_limits(
         return false;
     }
     if !holds {
-        return false;
-    }
-    if !busy {
         return false;
     }
     if psi.0 > HORIZON {
@@ -74,8 +63,6 @@ pub fn all_but_nodes(plan: HeldPlan, rest: HeldRest) -> bool
     let outcomes = plan.outcomes;
     let sizes = plan.sizes;
     let psi = rest.psi;
-    let last = rest.last;
-    let times = rest.busy;
     let held_progress = rest.progress;
     let held_halt = rest.halt;
     let progress = held::progresses::progress_of(held_progress);
@@ -89,8 +76,7 @@ pub fn all_but_nodes(plan: HeldPlan, rest: HeldRest) -> bool
         progress,
     );
     let holds = places::window_in_limits(plan.activities, sizes, rest);
-    let busy = run_limits::busy::busy_in_limits(plan.peripherals, last, times);
-    run_in_limits(good, stands, holds, busy, psi, rest.slack, halt)
+    run_in_limits(good, stands, holds, psi, rest.slack, halt)
 }
 
 // ---- what a call finds

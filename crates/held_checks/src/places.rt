@@ -13,15 +13,14 @@ use time::Clock;
 
 // Every place of the window.
 pub fn window_in_limits(activities: u8, sizes: [u8; 32], rest: HeldRest) -> bool
-    ensures { result ≡ window_in_limits activities sizes rest.last (map entry_of rest.window) }
+    ensures { result ≡ window_in_limits activities sizes (map entry_of rest.window) }
 {
-    let last = rest.last;
     let held = rest.window;
     let mut i: usize = 0;
     while i < WINDOW {
         let h = held[i];
         let e = places::entry_of(h);
-        if !run_limits::places::entry_in_limits(activities, sizes, last, e) {
+        if !run_limits::places::entry_in_limits(activities, sizes, e) {
             return false;
         }
         i += 1;

@@ -10,7 +10,7 @@ use plan::Kind;
 use plan_limits::numbers;
 
 // Whether the nodes of a plan lie within the limits, and the kind of one of them.
-#[derive(Drop)]
+#[derive(Clone, Copy)]
 pub struct Nodes {
     pub good: bool,
     pub kind: Kind,

@@ -9,7 +9,6 @@ use denote.Enum.Declared.{tag_of}
 use lib.ListN.{length}
 use Rattle.basis.specs.Laws.Bools.{by_cond}
 use Rattle.plan.specs.declared.Kind.{Kind}
-use Rattle.run_window.specs.declared.Entry.{Entry}
 use Rattle.run_window.specs.declared.Found.{Found}
 use Rattle.run_window.specs.Window.{is_started}
 use Rattle.run_checks.specs.declared.Check.{Check}
@@ -35,14 +34,13 @@ Settles (Effect.Stays told) = Unit {0}
 Settles (Effect.Stops s) = Unit {0}
 Settles Effect.Rests = Unit {0}
 Settles (Effect.Stores i e told) = Unit {0}
-Settles (Effect.Completes i x begun) = Unit {0}
 Settles (Effect.Learns i x e o) = ⊥
 
-completion_settles : (i : ℕ) (e : Entry) (k : Kind) → Settles (completes_by i e k)
-completion_settles i e (Kind.Action a x) = tt
-completion_settles i e (Kind.Claim r) = tt
-completion_settles i e (Kind.Release r) = tt
-completion_settles i e (Kind.Event v) = tt
+completion_settles : (i : ℕ) (k : Kind) → Settles (completes_by i k)
+completion_settles i (Kind.Action a x) = tt
+completion_settles i (Kind.Claim r) = tt
+completion_settles i (Kind.Release r) = tt
+completion_settles i (Kind.Event e) = tt
 
 check_settles : (c : Call) → Plain c → (check : Check) (kind : Kind) (most : ℕ) → Settles (effect_by c check kind most)
 check_settles c p (Check.Objects (Objection.Refuses f)) kind most = tt
@@ -51,20 +49,19 @@ check_settles c p (Check.Objects (Objection.Stops s)) kind most = tt
 check_settles (Call.Ask t) p (Check.Goes Found.Nothing) kind most = tt
 check_settles (Call.Ask t) p (Check.Goes (Found.At i e)) kind most = tt
 check_settles (Call.Completion t m n) p (Check.Goes Found.Nothing) kind most = tt
-check_settles (Call.Completion t m n) p (Check.Goes (Found.At i e)) kind most = by_cond Settles (is_started e.phase) (completes_by i e kind) (refusing Refusal.NotStarted) (completion_settles i e kind) tt
+check_settles (Call.Completion t m n) p (Check.Goes (Found.At i e)) kind most = by_cond Settles (is_started e.phase) (completes_by i kind) (refusing Refusal.NotStarted) (completion_settles i kind) tt
 check_settles (Call.Outcome t m n o) p (Check.Goes found) kind most = absurd p
 
 pub plain_settles : (c : Call) → Plain c → (checked : Checked) → Settles (effect_of c checked)
 plain_settles c p checked = check_settles c p checked.check checked.kind checked.most
 
 -- an effect with the tag of another case
-pub tag_settles : (x : Effect) → OneOf (0 ∷ (1 ∷ (2 ∷ (3 ∷ (4 ∷ []))))) (tag_of effect-type.the_type x) → Settles x
+pub tag_settles : (x : Effect) → OneOf (0 ∷ (1 ∷ (2 ∷ (3 ∷ [])))) (tag_of effect-type.the_type x) → Settles x
 tag_settles (Effect.Stays told) h = tt
 tag_settles (Effect.Stops s) h = tt
 tag_settles Effect.Rests h = tt
 tag_settles (Effect.Stores i e told) h = tt
-tag_settles (Effect.Completes i x begun) h = tt
-tag_settles (Effect.Learns i x e o) h = absurd (⊎_elim (λ e. omega arith) (⊎_elim (λ e. omega arith) (⊎_elim (λ e. omega arith) (⊎_elim (λ e. omega arith) (λ e. omega arith)))) h)
+tag_settles (Effect.Learns i x e o) h = absurd (⊎_elim (λ e. omega arith) (⊎_elim (λ e. omega arith) (⊎_elim (λ e. omega arith) (λ e. omega arith))) h)
 
 -- ---- carried out
 
@@ -86,9 +83,6 @@ module _ (h : Held) (c : Call) (effect : Effect) (q : effect ≡ effect_of c (ch
     by_effect (Effect.Stores i x told) e s =
         let k = named (Effect.Stores i x told) e in
         (k.0, changes h c (run_of h) refl _ (answered (Effect.Stores i x told) e) k.2 k.1)
-    by_effect (Effect.Completes i x begun) e s =
-        let k = named (Effect.Completes i x begun) e in
-        ((k.0, k.1), changes h c (run_of h) refl _ (answered (Effect.Completes i x begun) e) k.2 tt)
     by_effect (Effect.Learns i x e' o) e s = absurd s
 
     pub carries : Settles effect → Carries h.rest effect

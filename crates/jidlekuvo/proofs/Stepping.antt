@@ -63,7 +63,7 @@ learns_accepts run t i x e o = let told = told_run run t i x e o in learnt_accep
 
 -- the run that these parts of the numbers stand for
 abbrev pub run_in : Held → Progress → Moment → Halt → Run
-run_in h progress m halt = run_at (plan_of h.plan) progress (map entry_of h.rest.window) h.rest.busy m halt
+run_in h progress m halt = run_at (plan_of h.plan) progress (map entry_of h.rest.window) m halt
 
 pub by_parts : (h : Held) (c : Call) (g : Progress) (m : Moment) (x : Halt) → g ≡ progress_of h.rest.progress → m ≡ moment_at h.rest c → x ≡ halt_of h.rest.halt → run_in h g m x ≡ run_of h
 unfolding run_of

@@ -14,7 +14,7 @@ use Rattle.jidlekuvo.specs.Replies.{told_of, opening_told}
 
 -- the number of this form of a run's bytes
 abbrev pub abi : ℕ
-abi = 2
+abi = 1
 
 -- a reading, or Ψ, as the host gives it
 abbrev pub clock : ℕ → Clock

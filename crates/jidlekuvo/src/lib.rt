@@ -4,7 +4,6 @@
 ghost use Rattle.std.specs.Prelude.{◌≡◌};
 ghost use Rattle.judge.specs.Judge.{judge_of};
 ghost use Rattle.numbers.specs.Codes.{code_of};
-ghost use Rattle.run.specs.Busy.{busy_of};
 ghost use Rattle.run.specs.Calls.{reading_of, call_of, ask_of, completion_of, outcome_of};
 ghost use Rattle.run.specs.Inner.Effects.{sought_by, checked_of, effect_of};
 ghost use Rattle.run.specs.Opening.{open_of};
@@ -12,7 +11,6 @@ ghost use Rattle.held.specs.Held.{run_of};
 ghost use Rattle.jidlekuvo.specs.Host.{abi, clock, opened_as, Answers};
 ghost use Rattle.jidlekuvo.specs.Inner.Steps.{stepped_to, Plain, ask_step, completion_step, outcome_step};
 
-use basis::u8_to_usize;
 use held::{Held, HeldRest};
 use run::{Call, Effect, Run};
 use time::Clock;
@@ -23,7 +21,7 @@ mod steps; // what a call does, and its answer
 // What is answered: its kind; the number of a refusal or stop; the place of a refused opening; position, activity and node of a
 // start; position and node of a stop that names one. What a kind does not use is 0.
 #[repr(C)]
-#[derive(Drop)]
+#[derive(Clone, Copy)]
 pub struct HostReply {
     pub place: u64,
     pub position: u32,
@@ -35,14 +33,14 @@ pub struct HostReply {
 
 // The answer to an opening; a refused one hands back a run of zeros.
 #[repr(C)]
-#[derive(Drop)]
+#[derive(Clone, Copy)]
 pub struct HeldOpened {
     pub run: Held,
     pub reply: HostReply,
 }
 
 // The answer to a call, and all of the run but its plan after it.
-#[derive(Drop)]
+#[derive(Clone, Copy)]
 pub struct Stepped {
     pub rest: HeldRest,
     pub reply: HostReply,
@@ -103,29 +101,6 @@ fn outcome(h: Held, t: u64, position: u32, node: u8, o: u8) -> Stepped
     steps::learns(m, plan, rest, progress, i, x, e, told)
 }
 
-// ---- what a host reads
-
-// `Run::busy`, from the numbers of a run.
-fn busy(h: Held, peripheral: u8) -> u64
-    ensures { result ≡ busy_of (run_of h) peripheral }
-{
-    let plan = h.plan;
-    let rest = h.rest;
-    let limits = held_checks::all_but_nodes(plan, rest);
-    let nodes = held_checks::plans::nodes_in_limits(plan, 0);
-    let good = nodes.good;
-    if !limits {
-        return 0;
-    }
-    if !good {
-        return 0;
-    }
-    if peripheral >= plan.peripherals {
-        return 0;
-    }
-    rest.busy[u8_to_usize(peripheral)]
-}
-
 // ---- what the host calls
 
 // Raised with each change of an offset, a size, a field or the number of a case: a host built for another number must not call.
@@ -133,7 +108,7 @@ fn busy(h: Held, peripheral: u8) -> u64
 pub extern "C" fn jidlekuvo_abi() -> u32
     ensures { result ≡ abi }
 {
-    2
+    1
 }
 
 // The whole verdict: 0 if the plan is accepted, otherwise number and place.
@@ -188,12 +163,4 @@ pub extern "C" fn jidlekuvo_outcome(
     let s = outcome(*run, t, position, node, o);
     run.rest = s.rest;
     s.reply
-}
-
-// The busy time of a peripheral; it is no call, and changes nothing.
-#[unsafe(no_mangle)]
-pub extern "C" fn jidlekuvo_busy(run: &Held, peripheral: u8) -> u64
-    ensures { result ≡ busy_of (run_of run.now) peripheral }
-{
-    busy(*run, peripheral)
 }

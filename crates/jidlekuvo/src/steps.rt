@@ -1,12 +1,10 @@
 // What a call does to a run that is given as numbers, and the answer that it then gets.
 ghost use Rattle.std.specs.Prelude.{map, ◌≡◌, ◌<◌, set};
 ghost use Rattle.plan.specs.Plan.{outcomes_of};
-ghost use Rattle.run_window.specs.Window.{vacant};
 ghost use Rattle.run_checks.specs.declared.Halt.{Halt};
 ghost use Rattle.run_loading.specs.Inner.Loading.{Loads};
 ghost use Rattle.run.specs.declared.Effect.{Effect};
 ghost use Rattle.run.specs.declared.Reply.{Reply};
-ghost use Rattle.run.specs.Busy.{busy_after};
 ghost use Rattle.run.specs.Calls.{reading_of};
 ghost use Rattle.run.specs.Inner.Calls.{halt_after, reply_after};
 ghost use Rattle.run.specs.Inner.Effects.{sought_by, found_by, place_of, acted, rests_as, run_at};
@@ -16,13 +14,11 @@ ghost use Rattle.jidlekuvo.specs.Replies.{told_of};
 ghost use Rattle.jidlekuvo.specs.Inner.Steps.{effect_in, stepped_of, stepped_by, stepped_with, Carries, carried_by};
 
 use crate::{Stepped, replies};
-use basis::u8_to_usize;
 use held::{HeldEntry, HeldPlan, HeldRest};
 use run::{Call, Effect, Halt, Reply, Stop};
 use run_checks::{Check, Moment};
 use run_loading::Loading;
 use run_window::{Entry, WINDOW};
-use time::Clock;
 use times::Progress;
 
 // The answer of a call that leaves every byte of the run.
@@ -36,73 +32,42 @@ fn kept(rest: HeldRest, told: Reply) -> Stepped
 // The answer of a call that changes the run, from the parts of the run after it; its window has been made fresh.
 fn written(
     m: Moment,
-    busy: [u64; 64],
     window: [HeldEntry; WINDOW],
     progress: Progress,
     halt: Halt,
     told: Reply,
 ) -> Stepped
-    ensures { result ≡ stepped_with m busy window progress halt told }
+    ensures { result ≡ stepped_with m window progress halt told }
 {
     let psi = m.psi;
     let last = m.t;
-    let rest = held::rest_with(psi, m.slack, last, busy, window, progress, halt);
+    let rest = held::rest_with(psi, m.slack, last, window, progress, halt);
     let reply = replies::told(told);
     Stepped { rest, reply }
 }
 
-// The answer of a call that leaves the window and the busy times.
+// The answer of a call that leaves the window.
 fn heard(m: Moment, rest: HeldRest, progress: Progress, halt: Halt, told: Reply) -> Stepped
-    ensures { result ≡ stepped_by m rest.busy (map entry_of rest.window) progress halt told }
+    ensures { result ≡ stepped_by m (map entry_of rest.window) progress halt told }
 {
-    let busy = rest.busy;
     let window = held::places::fresh(rest);
-    written(m, busy, window, progress, halt, told)
+    written(m, window, progress, halt, told)
 }
 
-// The answer of a call that stores entry e at place i, with the busy times after it. It is called in two places, so that its window is
-// on the stack once.
-fn stored(
-    m: Moment,
-    rest: HeldRest,
-    busy: [u64; 64],
-    progress: Progress,
-    i: usize,
-    e: Entry,
-    told: Reply,
-) -> Stepped
+// The answer of a call that stores entry e at place i.
+fn stored(m: Moment, rest: HeldRest, progress: Progress, i: usize, e: Entry, told: Reply) -> Stepped
     requires { i < 512 }
-    ensures { result ≡ stepped_by m busy (set (map entry_of rest.window) i e) progress Halt.Going told }
+    ensures { result ≡ stepped_by m (set (map entry_of rest.window) i e) progress Halt.Going told }
 {
     let mut window = held::places::fresh(rest);
     let x = held::places::hold_entry(e);
     window[i] = x;
-    written(m, busy, window, progress, Halt::Going, told)
-}
-
-// The answer of a completion: the action at place i, on peripheral x and started at the reading `begun`, leaves the window.
-fn completed(
-    m: Moment,
-    rest: HeldRest,
-    progress: Progress,
-    i: usize,
-    x: u8,
-    begun: Clock,
-) -> Stepped
-    requires { (i < 512) × (x < 64) }
-    ensures { result ≡ stepped_by m (busy_after rest.busy x begun m.t) (set (map entry_of rest.window) i vacant) progress Halt.Going Reply.Taken }
-{
-    let t = m.t;
-    let mut busy = rest.busy;
-    let k = u8_to_usize(x);
-    busy[k] = run::effects::spent(busy[k], begun, t);
-    let free = run_window::vacant();
-    stored(m, rest, busy, progress, i, free, Reply::Taken)
+    written(m, window, progress, Halt::Going, told)
 }
 
 // The answer of a call that stops the run.
 fn stopped(m: Moment, rest: HeldRest, progress: Progress, s: Stop) -> Stepped
-    ensures { result ≡ stepped_by m rest.busy (map entry_of rest.window) progress (Halt.Stopped s) (Reply.Stopped s) }
+    ensures { result ≡ stepped_by m (map entry_of rest.window) progress (Halt.Stopped s) (Reply.Stopped s) }
 {
     let halt = Halt::Stopped(s);
     let told = Reply::Stopped(s);
@@ -110,8 +75,8 @@ fn stopped(m: Moment, rest: HeldRest, progress: Progress, s: Stop) -> Stepped
 }
 
 // The answer of an outcome, with what was loaded after it.
-fn learnt(m: Moment, busy: [u64; 64], loading: Loading) -> Stepped
-    ensures { result ≡ stepped_by m busy loading.window loading.progress (halt_after loading.failure) (reply_after loading.failure) }
+fn learnt(m: Moment, loading: Loading) -> Stepped
+    ensures { result ≡ stepped_by m loading.window loading.progress (halt_after loading.failure) (reply_after loading.failure) }
 {
     let failure = loading.failure;
     let window = loading.window;
@@ -119,7 +84,7 @@ fn learnt(m: Moment, busy: [u64; 64], loading: Loading) -> Stepped
     let psi = m.psi;
     let last = m.t;
     let halt = run::learning::halt_after(failure);
-    let rest = held::rest_of(psi, m.slack, last, busy, window, progress, halt);
+    let rest = held::rest_of(psi, m.slack, last, window, progress, halt);
     let told = run::learning::reply_after(failure);
     let reply = replies::told(told);
     Stepped { rest, reply }
@@ -137,16 +102,15 @@ pub fn learns(
     o: u8,
 ) -> Stepped
     requires { Loads (plan_of held) progress × (i < 512) × (e < held.events) × (o < outcomes_of (plan_of held) e) }
-    ensures { result ≡ stepped_of (acted (run_at (plan_of held) progress (map entry_of rest.window) rest.busy m Halt.Going) m.t (Effect.Learns i x e o)) }
+    ensures { result ≡ stepped_of (acted (run_at (plan_of held) progress (map entry_of rest.window) m Halt.Going) m.t (Effect.Learns i x e o)) }
 {
-    let busy = rest.busy;
     let held_window = rest.window;
     let plan = held::plan_upto(held);
     let free = run_window::vacant();
     let mut window = held::places::window_of(held_window);
     window[i] = free;
     let loading = run::learning::load(plan, progress, window, x, e, o);
-    learnt(m, busy, loading)
+    learnt(m, loading)
 }
 
 // "It says done if the path ended in a final state and the window is empty, otherwise wait when nothing is due."
@@ -165,8 +129,8 @@ fn at_rest(finals: u64, state: u8, rest: HeldRest) -> Reply
 
 // ---- what a call does to the run
 
-// `held_checks::all_but_nodes` and these two have more callers than one, `step` and `outcome_effect`, and so stand by themselves: in
-// one function the arrays that they index would be copied at its entry too. No more is made of the numbers than a call needs.
+// `held_checks::all_but_nodes` and these two have two callers each, `step` and `outcome_effect`, and so stand by themselves: in one
+// function the arrays that they index would be copied at its entry too. No more is made of the numbers than a call needs.
 
 // What the checks say, with the nodes taken to be within the limits.
 pub fn check_on(limits: bool, plan: HeldPlan, rest: HeldRest, c: Call) -> Check
@@ -208,11 +172,7 @@ pub fn carried(finals: u64, rest: HeldRest, c: Call, effect: Effect) -> Stepped
             let told = at_rest(finals, progress.state, rest);
             return heard(m, rest, progress, Halt::Going, told);
         }
-        Effect::Stores(i, e, told) => {
-            let busy = rest.busy;
-            return stored(m, rest, busy, progress, i, e, told);
-        }
-        Effect::Completes(i, x, begun) => return completed(m, rest, progress, i, x, begun),
+        Effect::Stores(i, e, told) => return stored(m, rest, progress, i, e, told),
         Effect::Learns(_, _, _, _) => return kept(rest, Reply::Taken), // never: `Carries`
     }
 }

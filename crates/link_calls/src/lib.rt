@@ -9,14 +9,14 @@ pub use calls::{of_call, read_call, write_call};
 pub use replies::{of_reply, read_answer, write_answer};
 
 // What a message to the board says.
-#[derive(Drop)]
+#[derive(Clone, Copy)]
 pub enum CallRead {
     Call(Call),
     Refused(Refusal),
 }
 
 // What a message to the host says.
-#[derive(Drop)]
+#[derive(Clone, Copy)]
 pub enum AnswerRead {
     Reply(Reply),
     Refused(Refusal),

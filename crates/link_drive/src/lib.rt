@@ -14,7 +14,7 @@ use drive_input::{Head, HeadRead};
 use run::{Reply, Run};
 
 // The offset past a message, or the input ends, there or inside it.
-#[derive(Drop)]
+#[derive(Clone, Copy)]
 pub enum Next {
     At(usize),
     Ends,

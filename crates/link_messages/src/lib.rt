@@ -10,7 +10,7 @@ ghost use Rattle.link_messages.specs.Inner.Bytes.{message_bytes};
 pub use lengths::{has_length, length_of};
 
 // The fields of a message, by the bits of its map: a field whose bit does not stand is 0 when read and not looked at when written.
-#[derive(Drop)]
+#[derive(Clone, Copy)]
 pub struct Message {
     pub map: u8,
     pub reading: u64,
@@ -22,7 +22,7 @@ pub struct Message {
 }
 
 // Why a message is not written.
-#[derive(Drop)]
+#[derive(Clone, Copy)]
 pub enum NotSent {
     // a map not listed for the direction, or a number that no such answer has
     Unlisted,
@@ -30,7 +30,7 @@ pub enum NotSent {
 }
 
 // How many bytes were written, or why none were.
-#[derive(Drop)]
+#[derive(Clone, Copy)]
 pub enum Sent {
     Bytes(usize),
     Refused(NotSent),

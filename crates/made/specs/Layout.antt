@@ -15,16 +15,12 @@ move_size = 7
 abbrev pub instance_size : ℕ
 instance_size = 15
 
--- phase, position (4), activity, node, start (8), completion (8), start reading (8)
+-- phase, position (4), activity, node, start (8), completion (8)
 abbrev pub entry_size : ℕ
-entry_size = 31
+entry_size = 23
 
 abbrev pub time_size : ℕ
 time_size = 8
-
--- whether it has stopped, the stop, its position (4) and its node
-abbrev pub halt_size : ℕ
-halt_size = 7
 
 -- ---- the plan
 
@@ -105,6 +101,3 @@ last_from = window_from + 512 * entry_size
 
 abbrev pub halt_from : ℕ
 halt_from = last_from + time_size
-
-abbrev pub busy_from : ℕ
-busy_from = halt_from + halt_size

@@ -1,11 +1,11 @@
--- The plan, the progress, the window and the busy times of a made-up run: one line for each field.
+-- The plan, the progress and the window of a made-up run: one line for each field.
 use Rattle.std.specs.Prelude.{List, ℕ}
 use Rattle.wire.specs.Number.{little}
 use Rattle.plan.specs.declared.Automaton.{Automaton}
 use Rattle.plan.specs.declared.Plan.{Plan}
 use Rattle.times.specs.declared.Progress.{Progress}
 use Rattle.run_window.specs.declared.Entry.{Entry}
-use Rattle.made.specs.Layout.{node_size, move_size, instance_size, entry_size, time_size, resources_from, peripherals_from, belongs_from, events_from, outcomes_from, activities_from, sizes_from, nodes_from, states_from, initial_from, finals_from, count_from, moves_from, available_from, latest_from, lengths_from, pending_from, position_from, state_from, window_from, busy_from}
+use Rattle.made.specs.Layout.{node_size, move_size, instance_size, entry_size, time_size, resources_from, peripherals_from, belongs_from, events_from, outcomes_from, activities_from, sizes_from, nodes_from, states_from, initial_from, finals_from, count_from, moves_from, available_from, latest_from, lengths_from, pending_from, position_from, state_from, window_from}
 use Rattle.made.specs.Values.{byte_at, time_at, array_at, node_at, move_at, instance_at, entry_at}
 
 unfoldable pub automaton_of : List ℕ → Automaton
@@ -42,7 +42,3 @@ progress_of b = record {
 
 unfoldable pub window_of : List ℕ → List Entry
 window_of b = array_at entry_at entry_size 512 b window_from
-
--- one for each peripheral that a plan can have
-unfoldable pub busy_times_of : List ℕ → List ℕ
-busy_times_of b = array_at (little 8) time_size 64 b busy_from

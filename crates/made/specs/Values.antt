@@ -3,7 +3,6 @@
 use Rattle.std.specs.Prelude.{cond, List, [], ◌∷◌, ℕ, zero, suc, ◌+◌, ◌%◌, get_or, eqb}
 use Rattle.wire.specs.Number.{little}
 use Rattle.time.specs.declared.Specified.{Specified}
-use Rattle.time.specs.declared.Clock.{Clock}
 use Rattle.plan.specs.declared.Kind.{Kind}
 use Rattle.plan.specs.declared.Node.{Node}
 use Rattle.plan.specs.declared.Input.{Input}
@@ -19,9 +18,6 @@ byte_at b at = get_or b at 0
 
 abbrev pub time_at : List ℕ → ℕ → Specified
 time_at b at = record { 0 = little 8 b at }
-
-abbrev pub clock_at : List ℕ → ℕ → Clock
-clock_at b at = record { 0 = little 8 b at }
 
 -- n values of `size` bytes each, from `at` on
 unfoldable pub array_at : {A : Type 0} → (List ℕ → ℕ → A) → ℕ → ℕ → List ℕ → ℕ → List A
@@ -85,5 +81,4 @@ entry_at b at = record {
   node = byte_at b (at + 6);
   start = time_at b (at + 7);
   end = time_at b (at + 15);
-  begun = clock_at b (at + 23);
 }

@@ -4,9 +4,8 @@ ghost use Rattle.made.specs.Values.{phase_of, entry_at};
 ghost use Rattle.made.specs.Parts.{window_of};
 
 use crate::layout::WINDOW;
-use crate::numbers::{byte, eight, four, time};
+use crate::numbers::{byte, four, time};
 use run_window::{Entry, Phase};
-use time::Clock;
 
 fn phase_of(tag: u8) -> Phase
     ensures { result ≡ phase_of tag }
@@ -21,13 +20,12 @@ fn phase_of(tag: u8) -> Phase
 }
 
 fn entry_at(bytes: &[u8], at: usize) -> Entry
-    requires { at ≤ 65490 }
+    requires { at ≤ 65500 }
     ensures { result ≡ entry_at bytes.now at }
 {
     let phase = phase_of(byte(bytes, at));
     let start = time(bytes, at + 7);
     let end = time(bytes, at + 15);
-    let begun = Clock(eight(bytes, at + 23));
     Entry {
         phase,
         position: four(bytes, at + 1),
@@ -35,7 +33,6 @@ fn entry_at(bytes: &[u8], at: usize) -> Entry
         node: byte(bytes, at + 6),
         start,
         end,
-        begun,
     }
 }
 
@@ -48,7 +45,7 @@ pub fn window_of(bytes: &[u8]) -> [Entry; run_window::WINDOW]
     let mut off = WINDOW;
     while i < run_window::WINDOW {
         window[i] = entry_at(bytes, off);
-        off += 31;
+        off += 23;
         i += 1;
     }
     window

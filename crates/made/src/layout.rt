@@ -43,8 +43,6 @@ pub const STATE: usize = POSITION + 4;
 
 pub const WINDOW: usize = STATE + 1;
 
-pub const LAST: usize = WINDOW + run_window::WINDOW * 31;
+pub const LAST: usize = WINDOW + run_window::WINDOW * 23;
 
 pub const HALT: usize = LAST + 8;
-
-pub const BUSY: usize = HALT + 7;

@@ -2,7 +2,6 @@
 // such a run. What stands where is in specs/Layout.antt.
 #![tactic(auto)]
 pub mod automata;
-pub mod busy;
 pub mod entries;
 pub mod layout;
 pub mod moments;
@@ -10,7 +9,6 @@ pub mod nodes;
 pub mod numbers;
 pub mod plans;
 
-pub use busy::busy_of;
 pub use entries::window_of;
 pub use moments::progress_of;
 pub use plans::plan_of;

@@ -1,14 +1,17 @@
 -- A made-up run, one line for each field, and the two calls behind it.
-use Rattle.std.specs.Prelude.{cond, List, ℕ, ◌+◌, ◌*◌, ◌%◌, eqb}
+use Rattle.std.specs.Prelude.{cond, List, ℕ, ◌+◌, ◌%◌, eqb}
 use Rattle.wire.specs.Number.{little}
 use Rattle.time.specs.declared.Clock.{Clock}
-use Rattle.made.specs.Layout.{time_size, psi_from, slack_from, last_from, halt_from, busy_from}
-use Rattle.made.specs.Values.{byte_at, clock_at}
-use Rattle.made.specs.Parts.{plan_of, progress_of, window_of, busy_times_of}
+use Rattle.made.specs.Layout.{psi_from, slack_from, last_from, halt_from}
+use Rattle.made.specs.Values.{byte_at}
+use Rattle.made.specs.Parts.{plan_of, progress_of, window_of}
 use Rattle.run.specs.declared.Run.{Run}
 use Rattle.run_checks.specs.declared.Halt.{Halt}
 use Rattle.run_checks.specs.declared.Stop.{Stop}
 use Rattle.run.specs.declared.Call.{Call}
+
+abbrev pub clock_at : List ℕ → ℕ → Clock
+clock_at b at = record { 0 = little 8 b at }
 
 -- ---- the run
 
@@ -33,7 +36,6 @@ made_of b = record {
   window = window_of b;
   last = clock_at b last_from;
   halt = halt_at b halt_from;
-  busy = busy_times_of b;
 }
 
 -- ---- a call
@@ -48,7 +50,7 @@ unfoldable pub call_at : List ℕ → ℕ → Call
 call_at b at = call_of_kind (byte_at b at) (clock_at b (at + 1)) (little 4 b (at + 9)) (byte_at b (at + 13)) (byte_at b (at + 14))
 
 abbrev pub first_from : ℕ
-first_from = busy_from + 64 * time_size
+first_from = halt_from + 7
 
 abbrev pub second_from : ℕ
 second_from = first_from + 15

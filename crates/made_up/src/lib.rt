@@ -1,22 +1,18 @@
-// A made-up run as bytes, two calls of it and its busy times after them: for tests from another language. The form of the bytes is in
+// A made-up run as bytes, and two calls of it: for tests from another language. The form of the bytes is in
 // made/specs/Layout.antt and specs/Made.antt, that of the answer in specs/Answers.antt.
 #![tactic(auto)]
-ghost use Rattle.std.specs.Prelude.{◌≡◌, ◌+◌, ◌≤◌, length};
-ghost use Rattle.wire.specs.Puts.{Puts};
+ghost use Rattle.std.specs.Prelude.{◌≡◌, ◌≤◌};
 ghost use Rattle.made_up.specs.Made.{stop_of, halt_of, halt_at, made_of, call_of_kind, call_at};
-ghost use Rattle.made_up.specs.Answers.{busy_records, made_code, made_buffer};
+ghost use Rattle.made_up.specs.Answers.{made_code, made_buffer};
 
-use made::layout::{BUSY, HALT, LAST, PSI, SLACK};
+use made::layout::{HALT, LAST, PSI, SLACK};
 use made::numbers::{byte, eight, four};
 use run::{Call, Halt, Run, Stop};
 use time::Clock;
 
-pub const FIRST: usize = BUSY + 64 * 8;
+pub const FIRST: usize = HALT + 7;
 
 pub const SECOND: usize = FIRST + 15;
-
-// A record for each call, and one for each busy time.
-pub const ANSWER: usize = 66 * 16;
 
 // ---- the run
 
@@ -63,7 +59,6 @@ pub fn run_of(bytes: &[u8]) -> Run
     let psi = Clock(eight(bytes, PSI));
     let last = Clock(eight(bytes, LAST));
     let halt = halt_at(bytes, HALT);
-    let busy = made::busy_of(bytes);
     Run {
         plan: made::plan_of(bytes),
         psi,
@@ -72,7 +67,6 @@ pub fn run_of(bytes: &[u8]) -> Run
         window: made::window_of(bytes),
         last,
         halt,
-        busy,
     }
 }
 
@@ -104,29 +98,12 @@ fn call_at(bytes: &[u8], at: usize) -> Call
     )
 }
 
-// ---- the answer
-
-// The busy times of the 64 peripherals that a plan can have, their records at `from`: the offset past the last.
-fn put_busy(out: &mut [u8], from: usize, run: Run) -> usize
-    requires { from + 1024 ≤ length out.old }
-    ensures { Puts out.old from (busy_records run 64) out.new result }
-{
-    let mut end = from;
-    let mut x: u8 = 0;
-    while x < 64 {
-        let busy = run.busy(x);
-        end = drive_records::put_at(out, end, drive_records::busy_record(busy));
-        x += 1;
-    }
-    end
-}
-
-// Two calls of the run, the second given what the first handed back, then the busy times of the run that the second handed back: how
-// many bytes of records were written, or 36 * 2^32 for a buffer too short, which stays as it is.
+// Two calls of the run, the second given what the first handed back: how many bytes of records were written, or
+// 36 * 2^32 for a buffer too short, which stays as it is.
 pub fn answer(bytes: &[u8], out: &mut [u8]) -> usize
     ensures { (result ≡ made_code out.old) × (out.new ≡ made_buffer bytes.now out.old) }
 {
-    if out.len() < ANSWER {
+    if out.len() < 32 {
         return 154618822656;
     }
     let run = run_of(bytes);
@@ -136,7 +113,5 @@ pub fn answer(bytes: &[u8], out: &mut [u8]) -> usize
     let after = first.run;
     let second = after.call(call_at(bytes, SECOND));
     let last = second.reply;
-    let past = drive_records::put_at(out, end, drive_records::reply_record(last));
-    let left = second.run;
-    put_busy(out, past, left)
+    drive_records::put_at(out, end, drive_records::reply_record(last))
 }

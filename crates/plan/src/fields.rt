@@ -2,35 +2,35 @@
 use crate::{Automaton, Fault, Kind, NODES, Node, Transition};
 
 // A number of one byte.
-#[derive(Drop)]
+#[derive(Clone, Copy)]
 pub enum Field {
     Value(u8, usize),
     Refused(Fault, usize),
 }
 
 // A node's duration, four bytes.
-#[derive(Drop)]
+#[derive(Clone, Copy)]
 pub enum DurationField {
     Value(u32, usize),
     Refused(Fault, usize),
 }
 
 // The final-state bits, eight bytes.
-#[derive(Drop)]
+#[derive(Clone, Copy)]
 pub enum FinalsField {
     Value(u64, usize),
     Refused(Fault, usize),
 }
 
 // The transition count, two bytes.
-#[derive(Drop)]
+#[derive(Clone, Copy)]
 pub enum MoveCount {
     Value(u16, usize),
     Refused(Fault, usize),
 }
 
 // Which kind of node a map byte asks for, if it keeps its rule.
-#[derive(Drop)]
+#[derive(Clone, Copy)]
 pub enum Asks {
     Action,
     Claim,
@@ -40,65 +40,65 @@ pub enum Asks {
 }
 
 // A node's kind, with the numbers that it names.
-#[derive(Drop)]
+#[derive(Clone, Copy)]
 pub enum KindRead {
     Value(Kind, usize),
     Refused(Fault, usize),
 }
 
-#[derive(Drop)]
+#[derive(Clone, Copy)]
 pub enum InputRead {
     Value(crate::Input, usize),
     Refused(Fault, usize),
 }
 
-#[derive(Drop)]
+#[derive(Clone, Copy)]
 pub enum OutputRead {
     Value(crate::Output, usize),
     Refused(Fault, usize),
 }
 
-#[derive(Drop)]
+#[derive(Clone, Copy)]
 pub enum MoveRead {
     Value(Transition, usize),
     Refused(Fault, usize),
 }
 
 // Where a longer part ends, or the first fault in it.
-#[derive(Drop)]
+#[derive(Clone, Copy)]
 pub enum Step {
     Read(usize),
     Refused(Fault, usize),
 }
 
-#[derive(Drop)]
+#[derive(Clone, Copy)]
 pub struct PredsRead {
     pub step: Step,
     pub count: u8,
     pub preds: [u8; 8],
 }
 
-#[derive(Drop)]
+#[derive(Clone, Copy)]
 pub struct NodeRead {
     pub step: Step,
     pub node: Node,
 }
 
-#[derive(Drop)]
+#[derive(Clone, Copy)]
 pub struct PeripheralsRead {
     pub step: Step,
     pub count: u8,
     pub belongs: [u8; 64],
 }
 
-#[derive(Drop)]
+#[derive(Clone, Copy)]
 pub struct EventsRead {
     pub step: Step,
     pub count: u8,
     pub outcomes: [u8; 16],
 }
 
-#[derive(Drop)]
+#[derive(Clone, Copy)]
 pub struct ActivitiesRead {
     pub step: Step,
     pub count: u8,
@@ -106,7 +106,7 @@ pub struct ActivitiesRead {
     pub nodes: [Node; NODES],
 }
 
-#[derive(Drop)]
+#[derive(Clone, Copy)]
 pub struct AutomatonRead {
     pub step: Step,
     pub automaton: Automaton,

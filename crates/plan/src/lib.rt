@@ -12,7 +12,7 @@ pub mod numbers; // the number of each fault
 pub const NODES: usize = 2048;
 
 // Which of the four kinds a node is, with the numbers that it names.
-#[derive(Drop)]
+#[derive(Clone, Copy)]
 pub enum Kind {
     // action number, peripheral
     Action(u8, u8),
@@ -25,7 +25,7 @@ pub enum Kind {
 }
 
 // A node of an activity.
-#[derive(Drop)]
+#[derive(Clone, Copy)]
 pub struct Node {
     // whole microseconds; 0 without a duration field
     pub duration: u32,
@@ -36,14 +36,14 @@ pub struct Node {
 }
 
 // One activity, copied out of a plan.
-#[derive(Drop)]
+#[derive(Clone, Copy)]
 pub struct Activity {
     pub count: u8,
     pub nodes: [Node; 64],
 }
 
 // What a transition processes.
-#[derive(Drop)]
+#[derive(Clone, Copy)]
 pub enum Input {
     Nothing,
     // event, outcome
@@ -51,13 +51,13 @@ pub enum Input {
 }
 
 // What a transition emits: the empty activity, or an activity of the plan.
-#[derive(Drop)]
+#[derive(Clone, Copy)]
 pub enum Output {
     Empty,
     Activity(u8),
 }
 
-#[derive(Drop)]
+#[derive(Clone, Copy)]
 pub struct Transition {
     pub from: u8,
     pub to: u8,
@@ -66,7 +66,7 @@ pub struct Transition {
 }
 
 // The automaton that picks the next activity.
-#[derive(Drop)]
+#[derive(Clone, Copy)]
 pub struct Automaton {
     pub states: u8,
     pub initial: u8,
@@ -85,7 +85,7 @@ pub fn is_final(finals: u64, s: usize) -> bool
     (finals >> s) % 2 == 1
 }
 
-#[derive(Drop)]
+#[derive(Clone, Copy)]
 pub struct Plan {
     pub resources: u8,
     pub peripherals: u8,
@@ -103,7 +103,7 @@ pub struct Plan {
 }
 
 // What the plan's author can get wrong. Document 01's number for each case is `number_of` in specs/Fault.antt.
-#[derive(Drop)]
+#[derive(Clone, Copy)]
 pub enum Fault {
     // while reading
     Ends,
@@ -133,14 +133,14 @@ pub enum Fault {
 }
 
 // The verdict on a plan: accepted, or the first fault and its place.
-#[derive(Drop)]
+#[derive(Clone, Copy)]
 pub enum Verdict {
     Accepted,
     Refused(Fault, usize),
 }
 
 // A plan as its bytes give it: accepted, or refused with the first faulty field; a refused plan is all zeros.
-#[derive(Drop)]
+#[derive(Clone, Copy)]
 pub struct PlanRead {
     pub verdict: Verdict,
     pub plan: Plan,

@@ -6,7 +6,7 @@ use plan::fields::{Field, Step};
 use plan::{Fault, Node};
 
 // What stands at a place of the section.
-#[derive(Drop)]
+#[derive(Clone, Copy)]
 pub enum Part {
     // nothing: every node of every activity is read
     End,
@@ -18,7 +18,7 @@ pub enum Part {
 }
 
 // An enum holds no array, so the node stands beside it: all zeros where the part is not a node.
-#[derive(Drop)]
+#[derive(Clone, Copy)]
 pub struct PartRead {
     pub part: Part,
     pub node: Node,

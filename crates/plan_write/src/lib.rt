@@ -8,14 +8,14 @@ ghost use Rattle.plan_write.specs.Writing.{written_of, buffer_of};
 use plan::Plan;
 
 // Why a plan is not written.
-#[derive(Drop)]
+#[derive(Clone, Copy)]
 pub enum NotWritten {
     BreaksRule,
     TooShort,
 }
 
 // How many bytes were written, or why none were.
-#[derive(Drop)]
+#[derive(Clone, Copy)]
 pub enum Written {
     Bytes(usize),
     Refused(NotWritten),

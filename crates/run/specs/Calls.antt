@@ -1,5 +1,5 @@
 -- "Calls carry a clock reading: ask, completion of an action, outcome of an event (which completes it)."
-use Rattle.std.specs.Prelude.{Bool, true, false, cond, ◌&&◌, ℕ, ltb, eqb, set}
+use Rattle.std.specs.Prelude.{Bool, cond, ◌&&◌, List, ℕ, ltb, eqb, set}
 use Rattle.time.specs.declared.Clock.{Clock}
 use Rattle.plan.specs.Plan.{is_final, outcomes_of}
 use Rattle.plan.specs.Limits.{node_at}
@@ -21,25 +21,20 @@ use Rattle.run_checks.specs.declared.Moment.{Moment}
 use Rattle.run_checks.specs.Order.{timely_by, called_by, reported_by}
 pub use Rattle.run_checks.specs.Order.{on_halt}
 use Rattle.run_outcomes.specs.Told.{told_of}
-pub use Rattle.run.specs.Changed.{heard, busied}
-use Rattle.run.specs.Busy.{busy_after}
 use Rattle.run.specs.Loading.{further, most_pending}
 use Rattle.run.specs.Limits.{run_in_limits}
 
 abbrev pub answer : Reply → Run → Answer
 answer r run = record { reply = r; run = run }
 
-abbrev pub is_refused : Reply → Bool
-is_refused (Reply.Start p a n) = false
-is_refused Reply.Wait = false
-is_refused Reply.Done = false
-is_refused Reply.Taken = false
-is_refused (Reply.Refused f) = true
-is_refused (Reply.Stopped s) = false
-
 -- "A refused call hands back the run exactly as it came in."
 abbrev pub refuse : Run → Refusal → Answer
 refuse run f = answer (Reply.Refused f) run
+
+-- "Any other answer makes its reading the last one"
+abbrev pub heard : Run → Clock → Halt → Progress → List Entry → Run
+heard run t h g w =
+    record { plan = run.plan; psi = run.psi; slack = run.slack; progress = g; window = w; last = t; halt = h }
 
 abbrev pub stops : Run → Clock → Stop → Answer
 stops run t s = answer (Reply.Stopped s) (heard run t (Halt.Stopped s) run.progress run.window)
@@ -54,7 +49,7 @@ is_done run = is_final run.plan.automaton run.progress.state && is_empty run.win
 unfoldable pub asked : Run → Clock → Answer
 asked run t =
     on_found (first (is_due run.psi t) (starts_before run.plan.nodes) 0 run.window)
-    (λ i e. answer (Reply.Start e.position e.activity e.node) (heard run t Halt.Going run.progress (set run.window i (started_of t e))))
+    (λ i e. answer (Reply.Start e.position e.activity e.node) (heard run t Halt.Going run.progress (set run.window i (started_of e))))
     (answer (cond (is_done run) Reply.Done Reply.Wait) (heard run t Halt.Going run.progress run.window))
 
 -- ---- reports
@@ -72,24 +67,21 @@ reported run position node f =
 abbrev pub cleared : Run → Clock → ℕ → Progress → Run
 cleared run t i g = heard run t Halt.Going g (set run.window i vacant)
 
--- the action at place i, on peripheral x and started at the reading `begun`, is complete
-abbrev pub finished : Run → Clock → ℕ → ℕ → Clock → Run
-finished run t i x begun = cleared (busied run (busy_after run.busy x begun t)) t i run.progress
-
 -- 54 completion of an event
-abbrev pub completed_by : Run → Clock → ℕ → Entry → Kind → Answer
-completed_by run t i e (Kind.Action a x) = answer Reply.Taken (finished run t i x e.begun)
-completed_by run t i e (Kind.Claim r) = refuse run Refusal.OtherKind
-completed_by run t i e (Kind.Release r) = refuse run Refusal.OtherKind
-completed_by run t i e (Kind.Event v) = refuse run Refusal.OtherKind
+abbrev pub completed_by : Run → Clock → ℕ → Kind → Answer
+completed_by run t i (Kind.Action a x) = answer Reply.Taken (cleared run t i run.progress)
+completed_by run t i (Kind.Claim r) = refuse run Refusal.OtherKind
+completed_by run t i (Kind.Release r) = refuse run Refusal.OtherKind
+completed_by run t i (Kind.Event e) = refuse run Refusal.OtherKind
 
 unfoldable pub completed : Run → Clock → ℕ → ℕ → Answer
-completed run t position node = reported run position node (λ i e. completed_by run t i e (kind_of run e))
+completed run t position node = reported run position node (λ i e. completed_by run t i (kind_of run e))
 
 -- ---- outcomes
 
 abbrev pub halted_by : Run → Stop → Run
-halted_by run s = heard run run.last (Halt.Stopped s) run.progress run.window
+halted_by run s =
+    record { plan = run.plan; psi = run.psi; slack = run.slack; progress = run.progress; window = run.window; last = run.last; halt = Halt.Stopped s }
 
 -- "An accepted report is taken; if loading after it fails the answer is stopped, the report and any path loaded before
 -- still count"

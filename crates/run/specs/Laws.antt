@@ -2,4 +2,3 @@
 pub mod Checking
 pub mod Acting
 pub mod Loaded
-pub mod Asking

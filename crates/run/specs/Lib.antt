@@ -1,8 +1,6 @@
 -- A run: opening, loading of paths, ask, completion, outcome.
 pub mod Numbers
 pub mod Limits
-pub mod Changed
-pub mod Busy
 pub mod Loading
 pub mod Opening
 pub mod Calls

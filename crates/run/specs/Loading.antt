@@ -4,7 +4,6 @@ use Rattle.std.specs.Prelude.{cond, ℕ, zero, suc, ltb, length}
 use Rattle.automaton.specs.Next.{next_of}
 use Rattle.automaton.specs.declared.Next.{Next}
 use Rattle.run.specs.declared.Run.{Run}
-use Rattle.run.specs.Changed.{heard}
 use Rattle.run_loading.specs.declared.Failure.{Failure}
 pub use Rattle.run_loading.specs.Loading.{on_way, on_failure, most_pending}
 use Rattle.run_window.specs.Window.{placed, vacancies}
@@ -22,7 +21,15 @@ abbrev pub loading : Failure → Run → Loading
 loading f run = record { failure = f; run = run }
 
 abbrev pub with_path : Run → Path → Run
-with_path run q = heard run run.last run.halt q.progress (placed run.window q.entries)
+with_path run q = record {
+  plan = run.plan;
+  psi = run.psi;
+  slack = run.slack;
+  progress = q.progress;
+  window = placed run.window q.entries;
+  last = run.last;
+  halt = run.halt;
+}
 
 -- "44 ..; then 43 the window would pass 512"; "the failing path adds nothing"
 abbrev pub load_path : Run → Path → Loading

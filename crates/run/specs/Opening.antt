@@ -25,10 +25,10 @@ use Rattle.run.specs.Loading.{Loading, load}
 
 -- ---- the run at its opening
 
--- "0 at opening" is the last reading, and so is each busy time
+-- "0 at opening" is the last reading
 abbrev pub uncalled : Plan → Clock → ℕ → Progress → List Entry → Run
 uncalled p psi slack g w =
-    record { plan = p; psi = psi; slack = slack; progress = g; window = w; last = record { 0 = 0 }; halt = Halt.Going; busy = replicate 64 0 }
+    record { plan = p; psi = psi; slack = slack; progress = g; window = w; last = record { 0 = 0 }; halt = Halt.Going }
 
 abbrev pub fresh : Plan → Clock → ℕ → Progress → Run
 fresh p psi slack g = uncalled p psi slack g (replicate 512 vacant)

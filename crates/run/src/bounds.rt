@@ -7,7 +7,7 @@ ghost use Rattle.run.specs.Inner.Checks.{stored_in_limits};
 use crate::Run;
 pub use run_checks::bounds::slack_in_limits;
 
-// Where the behaviour stands, the window, the busy times and the stop.
+// Where the behaviour stands, the window and the stop.
 fn stored_in_limits(run: Run) -> bool
     ensures { result ≡ stored_in_limits run }
 {
@@ -17,21 +17,15 @@ fn stored_in_limits(run: Run) -> bool
         return false;
     }
     let sizes = plan.sizes;
-    let last = run.last;
     let window = run.window;
-    if !run_limits::places::window_in_limits(plan.activities, sizes, last, window) {
-        return false;
-    }
-    let busy = run.busy;
-    if !run_limits::busy::busy_in_limits(plan.peripherals, last, busy) {
+    if !run_limits::places::window_in_limits(plan.activities, sizes, window) {
         return false;
     }
     let halt = run.halt;
     run_checks::bounds::halt_in_limits(halt)
 }
 
-// The whole run, where its plan is known to be `good` or not; its last reading is any number, which no start reading and no busy time
-// exceeds.
+// The whole run, where its plan is known to be `good` or not; its last reading is any number.
 pub fn run_in_limits(good: bool, run: Run) -> bool
     requires { good ≡ in_limits run.plan }
     ensures { result ≡ run_in_limits run }

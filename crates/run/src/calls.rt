@@ -17,7 +17,6 @@ pub fn stops(run: Run, t: Clock, s: Stop) -> Answer
     let psi = run.psi;
     let progress = run.progress;
     let window = run.window;
-    let busy = run.busy;
     Answer {
         reply: Reply::Stopped(s),
         run: Run {
@@ -28,7 +27,6 @@ pub fn stops(run: Run, t: Clock, s: Stop) -> Answer
             window,
             last: t,
             halt: Halt::Stopped(s),
-            busy,
         },
     }
 }

@@ -2,8 +2,7 @@
 // node has. None of these functions is handed the run: who takes a run by value copies it.
 ghost use Rattle.std.specs.Prelude.{◌≡◌};
 ghost use Rattle.run_checks.specs.Laws.Checks.{on_report};
-ghost use Rattle.run.specs.Calls.{is_refused, reading_of};
-ghost use Rattle.run.specs.Busy.{spent};
+ghost use Rattle.run.specs.Calls.{reading_of};
 ghost use Rattle.run.specs.Inner.Effects.{sought_by, found_by, place_of, outcomes_for, refusing, completes_by, hears_as, learns_as, starts_by, effect_for, effect_on, effect_of};
 
 use crate::{Call, Checked, Effect, Refusal, Reply};
@@ -72,21 +71,6 @@ pub fn outcomes_for(kind: Kind, outcomes: [u8; 16]) -> u8
     0
 }
 
-// ---- the reply
-
-pub fn is_refused(reply: Reply) -> bool
-    ensures { result ≡ is_refused reply }
-{
-    match reply {
-        Reply::Start(_, _, _) => false,
-        Reply::Wait => false,
-        Reply::Done => false,
-        Reply::Taken => false,
-        Reply::Refused(_) => true,
-        Reply::Stopped(_) => false,
-    }
-}
-
 // ---- the effect
 
 // "A refused call hands back the run exactly as it came in."
@@ -96,29 +80,12 @@ fn refusing(f: Refusal) -> Effect
     Effect::Stays(Reply::Refused(f))
 }
 
-// A busy time, with "reported reading minus start reading" added. Of a made-up run that has more than the start reading, the reported
-// reading, so that no sum overflows.
-pub fn spent(busy: u64, begun: Clock, t: Clock) -> u64
-    ensures { result ≡ spent busy begun t }
-{
-    if busy > begun.0 {
-        return t.0;
-    }
-    if t.0 < begun.0 {
-        return busy;
-    }
-    busy + (t.0 - begun.0)
-}
-
-// The reported action leaves the window, and its peripheral was busy; 54: "completion of an event".
-fn completes(i: usize, e: Entry, kind: Kind) -> Effect
-    ensures { result ≡ completes_by i e kind }
+// The reported action leaves the window; 54: "completion of an event".
+fn completes(i: usize, kind: Kind) -> Effect
+    ensures { result ≡ completes_by i kind }
 {
     match kind {
-        Kind::Action(_, x) => {
-            let begun = e.begun;
-            Effect::Completes(i, x, begun)
-        }
+        Kind::Action(_, _) => Effect::Stores(i, run_window::vacant(), Reply::Taken),
         Kind::Claim(_) => refusing(Refusal::OtherKind),
         Kind::Release(_) => refusing(Refusal::OtherKind),
         Kind::Event(_) => refusing(Refusal::OtherKind),
@@ -149,15 +116,15 @@ fn learns(i: usize, x: Entry, o: u8, kind: Kind, most: u8) -> Effect
 }
 
 // "Ask starts the due, unstarted node with the earliest specified start"
-fn of_ask(t: Clock, found: Found) -> Effect
-    ensures { result ≡ starts_by t found }
+fn of_ask(found: Found) -> Effect
+    ensures { result ≡ starts_by found }
 {
     match found {
         Found::Nothing => Effect::Rests,
         Found::At(i, e) => {
             Effect::Stores(
                 i,
-                run_window::started(e, t),
+                run_window::started(e),
                 Reply::Start(e.position, e.activity, e.node),
             )
         }
@@ -165,11 +132,11 @@ fn of_ask(t: Clock, found: Found) -> Effect
 }
 
 fn of_completion(report: Report, kind: Kind) -> Effect
-    ensures { result ≡ on_report report (λ i e. completes_by i e kind) refusing }
+    ensures { result ≡ on_report report (λ i e. completes_by i kind) refusing }
 {
     match report {
         Report::Refuses(f) => refusing(f),
-        Report::Names(i, e) => completes(i, e, kind),
+        Report::Names(i, _) => completes(i, kind),
     }
 }
 
@@ -187,7 +154,7 @@ fn of_call(c: Call, found: Found, kind: Kind, most: u8) -> Effect
     ensures { result ≡ effect_on c found kind most }
 {
     match c {
-        Call::Ask(t) => of_ask(t, found),
+        Call::Ask(_) => of_ask(found),
         Call::Completion(_, _, _) => of_completion(run_checks::report_of(found), kind),
         Call::Outcome(_, _, _, o) => of_outcome(run_checks::report_of(found), o, kind, most),
     }

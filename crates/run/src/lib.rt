@@ -3,7 +3,6 @@
 ghost use Rattle.std.specs.Prelude.{◌≡◌};
 ghost use Rattle.run.specs.Calls.{ask_of, completion_of, outcome_of, call_of};
 ghost use Rattle.run.specs.Opening.{open_of};
-ghost use Rattle.run.specs.Busy.{busy_of};
 
 mod bounds;
 mod calls;
@@ -12,7 +11,6 @@ pub mod effects;
 pub mod learning;
 mod openings;
 
-use basis::u8_to_usize;
 use plan::{Fault, Kind, Plan, Verdict};
 use run_checks::Check;
 pub use run_checks::{Halt, Refusal, Stop};
@@ -20,7 +18,7 @@ use run_window::Entry;
 use time::Clock;
 use times::Progress;
 
-#[derive(Drop)]
+#[derive(Clone, Copy)]
 pub struct Run {
     pub plan: Plan,
     pub psi: Clock,
@@ -30,8 +28,6 @@ pub struct Run {
     // the last reading, 0 at opening
     pub last: Clock,
     pub halt: Halt,
-    // how long the reported actions of each peripheral have lasted, in readings
-    pub busy: [u64; 64],
 }
 
 impl Run {
@@ -47,7 +43,7 @@ impl Run {
     pub const LAST_POSITION: u32 = times::LAST_POSITION;
 }
 
-#[derive(Drop)]
+#[derive(Clone, Copy)]
 pub enum Reply {
     // position, activity, node
     Start(u32, u8, u8),
@@ -59,14 +55,14 @@ pub enum Reply {
 }
 
 // The answer to a call: the reply, and the run after it.
-#[derive(Drop)]
+#[derive(Clone, Copy)]
 pub struct Answer {
     pub reply: Reply,
     pub run: Run,
 }
 
 // A call: reading; position and node; outcome.
-#[derive(Drop)]
+#[derive(Clone, Copy)]
 pub enum Call {
     Ask(Clock),
     Completion(Clock, u32, u8),
@@ -74,7 +70,7 @@ pub enum Call {
 }
 
 // What the checks say at a call; of the node that they found, its kind and how many outcomes it has.
-#[derive(Drop)]
+#[derive(Clone, Copy)]
 pub struct Checked {
     pub check: Check,
     pub kind: Kind,
@@ -82,7 +78,7 @@ pub struct Checked {
 }
 
 // What a call does to the run.
-#[derive(Drop)]
+#[derive(Clone, Copy)]
 pub enum Effect {
     // nothing: it was refused, or the run keeps a stop
     Stays(Reply),
@@ -92,14 +88,12 @@ pub enum Effect {
     Rests,
     // place, what stands there then, reply
     Stores(usize, Entry, Reply),
-    // place, peripheral and start reading of the reported action
-    Completes(usize, u8, Clock),
     // place and entry of the reported node, event, outcome
     Learns(usize, Entry, u8, u8),
 }
 
 // Why an opening is refused.
-#[derive(Drop)]
+#[derive(Clone, Copy)]
 pub enum Unopened {
     // what is wrong with the plan, and its place
     Plan(Fault, usize),
@@ -114,14 +108,14 @@ pub enum Unopened {
     Full,
 }
 
-#[derive(Drop)]
+#[derive(Clone, Copy)]
 pub enum Opening {
     Opened,
     Refused(Unopened),
 }
 
 // The answer to an opening; a refused one hands back a run of zeros.
-#[derive(Drop)]
+#[derive(Clone, Copy)]
 pub struct Opened {
     pub opening: Opening,
     pub run: Run,
@@ -166,23 +160,6 @@ impl Run {
         self.call(Call::Outcome(t, position, node, o))
     }
 
-    // The busy time of a peripheral: "a peripheral the plan lacks, or a run that gets 50, reads 0". An ask at the last reading is
-    // refused by 50 alone. It is asked of a copy, because a second caller of the limits would have every call copy the run.
-    pub fn busy(self, peripheral: u8) -> u64
-        ensures { result ≡ busy_of self peripheral }
-    {
-        let last = self.last;
-        let asked = self.call(Call::Ask(last));
-        let reply = asked.reply;
-        if effects::is_refused(reply) {
-            return 0;
-        }
-        if peripheral >= self.plan.peripherals {
-            return 0;
-        }
-        self.busy[u8_to_usize(peripheral)]
-    }
-
     // "Calls carry a clock reading: ask, completion of an action, outcome of an event". The run is changed here alone, in place:
     // each function that takes it and hands it back copies it twice.
     pub fn call(mut self, c: Call) -> Answer
@@ -203,14 +180,6 @@ impl Run {
             Effect::Stores(i, e, reply) => {
                 self.window[i] = e;
                 self.last = t;
-                return Answer { reply, run: self };
-            }
-            Effect::Completes(i, x, begun) => {
-                let k = u8_to_usize(x);
-                self.busy[k] = effects::spent(self.busy[k], begun, t);
-                self.window[i] = run_window::vacant();
-                self.last = t;
-                let reply = Reply::Taken;
                 return Answer { reply, run: self };
             }
             Effect::Learns(i, x, e, o) => {

@@ -15,7 +15,7 @@ use times::Progress;
 
 // ---- the run at its opening
 
-// "0 at opening" is the last reading, and so is each busy time.
+// "0 at opening" is the last reading.
 fn uncalled(
     plan: Plan,
     psi: Clock,
@@ -33,7 +33,6 @@ fn uncalled(
         window,
         last: Clock(0),
         halt: Halt::Going,
-        busy: [0; 64],
     }
 }
 

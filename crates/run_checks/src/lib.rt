@@ -12,7 +12,7 @@ use time::Clock;
 pub mod bounds;
 
 // Why a run has stopped. Document 01's number for each case is `stop_number` in run/specs/Numbers.antt.
-#[derive(Drop)]
+#[derive(Clone, Copy)]
 pub enum Stop {
     // position and node of the unstarted node with the earliest start
     Late(u32, u8),
@@ -24,7 +24,7 @@ pub enum Stop {
     Beyond,
 }
 
-#[derive(Drop)]
+#[derive(Clone, Copy)]
 pub enum Halt {
     Going,
     Stopped(Stop),
@@ -32,7 +32,7 @@ pub enum Halt {
 
 // Why a call, or a message that is none, is refused. Document 01's number for each case is `refusal_number` in
 // run/specs/Numbers.antt.
-#[derive(Drop)]
+#[derive(Clone, Copy)]
 pub enum Refusal {
     // a run in which a stored count, number or time lies outside the limits
     OutOfLimits,
@@ -53,7 +53,7 @@ pub enum Refusal {
 }
 
 // When a call comes: Ψ, the slack, the last reading and this one.
-#[derive(Drop)]
+#[derive(Clone, Copy)]
 pub struct Moment {
     pub psi: Clock,
     pub slack: u64,
@@ -62,7 +62,7 @@ pub struct Moment {
 }
 
 // What the checks at a call object to: a refusal, the stop that the run keeps, or a stop at this reading.
-#[derive(Drop)]
+#[derive(Clone, Copy)]
 pub enum Objection {
     Refuses(Refusal),
     Keeps(Stop),
@@ -70,14 +70,14 @@ pub enum Objection {
 }
 
 // What the checks at a call say; where they object to nothing, the first of what the call looks for.
-#[derive(Drop)]
+#[derive(Clone, Copy)]
 pub enum Check {
     Goes(Found),
     Objects(Objection),
 }
 
 // What a report names: a started node of the window, with its place.
-#[derive(Drop)]
+#[derive(Clone, Copy)]
 pub enum Report {
     Refuses(Refusal),
     Names(usize, Entry),

@@ -3,7 +3,7 @@ ghost use Rattle.std.specs.Prelude.{◌≡◌};
 ghost use Rattle.run_limits.specs.Window.{names_node, entry_in_limits, window_in_limits};
 
 use run_window::{Entry, WINDOW};
-use time::{Clock, HORIZON};
+use time::HORIZON;
 use times::LAST_POSITION;
 
 // Node n of activity a is one of the plan's.
@@ -19,10 +19,9 @@ fn names_node(activities: u8, sizes: [u8; 32], a: u8, n: u8) -> bool
     n < sizes[a as usize]
 }
 
-// A place that is held names a node of the plan, its specified times are at most 10^15, and its start reading does not exceed the last
-// reading.
-pub fn entry_in_limits(activities: u8, sizes: [u8; 32], last: Clock, e: Entry) -> bool
-    ensures { result ≡ entry_in_limits activities sizes last e }
+// A place that is held names a node of the plan, and its times are at most 10^15.
+pub fn entry_in_limits(activities: u8, sizes: [u8; 32], e: Entry) -> bool
+    ensures { result ≡ entry_in_limits activities sizes e }
 {
     if run_window::is_free(e) {
         return true;
@@ -36,25 +35,17 @@ pub fn entry_in_limits(activities: u8, sizes: [u8; 32], last: Clock, e: Entry) -
     if e.start.0 > HORIZON {
         return false;
     }
-    if e.end.0 > HORIZON {
-        return false;
-    }
-    e.begun.0 <= last.0
+    e.end.0 <= HORIZON
 }
 
 // Every place of the window.
-pub fn window_in_limits(
-    activities: u8,
-    sizes: [u8; 32],
-    last: Clock,
-    window: [Entry; WINDOW],
-) -> bool
-    ensures { result ≡ window_in_limits activities sizes last window }
+pub fn window_in_limits(activities: u8, sizes: [u8; 32], window: [Entry; WINDOW]) -> bool
+    ensures { result ≡ window_in_limits activities sizes window }
 {
     let mut i: usize = 0;
     while i < WINDOW {
         let e = window[i];
-        if !entry_in_limits(activities, sizes, last, e) {
+        if !entry_in_limits(activities, sizes, e) {
             return false;
         }
         i += 1;

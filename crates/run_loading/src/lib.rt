@@ -15,7 +15,7 @@ use run_window::{Entry, WINDOW, is_free, vacancies, vacant};
 use times::Progress;
 
 // Whether loading failed.
-#[derive(Drop)]
+#[derive(Clone, Copy)]
 pub enum Failure {
     None,
     Full,
@@ -23,7 +23,7 @@ pub enum Failure {
 }
 
 // Where the behaviour stands and what the window holds after loading; after a failure, as before the failing path.
-#[derive(Drop)]
+#[derive(Clone, Copy)]
 pub struct Loading {
     pub failure: Failure,
     pub progress: Progress,

@@ -11,7 +11,7 @@ use time::{HORIZON, Specified};
 use times::{Instance, Progress, Told};
 
 // The lowest activity with an action or event whose duration is not above the slack.
-#[derive(Drop)]
+#[derive(Clone, Copy)]
 pub enum Short {
     Nothing,
     Activity(usize),

@@ -11,7 +11,7 @@ use Rattle.times.specs.Times.{specified, at}
 pub use Rattle.times.specs.Engine.{taken_by}
 use Rattle.times.specs.declared.Progress.{Progress}
 use Rattle.times.specs.declared.Schedule.{Schedule}
-use Rattle.run_window.specs.Window.{loaded_of}
+use Rattle.run_window.specs.declared.Phase.{Phase}
 use Rattle.run_window.specs.declared.Entry.{Entry}
 
 -- ---- the nodes that one transition brings
@@ -25,7 +25,8 @@ is_work (Kind.Event e) = true
 
 -- node n of an activity at a position, unstarted
 abbrev pub loaded : ℕ → ℕ → Schedule → ℕ → Entry
-loaded position a s n = loaded_of position a n (specified (at s.start n)) (specified (at s.end n))
+loaded position a s n =
+    record { phase = Phase.Loaded; position = position; activity = a; node = n; start = specified (at s.start n); end = specified (at s.end n) }
 
 -- the entries of the nodes from number n on
 unfoldable pub entries_from : ℕ → ℕ → Schedule → ℕ → List Node → List Entry

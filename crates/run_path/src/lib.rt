@@ -5,18 +5,19 @@ ghost use Rattle.plan.specs.Limits.{InLimits, OutputNames};
 ghost use Rattle.run_path.specs.Path.{is_work, activity_number, path_from, longest_path};
 ghost use Rattle.run_path.specs.Pathed.{ProgressIn, Leads, pathed};
 ghost use Rattle.activity.specs.Inner.Copied.{empty_node};
-ghost use Rattle.run_path.specs.Inner.Path.{emitted_of, emitted_count, counted_of, is_kept};
+ghost use Rattle.run_path.specs.Inner.Path.{emitted_of, emitted_count, entry_of, counted_of, is_kept};
 
 use activity::activity_of;
 use automaton::{Next, next_of};
 use basis::{u8_to_usize, u16_to_usize};
 use plan::{Activity, Kind, Node, Output, Plan};
-use run_window::{Entry, WINDOW, loaded, vacant};
+use run_window::{Entry, Phase, WINDOW, vacant};
+use time::Specified;
 use times::Progress;
 use times::engine::advance;
 
 // A path: its entries, all counted and the first 512 kept, and where it ends.
-#[derive(Drop)]
+#[derive(Clone, Copy)]
 pub struct Pathed {
     // it passes a limit of time or position (number 44)
     pub beyond: bool,
@@ -89,6 +90,20 @@ fn emitted_count(output: Output, size: u8) -> u8
     }
 }
 
+// The entry of a node, which is not started.
+pub fn entry_of(position: u32, number: u8, node: u8, start: Specified, end: Specified) -> Entry
+    ensures { result ≡ entry_of position number node start end }
+{
+    Entry {
+        phase: Phase::Loaded,
+        position: position,
+        activity: number,
+        node: node,
+        start: start,
+        end: end,
+    }
+}
+
 // How many entries a path has after a node.
 fn counted(count: usize, x: Node) -> usize
     requires { count ≤ 4_096 }
@@ -156,7 +171,7 @@ pub fn path(plan: Plan, mut next: Next, progress: Progress) -> Pathed
             let place = found.count;
             found.count = counted(place, x);
             if is_kept(place, x) {
-                let e = loaded(from.position, number, n as u8, times.start[n], times.end[n]);
+                let e = entry_of(from.position, number, n as u8, times.start[n], times.end[n]);
                 found.entries[place] = e;
             }
         }

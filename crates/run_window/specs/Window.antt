@@ -5,20 +5,13 @@ use Rattle.plan.specs.declared.Kind.{Kind}
 use Rattle.plan.specs.declared.Node.{Node}
 use Rattle.time.specs.Time.{to_clock}
 use Rattle.time.specs.declared.Clock.{Clock}
-use Rattle.time.specs.declared.Specified.{Specified}
 use Rattle.run_window.specs.declared.Phase.{Phase}
 use Rattle.run_window.specs.declared.Entry.{Entry}
 use Rattle.run_window.specs.declared.Found.{Found}
 
 -- a place that holds nothing: zeros
 abbrev pub vacant : Entry
-vacant =
-    record { phase = Phase.Free; position = 0; activity = 0; node = 0; start = record { 0 = 0 }; end = record { 0 = 0 }; begun = record { 0 = 0 } }
-
--- a node that is loaded, with its position, activity, number and specified times; it is not started yet
-abbrev pub loaded_of : ℕ → ℕ → ℕ → Specified → Specified → Entry
-loaded_of position a n start end =
-    record { phase = Phase.Loaded; position = position; activity = a; node = n; start = start; end = end; begun = record { 0 = 0 } }
+vacant = record { phase = Phase.Free; position = 0; activity = 0; node = 0; start = record { 0 = 0 }; end = record { 0 = 0 } }
 
 abbrev pub is_free : Phase → Bool
 is_free Phase.Free = true
@@ -40,10 +33,9 @@ is_held Phase.Free = false
 is_held Phase.Loaded = true
 is_held Phase.Started = true
 
--- "Each window entry now keeps the reading at which its node was started."
-abbrev pub started_of : Clock → Entry → Entry
-started_of t e =
-    record { phase = Phase.Started; position = e.position; activity = e.activity; node = e.node; start = e.start; end = e.end; begun = t }
+abbrev pub started_of : Entry → Entry
+started_of e =
+    record { phase = Phase.Started; position = e.position; activity = e.activity; node = e.node; start = e.start; end = e.end }
 
 -- ---- tests of one place
 

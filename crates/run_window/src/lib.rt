@@ -2,7 +2,7 @@
 #![tactic(auto)]
 ghost use Rattle.std.specs.Prelude.{◌≡◌, ◌≤◌};
 ghost use Rattle.time.specs.Time.{horizon};
-ghost use Rattle.run_window.specs.Window.{vacant, loaded_of, is_free, started_of, is_overdue, is_late, is_due, is_node, node_place};
+ghost use Rattle.run_window.specs.Window.{vacant, is_free, started_of, is_overdue, is_late, is_due, is_node, node_place};
 ghost use Rattle.run_window.specs.Inner.Times.{InTime};
 
 use basis::u8_to_usize;
@@ -18,7 +18,7 @@ pub use places::{is_empty, place_of, vacancies};
 pub use search::look;
 
 // What a place of the window holds: nothing, a loaded node, or a started one.
-#[derive(Drop)]
+#[derive(Clone, Copy)]
 pub enum Phase {
     Free,
     Loaded,
@@ -26,12 +26,10 @@ pub enum Phase {
 }
 
 // A place of the window: an action or event node, loaded and not yet reported complete.
-#[derive(Drop)]
+#[derive(Clone, Copy)]
 pub struct Entry {
     pub start: Specified,
     pub end: Specified,
-    // the reading at which the node was started, 0 until then
-    pub begun: Clock,
     pub position: u32,
     pub activity: u8,
     pub node: u8,
@@ -39,14 +37,14 @@ pub struct Entry {
 }
 
 // A place of the window and its entry, or none.
-#[derive(Drop)]
+#[derive(Clone, Copy)]
 pub enum Found {
     Nothing,
     At(usize, Entry),
 }
 
 // What a call finds in the window: the first that is overdue, the first that is late, and the first of what else is sought.
-#[derive(Drop)]
+#[derive(Clone, Copy)]
 pub struct Seen {
     pub overdue: Found,
     pub late: Found,
@@ -54,21 +52,21 @@ pub struct Seen {
 }
 
 // The first of what is sought so far, and its rank.
-#[derive(Drop)]
+#[derive(Clone, Copy)]
 pub struct Ranked {
     pub found: Found,
     pub rank: u64,
 }
 
 // What a call finds where no start ties, so that no rank decides.
-#[derive(Drop)]
+#[derive(Clone, Copy)]
 pub enum Scan {
     Tied,
     Untied(Seen),
 }
 
 // What is looked for in the window.
-#[derive(Drop)]
+#[derive(Clone, Copy)]
 pub enum Sought {
     // Ψ and the reading
     Overdue(Clock, Clock),
@@ -93,28 +91,12 @@ pub fn vacant() -> Entry
         node: 0,
         start: Specified(0),
         end: Specified(0),
-        begun: Clock(0),
     }
 }
 
-// A node that is loaded, and not started yet.
-pub fn loaded(position: u32, activity: u8, node: u8, start: Specified, end: Specified) -> Entry
-    ensures { result ≡ loaded_of position activity node start end }
-{
-    Entry {
-        phase: Phase::Loaded,
-        position,
-        activity,
-        node,
-        start,
-        end,
-        begun: Clock(0),
-    }
-}
-
-// The same node, started at the reading t.
-pub fn started(e: Entry, t: Clock) -> Entry
-    ensures { result ≡ started_of t e }
+// The same node, started.
+pub fn started(e: Entry) -> Entry
+    ensures { result ≡ started_of e }
 {
     let start = e.start;
     let end = e.end;
@@ -125,7 +107,6 @@ pub fn started(e: Entry, t: Clock) -> Entry
         node: e.node,
         start: start,
         end: end,
-        begun: t,
     }
 }
 

@@ -8,12 +8,12 @@ pub const HORIZON: u64 = 1_000_000_000_000_000;
 
 // Specified time: counts from zero. Both kinds are a `uint64_t` to a host in C.
 #[repr(C)]
-#[derive(Drop)]
+#[derive(Clone, Copy)]
 pub struct Specified(pub u64);
 
 // Clock time: what the host's counter shows.
 #[repr(C)]
-#[derive(Drop)]
+#[derive(Clone, Copy)]
 pub struct Clock(pub u64);
 
 // The clock time of a specified time, for a run that starts at Ψ.

@@ -10,14 +10,14 @@ pub mod starts; // the nodes of one activity
 pub const LAST_POSITION: u32 = 1_000_000_000;
 
 // What was reported of an emitted instance of an event.
-#[derive(Drop)]
+#[derive(Clone, Copy)]
 pub enum Told {
     Nothing,
     Outcome(u8),
 }
 
 // An emitted, unprocessed instance of an event: its node, by position and number, and its completion.
-#[derive(Drop)]
+#[derive(Clone, Copy)]
 pub struct Instance {
     pub end: Specified,
     pub position: u32,
@@ -26,7 +26,7 @@ pub struct Instance {
 }
 
 // Where a behaviour stands after some transitions.
-#[derive(Drop)]
+#[derive(Clone, Copy)]
 pub struct Progress {
     // of each resource
     pub available: [Specified; 16],
@@ -42,7 +42,7 @@ pub struct Progress {
 }
 
 // The times of the nodes of one activity, by number.
-#[derive(Drop)]
+#[derive(Clone, Copy)]
 pub struct Schedule {
     pub start: [Specified; 64],
     pub end: [Specified; 64],
@@ -53,7 +53,7 @@ pub struct Schedule {
 }
 
 // One transition: the times of its nodes and where the behaviour stands after it.
-#[derive(Drop)]
+#[derive(Clone, Copy)]
 pub struct Advanced {
     // a completion or an availability above 10^15, or a position above 1,000,000,000 (number 44)
     pub beyond: bool,

@@ -16,7 +16,7 @@ use timetable_text::lent::past;
 use timetable_turns::turns::{counted, put_step};
 
 // Between two turns of the table.
-#[derive(Drop)]
+#[derive(Clone, Copy)]
 pub struct Between {
     pub output: Output,
     // outcome bytes that were taken
@@ -27,7 +27,7 @@ pub struct Between {
 }
 
 // The output and the outcome bytes after the last turn.
-#[derive(Drop)]
+#[derive(Clone, Copy)]
 pub struct Last {
     pub output: Output,
     pub outcomes: Outcomes,

@@ -10,14 +10,14 @@ use plan::{Activity, Automaton, Output, Plan, Transition};
 use run_path::emitted;
 
 // The next outcome byte, if there is one.
-#[derive(Drop)]
+#[derive(Clone, Copy)]
 pub enum Heard {
     Nothing,
     Outcome(u8),
 }
 
 // What a turn does.
-#[derive(Drop)]
+#[derive(Clone, Copy)]
 pub enum Step {
     // the path ended
     Ends,
@@ -30,7 +30,7 @@ pub enum Step {
 }
 
 // A place of the table of steps.
-#[derive(Drop)]
+#[derive(Clone, Copy)]
 pub struct Way {
     pub step: Step,
 }

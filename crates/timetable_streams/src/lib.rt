@@ -7,7 +7,7 @@ ghost use Rattle.timetable_streams.specs.Inner.Asking.{Held, Asks, Listens};
 use timetable_steps::{Heard, Step};
 
 // What the output was given of the text so far.
-#[derive(Drop)]
+#[derive(Clone, Copy)]
 pub struct Output {
     // bytes that were handed on
     pub handed: u64,
@@ -18,7 +18,7 @@ pub struct Output {
 }
 
 // The outcome bytes of a block that are not yet taken.
-#[derive(Drop)]
+#[derive(Clone, Copy)]
 pub struct Outcomes {
     // they stand in the block from here
     pub at: usize,
@@ -29,7 +29,7 @@ pub struct Outcomes {
 }
 
 // A turn may begin.
-#[derive(Drop)]
+#[derive(Clone, Copy)]
 pub struct Asked {
     pub output: Output,
     pub outcomes: Outcomes,
@@ -37,7 +37,7 @@ pub struct Asked {
 }
 
 // After a turn.
-#[derive(Drop)]
+#[derive(Clone, Copy)]
 pub struct After {
     pub output: Output,
     // turns that are left, 0 once the table is closed or output failed

@@ -10,7 +10,7 @@ use basis::u8_to_usize;
 pub mod lent; // text put into a lent buffer, whole or not at all
 
 // Text put into a lent buffer.
-#[derive(Drop)]
+#[derive(Clone, Copy)]
 pub enum Put {
     // the offset past it
     Past(usize),

@@ -21,7 +21,7 @@ pub use timetable_text::Put;
 pub use whole::timetable;
 
 // The table before its first turn.
-#[derive(Drop)]
+#[derive(Clone, Copy)]
 pub struct Begun {
     pub put: Put,
     // the text is the whole table
@@ -31,7 +31,7 @@ pub struct Begun {
 }
 
 // One turn of the table.
-#[derive(Drop)]
+#[derive(Clone, Copy)]
 pub struct Turned {
     pub put: Put,
     // the text closes the table
@@ -43,7 +43,7 @@ pub struct Turned {
 }
 
 // The same before its text is lent.
-#[derive(Drop)]
+#[derive(Clone, Copy)]
 pub struct Drafted {
     // the offset past the text
     pub next: usize,
@@ -53,7 +53,7 @@ pub struct Drafted {
 }
 
 // Between two turns of the whole table.
-#[derive(Drop)]
+#[derive(Clone, Copy)]
 pub struct Place {
     // the offset past the text
     pub at: usize,

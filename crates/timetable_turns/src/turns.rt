@@ -11,8 +11,7 @@ ghost use Rattle.timetable_turns.specs.Inner.Stepped.{closing, stepped, closed_a
 use crate::{Drafted, Turned};
 use basis::u8_to_usize;
 use plan::{Activity, Plan};
-use run_path::{activity_number, emitted, is_work};
-use run_window::loaded;
+use run_path::{activity_number, emitted, entry_of, is_work};
 use times::engine::advance;
 use times::{Progress, Schedule};
 use timetable_lines::{put_ended, put_refused, put_row, put_waiting};
@@ -42,7 +41,7 @@ fn put_rows(
         if is_work(kind) {
             let start = times.start[node];
             let end = times.end[node];
-            let entry = loaded(position, number, node as u8, start, end);
+            let entry = entry_of(position, number, node as u8, start, end);
             next = put_row(out, next, entry);
         }
     }

@@ -9,28 +9,28 @@ use basis::u8_to_u16;
 pub mod puts; // numbers put into a lent buffer
 
 // A field of one byte, unless the bytes end inside it.
-#[derive(Drop)]
+#[derive(Clone, Copy)]
 pub enum Byte {
     Value(u8),
     Ends,
 }
 
 // A field of two bytes.
-#[derive(Drop)]
+#[derive(Clone, Copy)]
 pub enum Short {
     Value(u16),
     Ends,
 }
 
 // A field of four bytes.
-#[derive(Drop)]
+#[derive(Clone, Copy)]
 pub enum Long {
     Value(u32),
     Ends,
 }
 
 // A field of eight bytes.
-#[derive(Drop)]
+#[derive(Clone, Copy)]
 pub enum Wide {
     Value(u64),
     Ends,

@@ -54,12 +54,6 @@ impl Run {
     pub fn outcome(&mut self, reading: u64, position: u32, node: u8, outcome: u8) -> Reply {
         self.opened.outcome(reading, position, node, outcome).into()
     }
-
-    /// The busy time of a peripheral, in microseconds: the sum, over the completions of its actions that were taken, of
-    /// the completion's reading minus the start's; 0 for a peripheral that the plan lacks. A stopped run tells it too.
-    pub fn busy(&self, peripheral: u8) -> u64 {
-        self.opened.busy(peripheral)
-    }
 }
 
 impl fmt::Debug for Run {

@@ -53,7 +53,6 @@ extern "C" {
     fn jidlekuvo_ask(run: *mut Held, reading: u64) -> HostReply;
     fn jidlekuvo_completion(run: *mut Held, reading: u64, position: u32, node: u8) -> HostReply;
     fn jidlekuvo_outcome(run: *mut Held, reading: u64, position: u32, node: u8, outcome: u8) -> HostReply;
-    fn jidlekuvo_busy(run: *const Held, peripheral: u8) -> u64;
 }
 
 pub fn judge(plan: &[u8]) -> u64 {
@@ -89,8 +88,7 @@ pub fn open(plan: &[u8], psi: u64, slack: u64, available: &[u64]) -> Box<Opened>
     }
 }
 
-/// SAFETY of the calls: the run is initialised, aligned by its type, and borrowed by this call alone. A busy time is read of a
-/// run that nobody writes meanwhile.
+/// SAFETY of the calls: the run is initialised, aligned by its type, and borrowed by this call alone.
 impl Opened {
     pub fn reply(&self) -> HostReply {
         self.reply
@@ -106,9 +104,5 @@ impl Opened {
 
     pub fn outcome(&mut self, reading: u64, position: u32, node: u8, outcome: u8) -> HostReply {
         unsafe { jidlekuvo_outcome(&mut self.run, reading, position, node, outcome) }
-    }
-
-    pub fn busy(&self, peripheral: u8) -> u64 {
-        unsafe { jidlekuvo_busy(&self.run, peripheral) }
     }
 }

@@ -1,8 +1,8 @@
 //! Made by host/make of host/numbers.txt and host/layout.txt: change those.
 
 /// The form of a run's bytes that this is made for, and how many they are.
-pub const ABI: u32 = 2;
-pub const RUN_SIZE: usize = 54200;
+pub const ABI: u32 = 1;
+pub const RUN_SIZE: usize = 49592;
 
 /// The numbers of refusals and stops.
 #[derive(Clone, Copy, Debug, PartialEq, Eq, PartialOrd, Ord, Hash)]

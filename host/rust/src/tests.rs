@@ -76,30 +76,6 @@ fn stops_are_kept() {
     assert_eq!(run.ask(u64::MAX), overdue);
 }
 
-/// Of plan T's peripherals 0 to 2, and of one that it lacks.
-fn busy_times(run: &Run) -> [u64; 4] {
-    [0, 1, 2, 255].map(|peripheral| run.busy(peripheral))
-}
-
-#[test]
-fn busy_times_are_read() {
-    let mut run = opened();
-    assert_eq!(busy_times(&run), [0; 4]);
-    run.ask(1_000_000);
-    assert_eq!(run.completion(1_002_999, 0, 2), Reply::Taken);
-    assert_eq!(busy_times(&run), [0, 0, 2_999, 0]);
-    run.ask(1_003_300);
-    assert_eq!(run.outcome(1_004_000, 0, 3, 0), Reply::Refused(Refusal::OtherKind));
-    assert_eq!(run.completion(1_007_999, 0, 3), Reply::Taken);
-    run.ask(1_008_000);
-    assert_eq!(run.outcome(1_008_999, 0, 4, 1), Reply::Taken);
-    assert_eq!(busy_times(&run), [4_699, 0, 2_999, 0]);
-    run.ask(1_009_000);
-    let overdue = Reply::Stopped(Stop::Overdue { position: 1, node: 1 });
-    assert_eq!(run.completion(1_011_000, 1, 1), overdue);
-    assert_eq!(busy_times(&run), [4_699, 0, 2_999, 0]);
-}
-
 #[test]
 fn openings_are_refused_by_their_number_and_place() {
     let plan = plan_t();

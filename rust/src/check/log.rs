@@ -68,15 +68,14 @@ pub fn from_records(input: &[u8], records: &[u8]) -> Option<Log> {
     };
     let call = |(part, record)| match part {
         Part::Call(call) => Some((call, record)),
-        Part::Place { .. } | Part::Busy { .. } => None,
+        Part::Place { .. } => None,
     };
     let answered = |(call, record)| Some(Answered { call, reply: reply_of(record)?, window: None });
     let calls = parts.into_iter().zip(records).filter_map(call).map(answered).collect::<Option<_>>()?;
     Some(Log { opening, answer, window: None, calls })
 }
 
-/// The reply that a record tells.
-pub(super) fn reply_of(record: &[u8]) -> Option<Reply> {
+fn reply_of(record: &[u8]) -> Option<Reply> {
     let position = u32::from_le_bytes(record[4..8].try_into().ok()?);
     let (second, node) = (record[1], record[2]);
     Some(match record[0] {

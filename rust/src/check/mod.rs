@@ -1,7 +1,6 @@
 //! Checks of a run from outside: they read the log of calls and answers and the combined activity
 //! of the word, and nothing of the run itself.
 
-pub mod busy;
 pub mod claims;
 pub mod demand_3;
 pub mod expected;

@@ -149,7 +149,6 @@ pub fn check(input: &[u8], records: &[u8]) -> Result<Vec<&'static str>, String> 
                 places.settle()?;
                 places.call(call, record);
             }
-            Part::Busy { .. } => {}
         }
     }
     places.settle()?;

@@ -1,6 +1,6 @@
 //! The functions that a host links, over a run that it keeps from one call to the next.
 
-use crate::drive::{busy_record, decode, record, Part, RECORD};
+use crate::drive::{calls_among, decode, record, RECORD};
 use crate::run::{Call, Opening, Request};
 use numbers::RUN_SIZE;
 
@@ -55,7 +55,6 @@ mod linked {
             node: u8,
             outcome: u8,
         ) -> HostReply;
-        pub fn jidlekuvo_busy(run: *const Held, peripheral: u8) -> u64;
     }
 }
 
@@ -99,11 +98,6 @@ pub fn call(run: &mut Held, call: Call) -> HostReply {
     }
 }
 
-pub fn busy(run: &Held, peripheral: u8) -> u64 {
-    // SAFETY: the run is lent to the function, which reads it and nothing else.
-    unsafe { linked::jidlekuvo_busy(run, peripheral) }
-}
-
 /// A reply as a record of `drive`, whose second byte is the activity of a start and the number of others. What should be 0
 /// stands in the fourth byte, which is 0 in every record.
 fn record_of(reply: HostReply) -> [u8; RECORD] {
@@ -116,35 +110,29 @@ fn record_of(reply: HostReply) -> [u8; RECORD] {
     record
 }
 
-/// What opens runs, calls them and reads their busy times; a test puts wrong ones in the place of those linked.
+/// What opens runs and calls them; a test puts wrong ones in the place of those linked.
 #[derive(Clone, Copy)]
 pub struct Host {
     pub open: fn(&Opening) -> Box<HeldOpened>,
     pub call: fn(&mut Held, Call) -> HostReply,
-    pub busy: fn(&Held, u8) -> u64,
 }
 
-pub const LINKED: Host = Host { open, call, busy };
+pub const LINKED: Host = Host { open, call };
 
 impl Host {
-    /// The records of an opening, calls and questions for busy times, each given the run that the one before left. No
-    /// function tells a host where a node stands.
-    pub fn records(self, opening: &Opening, parts: &[Part]) -> Vec<u8> {
+    /// The records of an opening and calls, each call given the run that the one before left.
+    pub fn records(self, opening: &Opening, calls: &[Call]) -> Vec<u8> {
         let mut opened = (self.open)(opening);
         let mut records = vec![record_of(opened.reply)];
-        records.extend(parts.iter().filter_map(|part| match *part {
-            Part::Call(call) => Some(record_of((self.call)(&mut opened.run, call))),
-            Part::Busy { peripheral } => Some(busy_record((self.busy)(&opened.run, peripheral))),
-            Part::Place { .. } => None,
-        }));
+        records.extend(calls.iter().map(|&call| record_of((self.call)(&mut opened.run, call))));
         records.into_flattened()
     }
 }
 
-/// Where records of an input that asks for no place differ from those that others gave, if they do.
+/// Where records of an input without questions differ from those that others gave, if they do.
 pub fn difference(host: Host, input: &[u8], records: &[u8]) -> Option<String> {
     let (opening, parts) = decode(input)?;
-    let theirs = host.records(&opening, &parts);
+    let theirs = host.records(&opening, &calls_among(&parts));
     let at = theirs.chunks(RECORD).zip(records.chunks(RECORD)).position(|(their, our)| their != our);
     let Some(at) = at else {
         return (theirs.len() != records.len()).then(|| "another number of records".to_string());
@@ -153,10 +141,10 @@ pub fn difference(host: Host, input: &[u8], records: &[u8]) -> Option<String> {
     Some(format!("record {at} (0 is the opening): {:?}, for a host {:?}", told(records), told(&theirs)))
 }
 
-/// The records of an input that asks for no place, in the form of `drive`.
+/// The records of an input without questions, in the form of `drive`.
 pub fn drive(input: &[u8], out: &mut [u8]) -> usize {
     let Some((opening, parts)) = decode(input) else { return 0 };
-    let records = LINKED.records(&opening, &parts);
+    let records = LINKED.records(&opening, &calls_among(&parts));
     out[..records.len()].copy_from_slice(&records);
     records.len()
 }

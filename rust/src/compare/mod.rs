@@ -1,7 +1,6 @@
 //! What the tests and the comparisons share: how many cases from which seed, the table of hits,
 //! shrinking, and the functions of the Rattle side.
 
-pub mod busy;
 pub mod hits;
 #[cfg(feature = "rattle_host")]
 pub mod host;

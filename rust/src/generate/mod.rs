@@ -2,7 +2,6 @@
 
 pub mod activity;
 pub mod automaton;
-pub mod busy;
 pub mod damage;
 pub mod hosts;
 pub mod in_time;

@@ -2,7 +2,7 @@
 //! stand at or lie past. Written beside `run/limits.rs`, value by value, to be counted by.
 
 use crate::plan_file::*;
-use crate::run::{Entry, Run, Stop};
+use crate::run::{Run, Stop};
 use crate::specified_times::incremental::MOST_PENDING;
 use crate::{HORIZON, LAST_POSITION};
 use std::collections::BTreeSet;
@@ -23,8 +23,6 @@ impl Limits {
         run.plan.activities.iter().for_each(|activity| limits.activity(&run.plan, activity));
         limits.moment(run);
         limits.window(run);
-        run.window.iter().for_each(|entry| limits.begun(entry, run.last_reading));
-        limits.busy(run);
         run.stop.iter().for_each(|&stop| limits.stop(stop));
         limits
     }
@@ -160,26 +158,6 @@ impl Limits {
             self.most("start of an entry", time.start, HORIZON);
             self.most("completion of an entry", time.completion, HORIZON);
         }
-    }
-
-    /// A reading that is not past the last one. Where nothing was read yet, 0 shows nothing.
-    fn read(&mut self, what: &'static str, value: u64, last: u64) {
-        if value > 0 {
-            self.most(what, value, last);
-        }
-    }
-
-    fn begun(&mut self, entry: &Entry, last: u64) {
-        let what = match entry.started {
-            true => "start reading of a started node",
-            false => "start reading of a loaded node",
-        };
-        self.read(what, entry.begun, last);
-    }
-
-    fn busy(&mut self, run: &Run) {
-        let of_the_plan = run.busy.0.iter().zip(&run.plan.peripherals);
-        of_the_plan.for_each(|(&busy, _)| self.read("busy time", busy, run.last_reading));
     }
 
     fn stop(&mut self, stop: Stop) {

@@ -4,18 +4,17 @@
 
 pub mod limits;
 
-use crate::drive::{busy_record, reply_record, RECORD};
-use crate::plan_file::{Automaton, Kind, Node, Plan, Transition, MOST_PERIPHERALS};
+use crate::drive::{reply_record, RECORD};
+use crate::plan_file::{Automaton, Kind, Node, Plan, Transition};
 use crate::run::{Call, Entry, Reply, Request, Run, Stop};
 
 const BYTES_OF_NODE: usize = 16;
 const BYTES_OF_TRANSITION: usize = 7;
 const BYTES_OF_INSTANCE: usize = 15;
-const BYTES_OF_ENTRY: usize = 31;
+const BYTES_OF_ENTRY: usize = 23;
 const BYTES_OF_CALL: usize = 15;
-const PERIPHERALS: usize = MOST_PERIPHERALS as usize;
-/// The answer: a record for each call, then one for each peripheral.
-pub const ANSWER: usize = (2 + PERIPHERALS) * RECORD;
+/// The answer: a record for each call.
+pub const ANSWER: usize = 2 * RECORD;
 
 /// Room for so many values of one size: those there are, cut to the room, then zeros.
 fn array<T>(out: &mut Vec<u8>, room: usize, size: usize, values: &[T], encode: impl Fn(&T, &mut Vec<u8>)) {
@@ -100,22 +99,16 @@ fn entry(entry: &Entry, out: &mut Vec<u8>) {
     out.extend([time.activity, time.node]);
     out.extend(time.start.to_le_bytes());
     out.extend(time.completion.to_le_bytes());
-    out.extend(entry.begun.to_le_bytes());
 }
 
-/// What stands in a free place behind its phase, which is 0.
-pub type FreePlace = [u8; BYTES_OF_ENTRY - 1];
-
-/// Each entry at its place.
-fn window(run: &Run, free: &FreePlace, out: &mut Vec<u8>) {
+/// Each entry at its place; a free place is zeros.
+fn window(run: &Run, out: &mut Vec<u8>) {
     let start = out.len();
-    let place = [&[0], &free[..]].concat();
-    out.extend(place.repeat(Run::WINDOW));
     for held in &run.window {
-        let mut bytes = Vec::with_capacity(BYTES_OF_ENTRY);
-        entry(held, &mut bytes);
-        out[start + held.place * BYTES_OF_ENTRY..][..BYTES_OF_ENTRY].copy_from_slice(&bytes);
+        out.resize(start + held.place * BYTES_OF_ENTRY, 0);
+        entry(held, out);
     }
+    out.resize(start + Run::WINDOW * BYTES_OF_ENTRY, 0);
 }
 
 fn stop(stop: Option<Stop>, out: &mut Vec<u8>) {
@@ -138,21 +131,14 @@ fn call(call: &Call, out: &mut Vec<u8>) {
     out.extend([node, outcome]);
 }
 
-/// A free place is zeros.
 pub fn encode(run: &Run, calls: &[Call]) -> Vec<u8> {
-    encode_over(run, calls, &[0; BYTES_OF_ENTRY - 1])
-}
-
-/// The same with other bytes in the free places, which make no difference.
-pub fn encode_over(run: &Run, calls: &[Call], free: &FreePlace) -> Vec<u8> {
-    let mut out = Vec::with_capacity(53_500);
+    let mut out = Vec::with_capacity(48_800);
     plan(&run.plan, &mut out);
     times(&mut out, 2, &[run.psi, run.slack]);
     progress(run, &mut out);
-    window(run, free, &mut out);
+    window(run, &mut out);
     out.extend(run.last_reading.to_le_bytes());
     stop(run.stop, &mut out);
-    times(&mut out, PERIPHERALS, &run.busy.0);
     array(&mut out, 2, BYTES_OF_CALL, calls, call);
     out
 }
@@ -173,13 +159,7 @@ pub fn replies_shown(run: &Run, calls: [Call; 2], mut show: impl FnMut(&Run, Rep
     })
 }
 
-/// The same as records, and behind them the busy times of the run after both calls.
+/// The same as records.
 pub fn answer(run: &Run, calls: [Call; 2]) -> Vec<u8> {
-    let (mut records, mut last) = (vec![], run.clone());
-    replies_shown(run, calls, |after, reply| {
-        records.push(reply_record(reply));
-        last = after.clone();
-    });
-    records.extend((0..PERIPHERALS as u8).map(|peripheral| busy_record(last.busy(peripheral))));
-    records.into_flattened()
+    replies(run, calls).into_iter().flat_map(reply_record).collect()
 }

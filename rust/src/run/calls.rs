@@ -31,8 +31,7 @@ impl Run {
 
     /// One call: the reply and the run after it.
     pub fn call(self, call: Call) -> (Reply, Run) {
-        let bound = if broken(Broken::BoundByThisReading) { call.reading } else { self.last_reading };
-        if !self.is_in_limits_by(bound) {
+        if !self.is_in_limits() {
             return (Reply::Refused(50), self);
         }
         let early = call.reading < self.last_reading;
@@ -78,7 +77,7 @@ impl Run {
         self.overdue(reading).or(self.late(reading))
     }
 
-    pub(super) fn kind_of(&self, entry: &Entry) -> Kind {
+    fn kind_of(&self, entry: &Entry) -> Kind {
         self.plan.activities[entry.time.activity as usize][entry.time.node as usize].kind
     }
 
@@ -149,7 +148,6 @@ impl Run {
         self.last_reading = reading;
         if let Some(index) = self.next_due(reading) {
             self.window[index].started = true;
-            self.window[index].begun = reading.saturating_add(broken(Broken::BegunOneLater) as u64);
             let time = self.window[index].time;
             let position = time.position as u32;
             return (Reply::Start { position, activity: time.activity, node: time.node }, self);
@@ -201,7 +199,6 @@ impl Run {
             // Its place is free before anything is loaded; the others keep theirs.
             self.window.remove(index);
         }
-        self.spend(&entry, reading);
         if broken(Broken::WindowClosesUp) {
             self.window.iter_mut().filter(|e| e.place > entry.place).for_each(|e| e.place -= 1);
         }

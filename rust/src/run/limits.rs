@@ -9,11 +9,6 @@ use crate::{HORIZON, LAST_POSITION};
 
 impl Run {
     pub(super) fn is_in_limits(&self) -> bool {
-        self.is_in_limits_by(self.last_reading)
-    }
-
-    /// With what start readings and busy times may not exceed.
-    pub(super) fn is_in_limits_by(&self, last: u64) -> bool {
         // The slack is looked at first because a run of zeros has no plan to speak of.
         (Run::LEAST_SLACK..=Run::MOST_SLACK).contains(&self.slack)
             && self.psi <= HORIZON
@@ -24,8 +19,7 @@ impl Run {
             && self.moment_in_limits()
             && self.outcomes_in_limits()
             && self.window.len() <= Run::WINDOW
-            && self.window.iter().all(|entry| self.entry_in_limits(entry) && self.begun_in_limits(entry, last))
-            && self.busy_in_limits(last)
+            && self.window.iter().all(|entry| self.entry_in_limits(entry))
             && self.stop.is_none_or(|stop| self.stop_in_limits(stop))
     }
 

@@ -73,7 +73,7 @@ impl Run {
         let is_upwards = !broken(Broken::HighestPlaces);
         let places = (0..Run::WINDOW).map(|n| if is_upwards { n } else { Run::WINDOW - 1 - n });
         let placed = places.filter(|&place| is_free[place]).zip(path);
-        self.window.extend(placed.map(|(place, time)| Entry { time, started: false, begun: 0, place }));
+        self.window.extend(placed.map(|(place, time)| Entry { time, started: false, place }));
         self.window.sort_by_key(|entry| entry.place);
     }
 

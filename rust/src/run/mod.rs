@@ -1,7 +1,6 @@
 //! "A run": opening, ask, completion, outcome. Each call takes the run and hands one back; a
 //! refused call hands back the run it was given.
 
-mod busy;
 mod calls;
 mod limits;
 mod loading;
@@ -12,8 +11,6 @@ use crate::specified_times::incremental::Shape;
 use crate::specified_times::{Moment, NodeTime};
 use std::collections::BTreeMap;
 use std::sync::Arc;
-
-pub use busy::{spent, Busy};
 
 /// What the host may send, each with a clock reading.
 #[derive(Clone, Copy, Debug, PartialEq, Eq)]
@@ -53,8 +50,6 @@ pub enum Reply {
 pub struct Entry {
     pub time: NodeTime,
     pub started: bool,
-    /// "the reading at which its node was started", 0 before.
-    pub begun: u64,
     pub place: usize,
 }
 
@@ -84,7 +79,6 @@ pub struct Run {
     pub(crate) window: Vec<Entry>,
     pub(crate) stop: Option<Stop>,
     pub(crate) last_reading: u64,
-    pub(crate) busy: Busy,
 }
 
 impl Run {

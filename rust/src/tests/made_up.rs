@@ -37,8 +37,6 @@ const OUT_OF_LIMITS: &[Push] = &[
     ("entry activity", |run| run.window[0].time.activity = 2),
     ("entry node", |run| run.window[0].time.node = 7),
     ("entry completion", |run| run.window[0].time.completion = HORIZON + 1),
-    ("entry start reading", |run| run.window[0].begun = 1),
-    ("busy time", |run| run.busy.0[2] = 1),
     ("pending", |run| {
         let one = run.moment.pending[0][0];
         run.moment.pending[0].extend([one; 8]);

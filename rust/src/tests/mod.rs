@@ -1,7 +1,6 @@
 //! The tests of this build. Each check gives a message instead of panicking, so that the mutation
 //! check can run the same checks on the build broken on purpose.
 
-mod busy;
 mod cases;
 mod damaged_logs;
 mod demand_3_alone;
@@ -10,7 +9,6 @@ mod graph_timetable;
 mod host_side;
 mod link;
 mod made_up;
-mod made_up_busy;
 mod made_up_markers;
 mod markers;
 mod mutations;
@@ -38,8 +36,6 @@ pub const CHECKS: &[(&str, Check)] = &[
     ("markers", |_, _, _| markers::markers()),
     ("markers in made-up runs", |_, _, _| made_up_markers::made_up_markers()),
     ("messages by hand", |_, _, _| link::by_hand()),
-    ("busy times by hand", |_, _, _| busy::by_hand()),
-    ("busy times in made-up runs", |_, _, _| made_up_busy::by_hand()),
     ("accepted plans", files::accepted_plans),
     ("damaged fields", files::damaged_fields),
     ("faulty activities", files::faulty_activities),
@@ -52,7 +48,6 @@ pub const CHECKS: &[(&str, Check)] = &[
     ("call lists", runs::call_lists),
     ("pairs of runs", stitching::pairs_of_runs),
     ("places", places::places_kept),
-    ("busy times", busy::busy_times),
     ("messages", link::message_lists_answered),
 ];
 

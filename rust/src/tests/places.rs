@@ -104,8 +104,8 @@ fn questions_as_bytes() {
     assert_eq!(parts, ASKED);
     assert_eq!(encode(&opening, &parts), input);
     assert_eq!(input[input.len() - 12..], [3, 0, 0, 0, 0, 2, 3, 0, 0, 0, 0, 0]);
-    // A question that is cut, and a kind above 4, end the list.
+    // A question that is cut, and a kind above 3, end the list.
     assert_eq!(decode(&input[..input.len() - 1]).expect("whole").1, ASKED[..1]);
-    let other = [&input[..input.len() - 6], &[5, 0, 0, 0, 0, 0, 0, 0, 0, 0, 0]].concat();
+    let other = [&input[..input.len() - 6], &[4, 0, 0, 0, 0, 0, 0, 0, 0, 0, 0]].concat();
     assert_eq!(decode(&other).expect("whole").1, ASKED[..1]);
 }

@@ -121,7 +121,7 @@ fn made_up(entries: &[Named]) -> Run {
     let entry = |(place, &(position, node)): (usize, &Named)| {
         let mut time = run.window[2].time;
         (time.position, time.node) = (position as u64, node);
-        Entry { time, started: false, begun: 0, place }
+        Entry { time, started: false, place }
     };
     Run { window: entries.iter().enumerate().map(entry).collect(), ..run.clone() }
 }

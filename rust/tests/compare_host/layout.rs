@@ -5,11 +5,9 @@ use std::sync::LazyLock;
 
 const LAYOUT: &str = include_str!("../../../host/layout.txt");
 
-/// Words of a run. A place of the window has four (start, end, start reading, the others), a pending instance two (end, the
-/// others).
+/// Words of a run. A place of the window has three (start, end, the others), a pending instance two (end, the others).
 struct Words {
     last: usize,
-    busy: usize,
     window: usize,
     pending: usize,
     halt: usize,
@@ -18,7 +16,6 @@ struct Words {
 
 static AT: LazyLock<Words> = LazyLock::new(|| Words {
     last: word("HeldRest", "last"),
-    busy: word("HeldRest", "busy"),
     window: word("HeldRest", "window"),
     pending: word("HeldRest", "progress") + word("HeldProgress", "pending"),
     halt: word("HeldRest", "halt"),
@@ -51,14 +48,9 @@ pub fn last(run: &mut Held) -> &mut u64 {
     &mut run.0[AT.last]
 }
 
-/// The busy times of all peripherals.
-pub fn busy_times(run: &mut Held) -> &mut [u64] {
-    &mut run.0[AT.busy..][..64]
-}
-
 /// The places of the window.
 pub fn window(run: &mut Held) -> impl Iterator<Item = &mut [u64]> {
-    run.0[AT.window..][..4 * 512].chunks_exact_mut(4)
+    run.0[AT.window..][..3 * 512].chunks_exact_mut(3)
 }
 
 /// The pending instances.

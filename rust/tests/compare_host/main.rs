@@ -1,6 +1,5 @@
 //! The functions that a host links: what they leave of a run's bytes, and that a comparison with this build's
-//! answers notices wrong ones. `call_lists_agree` and `busy_times_agree` compare the functions themselves, each over 50,000
-//! lists.
+//! answers notices wrong ones. `call_lists_agree` compares the functions themselves, over 50,000 lists.
 
 #![cfg(feature = "rattle_host")]
 
@@ -12,7 +11,6 @@ use jidlekuvo_reference::compare::host::{self, difference, Held, Host, LINKED};
 use jidlekuvo_reference::compare::threads::in_threads;
 use jidlekuvo_reference::compare::{settings, Failure};
 use jidlekuvo_reference::drive::{calls_among, decode, drive, RECORD};
-use jidlekuvo_reference::generate::busy::with_busy_questions;
 use jidlekuvo_reference::generate::{inputs, Random};
 use jidlekuvo_reference::run::Call;
 use layout::{halt, plan_at};
@@ -31,8 +29,7 @@ fn records(input: &[u8]) -> Vec<u8> {
 /// The list at which a host differs from this build, and how.
 fn noticed(host: Host) -> Option<(usize, String)> {
     (0..MOST).find_map(|at| {
-        let list = inputs::call_list(&mut Random::new(settings::seed().wrapping_add(at as u64)));
-        let input = with_busy_questions(&list);
+        let input = inputs::call_list(&mut Random::new(settings::seed().wrapping_add(at as u64)));
         difference(host, &input, &records(&input)).map(|what| (at, what))
     })
 }
@@ -58,16 +55,6 @@ fn kept(before: &Held, kind: u8) -> Option<&'static str> {
     }
 }
 
-/// A busy time that is read, of any peripheral, leaves every byte.
-fn reading_leaves(run: &mut Held, peripheral: u8, hits: &mut Hits) -> Result<(), String> {
-    let before = run.clone();
-    hits.hit(if host::busy(run, peripheral) > 0 { "read above 0" } else { "read 0" });
-    match *run == before {
-        true => Ok(()),
-        false => Err(format!("the busy time of peripheral {peripheral}, read, changes the run")),
-    }
-}
-
 /// A refused call and one to a stopped run leave every byte, any other the plan's.
 fn leaves(run: &mut Held, call: Call, hits: &mut Hits) -> Result<(), String> {
     let before = run.clone();
@@ -88,16 +75,13 @@ fn calls_leave_what_they_must() {
         let Some((opening, parts)) = decode(&input) else { return Ok(()) };
         let mut opened = (LINKED.open)(&opening);
         let mut calls = calls_among(&parts).into_iter();
-        let told = calls.try_for_each(|call| {
-            leaves(&mut opened.run, call, hits)?;
-            reading_leaves(&mut opened.run, random.pick(&[0, 0, 1, 2, 63, 255]), hits)
-        });
-        told.map_err(|what| Failure::new(what, &input))
+        calls
+            .try_for_each(|call| leaves(&mut opened.run, call, hits))
+            .map_err(|what| Failure::new(what, &input))
     };
     let cases = settings::cases(3_000);
     let hits = in_threads(settings::seed(), cases, case).unwrap_or_else(|what| panic!("{what}"));
     hits.print(&format!("what the calls of {cases} lists leave"));
-    let missing =
-        hits.missing(&["refused", "stop kept", "stored", "read above 0", "read 0"].map(String::from));
+    let missing = hits.missing(&["refused", "stop kept", "stored"].map(String::from));
     assert!(settings::is_by_hand() || missing.is_empty(), "never hit: {missing:?}");
 }

@@ -1,43 +1,33 @@
 //! Hosts whose functions are wrong in one way, over those linked.
 
-use crate::layout::{busy_times, change_byte, go_on, halt, last, pending, window};
-use jidlekuvo_reference::compare::host::{busy, call, open, Held, HeldOpened, Host, HostReply};
+use crate::layout::{change_byte, go_on, halt, last, pending, window};
+use jidlekuvo_reference::compare::host::{call, open, Held, HeldOpened, Host, HostReply};
 use jidlekuvo_reference::generate::plan_t;
 use jidlekuvo_reference::run::{Call, Opening, Request};
 
 /// Every wrong host, and what is wrong with it.
 pub const WRONG: &[(&str, Host)] = &[
-    ("started is read as loaded", Host { open, call: started_as_loaded, busy }),
-    (
-        "start and end are exchanged when a run is stored",
-        Host { open: ends_first, call: ends_first_after, busy },
-    ),
-    ("the run after an ask is not stored", Host { open, call: ask_unstored, busy }),
-    ("a refused call stores its reading", Host { open, call: refusal_stores, busy }),
-    ("outcome and node are exchanged", Host { open, call: outcome_as_node, busy }),
-    ("done and wait are exchanged", Host { open, call: done_as_wait, busy }),
-    ("an opening keeps the window of another", Host { open: keeps_window, call, busy }),
-    ("a stop is not kept", Host { open, call: stop_forgotten, busy }),
-    ("the last reading is not stored", Host { open, call: reading_unstored, busy }),
-    ("a reported outcome is forgotten", Host { open, call: outcome_forgotten, busy }),
-    ("a completion is put as an outcome", Host { open, call: completion_as_outcome, busy }),
-    ("node and activity of a start are exchanged", Host { open, call: node_as_activity, busy }),
-    ("the activity of a start is told as its number too", Host { open, call: activity_as_number, busy }),
-    ("a stop tells no node", Host { open, call: stop_without_node, busy }),
-    ("a refused opening tells no place", Host { open: refusal_without_place, call, busy }),
-    ("the availabilities are taken from the last on", Host { open: availabilities_reversed, call, busy }),
-    ("a refused opening leaves a run of plan T", Host { open: refusal_opens, call, busy }),
-    ("the start reading is not stored", Host { open, call: begun_unstored, busy }),
-    ("the end of a node is read as its start reading", Host { open, call: end_as_begun, busy }),
-    ("busy times are not stored", Host { open, call: busy_unstored, busy }),
-    ("a busy time is stored for the next peripheral", Host { open, call: busy_of_the_next, busy }),
-    ("the busy time of the next peripheral is told", Host { open, call, busy: next_told }),
-    ("a stopped run tells no busy time", Host { open, call, busy: stopped_untold }),
-    ("the last reading is told as the busy time", Host { open, call, busy: reading_told }),
+    ("started is read as loaded", Host { open, call: started_as_loaded }),
+    ("start and end are exchanged when a run is stored", Host { open: ends_first, call: ends_first_after }),
+    ("the run after an ask is not stored", Host { open, call: ask_unstored }),
+    ("a refused call stores its reading", Host { open, call: refusal_stores }),
+    ("outcome and node are exchanged", Host { open, call: outcome_as_node }),
+    ("done and wait are exchanged", Host { open, call: done_as_wait }),
+    ("an opening keeps the window of another", Host { open: keeps_window, call }),
+    ("a stop is not kept", Host { open, call: stop_forgotten }),
+    ("the last reading is not stored", Host { open, call: reading_unstored }),
+    ("a reported outcome is forgotten", Host { open, call: outcome_forgotten }),
+    ("a completion is put as an outcome", Host { open, call: completion_as_outcome }),
+    ("node and activity of a start are exchanged", Host { open, call: node_as_activity }),
+    ("the activity of a start is told as its number too", Host { open, call: activity_as_number }),
+    ("a stop tells no node", Host { open, call: stop_without_node }),
+    ("a refused opening tells no place", Host { open: refusal_without_place, call }),
+    ("the availabilities are taken from the last on", Host { open: availabilities_reversed, call }),
+    ("a refused opening leaves a run of plan T", Host { open: refusal_opens, call }),
 ];
 
 fn started_as_loaded(run: &mut Held, c: Call) -> HostReply {
-    window(run).for_each(|place| change_byte(&mut place[3], 6, |phase| phase.min(1)));
+    window(run).for_each(|place| change_byte(&mut place[2], 6, |phase| phase.min(1)));
     call(run, c)
 }
 
@@ -165,49 +155,4 @@ fn refusal_opens(opening: &Opening) -> Box<HeldOpened> {
         opened.run = opened_t().run;
     }
     opened
-}
-
-fn begun_unstored(run: &mut Held, c: Call) -> HostReply {
-    let reply = call(run, c);
-    if reply.kind == 1 {
-        window(run).for_each(|place| place[2] = 0);
-    }
-    reply
-}
-
-fn end_as_begun(run: &mut Held, c: Call) -> HostReply {
-    window(run).for_each(|place| place[2] = place[1]);
-    call(run, c)
-}
-
-fn busy_unstored(run: &mut Held, c: Call) -> HostReply {
-    let before = busy_times(run).to_vec();
-    let reply = call(run, c);
-    busy_times(run).copy_from_slice(&before);
-    reply
-}
-
-fn busy_of_the_next(run: &mut Held, c: Call) -> HostReply {
-    busy_times(run).rotate_left(1);
-    let reply = call(run, c);
-    busy_times(run).rotate_right(1);
-    reply
-}
-
-fn next_told(run: &Held, peripheral: u8) -> u64 {
-    busy(run, peripheral.wrapping_add(1))
-}
-
-fn stopped_untold(run: &Held, peripheral: u8) -> u64 {
-    match halt(run) {
-        0 => busy(run, peripheral),
-        _ => 0,
-    }
-}
-
-fn reading_told(run: &Held, peripheral: u8) -> u64 {
-    match busy(run, peripheral) {
-        0 => 0,
-        _ => *last(&mut run.clone()),
-    }
 }

@@ -36,7 +36,7 @@ use Rattle.demands_theory.specs.TheWord.{state_after, whole_of, TheWord}
 use Rattle.demands_theory.specs.Laws.Replies.{failed_by}
 use Rattle.demands_theory.specs.Laws.TheWord.{told_once}
 use Rattle.demands_run.specs.Laws.Later.{takes_more}
-use Rattle.demands_run.specs.Laws.Changes.{held_loaded}
+use Rattle.demands_run.specs.Laws.Ways.{held_loaded}
 use Rattle.demands_run.specs.Laws.OneLoading.{one_loading}
 use Rattle.demands_run.specs.Laws.Theorem as Works
 use Rattle.demands.specs.Accepted.{Bytes}

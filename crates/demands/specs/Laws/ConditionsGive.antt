@@ -8,7 +8,7 @@ use Rattle.plan.specs.Plan.{outcomes_of}
 use Rattle.plan.specs.declared.Kind.{Kind}
 use Rattle.run_window.specs.declared.Entry.{Entry}
 use Rattle.run_window.specs.declared.Phase.{Phase}
-use Rattle.run_window.specs.Window.{vacant, started_of, is_free, is_overdue, is_late, is_due, is_node, starts_before, by_start, ends_before}
+use Rattle.run_window.specs.Window.{started_of, is_free, is_overdue, is_late, is_due, is_node, starts_before, by_start, ends_before}
 use Rattle.run_window.specs.Laws.Order.{starts_order, report_order, ends_order}
 use Rattle.run_checks.specs.Order.{timely_by}
 use Rattle.run.specs.declared.Run.{Run}
@@ -106,7 +106,7 @@ at_call run c r h q = ap reply_of (timely_call run c h) ∙ q
 
 module _ (run : Run) (t : Clock) where
   pub asked_starts : (i : ℕ) → FirstOf run (DueAt run t) (starts_before run.plan.nodes) i
-      → asked run t ≡ answer (Reply.Start (entry_at run i).position (entry_at run i).activity (entry_at run i).node) (heard run t Halt.Going run.progress (set run.window i (started_of t (entry_at run i))))
+      → asked run t ≡ answer (Reply.Start (entry_at run i).position (entry_at run i).activity (entry_at run i).node) (heard run t Halt.Going run.progress (set run.window i (started_of (entry_at run i))))
   unfolding asked
   asked_starts i f = rw (first_place run (is_due run.psi t) (DueAt run t) (due_places run t) (starts_before run.plan.nodes) (starts_order run.plan.nodes) i f)
 
@@ -154,7 +154,7 @@ not_started run (Call.Outcome t p n o) i h s = reported_loaded run p n _ i h s
 -- what a report of a started node comes to
 abbrev pub accepted : Run → Call → ℕ → Answer
 accepted run (Call.Ask t) i = asked run t
-accepted run (Call.Completion t p n) i = completed_by run t i (entry_at run i) (kind_of run (entry_at run i))
+accepted run (Call.Completion t p n) i = completed_by run t i (kind_of run (entry_at run i))
 accepted run (Call.Outcome t p n o) i = learns_by run t i (entry_at run i) o (kind_of run (entry_at run i))
 
 started_node : (run : Run) (c : Call) (i : ℕ) → Reports run c i → passed run c ≡ accepted run c i
@@ -170,24 +170,17 @@ report_call run c i h = timely_call run c h.timely ∙ started_node run c i h
 at_report : (run : Run) (c : Call) (i : ℕ) (r : Reply) → Reports run c i → (accepted run c i).reply ≡ r → (call_of run c).reply ≡ r
 at_report run c i r h q = ap reply_of (report_call run c i h) ∙ q
 
--- the completion of an action is taken, and its place is free
-completed_action : (run : Run) (t : Clock) (i : ℕ) (e : Entry) (k : Kind) → IsAction k → (completed_by run t i e k).reply ≡ Reply.Taken
-completed_action run t i e (Kind.Action a x) h = refl
-completed_action run t i e (Kind.Claim r) h = absurd h
-completed_action run t i e (Kind.Release r) h = absurd h
-completed_action run t i e (Kind.Event v) h = absurd h
+pub completed_action : (run : Run) (t : Clock) (i : ℕ) (k : Kind) → IsAction k → completed_by run t i k ≡ answer Reply.Taken (cleared run t i run.progress)
+completed_action run t i (Kind.Action a x) h = refl
+completed_action run t i (Kind.Claim r) h = absurd h
+completed_action run t i (Kind.Release r) h = absurd h
+completed_action run t i (Kind.Event e) h = absurd h
 
-pub completed_window : (run : Run) (t : Clock) (i : ℕ) (e : Entry) (k : Kind) → IsAction k → (completed_by run t i e k).run.window ≡ set run.window i vacant
-completed_window run t i e (Kind.Action a x) h = refl
-completed_window run t i e (Kind.Claim r) h = absurd h
-completed_window run t i e (Kind.Release r) h = absurd h
-completed_window run t i e (Kind.Event v) h = absurd h
-
-completed_other : (run : Run) (t : Clock) (i : ℕ) (e : Entry) (k : Kind) → (IsAction k → ⊥) → completed_by run t i e k ≡ refuse run Refusal.OtherKind
-completed_other run t i e (Kind.Action a x) h = absurd (h tt)
-completed_other run t i e (Kind.Claim r) h = refl
-completed_other run t i e (Kind.Release r) h = refl
-completed_other run t i e (Kind.Event v) h = refl
+completed_other : (run : Run) (t : Clock) (i : ℕ) (k : Kind) → (IsAction k → ⊥) → completed_by run t i k ≡ refuse run Refusal.OtherKind
+completed_other run t i (Kind.Action a x) h = absurd (h tt)
+completed_other run t i (Kind.Claim r) h = refl
+completed_other run t i (Kind.Release r) h = refl
+completed_other run t i (Kind.Event e) h = refl
 
 learns_other : (run : Run) (t : Clock) (i : ℕ) (x : Entry) (o : ℕ) (k : Kind) → (IsEvent k → ⊥) → learns_by run t i x o k ≡ refuse run Refusal.OtherKind
 learns_other run t i x o (Kind.Action a y) h = refl
@@ -197,7 +190,7 @@ learns_other run t i x o (Kind.Event e) h = absurd (h tt)
 
 other_kind : (run : Run) (c : Call) (i : ℕ) → Reports run c i → (RightKind c (kind_of run (entry_at run i)) → ⊥) → (accepted run c i).reply ≡ Reply.Refused Refusal.OtherKind
 other_kind run (Call.Ask t) i r h = absurd r.named.has
-other_kind run (Call.Completion t p n) i r h = ap reply_of (completed_other run t i (entry_at run i) (kind_of run (entry_at run i)) h)
+other_kind run (Call.Completion t p n) i r h = ap reply_of (completed_other run t i (kind_of run (entry_at run i)) h)
 other_kind run (Call.Outcome t p n o) i r h = ap reply_of (learns_other run t i (entry_at run i) o (kind_of run (entry_at run i)) h)
 
 lacking : (run : Run) (t : Clock) (o i e : ℕ) → kind_of run (entry_at run i) ≡ Kind.Event e → outcomes_of run.plan e ≤ o
@@ -248,7 +241,7 @@ gives_asked run _ _ (Asks.done {t} h e) = at_call run (Call.Ask t) _ h (asked_do
 gives_asked run _ _ (Asks.waits {t} h n e) = at_call run (Call.Ask t) _ h (asked_waits run t n e)
 
 gives_taken : (run : Run) (c : Call) → Takes run c → (call_of run c).reply ≡ Reply.Taken
-gives_taken run _ (Takes.completion {t} {p} {n} i r k) = at_report run (Call.Completion t p n) i _ r (completed_action run t i (entry_at run i) (kind_of run (entry_at run i)) k)
+gives_taken run _ (Takes.completion {t} {p} {n} i r k) = at_report run (Call.Completion t p n) i _ r (ap reply_of (completed_action run t i (kind_of run (entry_at run i)) k))
 gives_taken run _ (Takes.outcome {t} {p} {n} {o} i e l q) = at_loading run t p n o i e Failure.None l q
 gives_taken run _ (Takes.marker {t} {p} {n} {o} i e l q) = ap reply_of (marker_call run t p n o i e l q)
 

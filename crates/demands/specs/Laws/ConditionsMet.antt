@@ -26,7 +26,7 @@ use Rattle.demands.specs.Laws.InLimitsIff.{tells_run, in_limits_lem}
 use Rattle.run.specs.Calls.{refuse, reading_of, is_done, asked, kind_of, completed_by, completed, after_loading, is_marker, learns_by, learns, timely, called, ask_of, completion_of, outcome_of, call_of}
 use Rattle.demands.specs.Conditions.{entry_at, OverdueAt, LateAt, DueAt, NodeAt, Going, Rises, NotOverdue, Timely, Reports, Decides, loading_after, Ended, Refuses, Halts, Asks, Takes, Condition}
 use Rattle.demands.specs.Laws.FirstPlaces.{by_place, overdue_places, late_places, due_places, node_places}
-use Rattle.demands_run.specs.Laws.Changes.{held_loaded}
+use Rattle.demands_run.specs.Laws.Ways.{held_loaded}
 
 -- the reply of the answer comes in its condition
 pub record MetBy (run : Run) (c : Call) (a : Answer) : Type 0 where
@@ -105,7 +105,7 @@ module _ (run : Run) (t : Clock) (p n : ℕ) (h : Timely run t) where
       c : Call
       c = Call.Completion t p n
 
-      by_kind : (i : ℕ) → Reports run c i → (k : Kind) → kind_of run (entry_at run i) ≡ k → MetBy run c (completed_by run t i (entry_at run i) k)
+      by_kind : (i : ℕ) → Reports run c i → (k : Kind) → kind_of run (entry_at run i) ≡ k → MetBy run c (completed_by run t i k)
       by_kind i r (Kind.Action a x) e = record { condition = Takes.completion i r (rw e tt) }
       by_kind i r (Kind.Claim x) e = refused run c Refusal.OtherKind (Refuses.number54 i r (λ q. rw e at q))
       by_kind i r (Kind.Release x) e = refused run c Refusal.OtherKind (Refuses.number54 i r (λ q. rw e at q))

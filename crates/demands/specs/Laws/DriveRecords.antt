@@ -1,4 +1,4 @@
--- `drive_records`: by one walk over the parts for the calls, and one up to a question for its answer.
+-- `drive_records`: by one walk over the parts for the calls, and one up to a question for its place.
 use Rattle.std.specs.Prelude.{◌≡◌, refl, List, [], ◌∷◌, ◌++◌, ℕ, ◌↔◌, length, take, drop, replicate}
 use Rattle.std.proofs.Common.{sym, ap, ◌∙◌, true≢false}
 use Rattle.basis.specs.Laws.Lists.{all_same}
@@ -12,7 +12,8 @@ use Rattle.demands_log.specs.Log.{Log, said}
 use Rattle.demands_log.specs.Drive.{Driven, drive}
 use Rattle.demands_run.specs.Laws.Theorem.{window_long}
 use Rattle.drive_input.specs.declared.Part.{Part}
-use Rattle.drive.specs.Drive.{opened, parts_of, calls_among, part_record, records_from, records_of}
+use Rattle.drive_records.specs.Records.{place_record}
+use Rattle.drive.specs.Drive.{opened, parts_of, calls_among, records_from, records_of}
 use Rattle.drive.specs.Laws.Records.{records_length}
 use Rattle.demands.specs.Demand3.{driven_by}
 use Rattle.demands.specs.Conditions.{entry_at, NodeAt}
@@ -26,15 +27,14 @@ answers_at_calls : (log : Log) (run : Run) (parts : List Part)
 answers_at_calls log run [] = refl
 answers_at_calls log run (Part.Call call ∷ parts) = answers_at_calls (said call (call_of run call).reply ∷ log) (call_of run call).run parts
 answers_at_calls log run (Part.Place position node ∷ parts) = answers_at_calls log run parts
-answers_at_calls log run (Part.Busy peripheral ∷ parts) = answers_at_calls log run parts
 
--- the record of a part is that of the run which the calls before it left
-part_behind : (log : Log) (run : Run) (before after : List Part) (part : Part)
-    → take 1 (drop (length before) (records_from run (before ++ (part ∷ after)))) ≡ part_record (drive log run (calls_among before)).run part ∷ []
-part_behind log run [] after part = refl
-part_behind log run (Part.Call call ∷ before) after part = part_behind (said call (call_of run call).reply ∷ log) (call_of run call).run before after part
-part_behind log run (Part.Place p n ∷ before) after part = part_behind log run before after part
-part_behind log run (Part.Busy peripheral ∷ before) after part = part_behind log run before after part
+place-behind : (log : Log) (run : Run) (before after : List Part) (position node : ℕ)
+    → take 1 (drop (length before) (records_from run (before ++ (Part.Place position node ∷ after))))
+    ≡ place_record (place_of position node (drive log run (calls_among before)).run.window) ∷ []
+place-behind log run [] after position node = refl
+place-behind log run (Part.Call call ∷ before) after position node =
+    place-behind (said call (call_of run call).reply ∷ log) (call_of run call).run before after position node
+place-behind log run (Part.Place p n ∷ before) after position node = place-behind log run before after position node
 
 pub drive_records : StatementDriveRecords
 unfolding records_of
@@ -44,8 +44,7 @@ drive_records b w = (
   record {
     each = records_length (opened b).run (parts_of b);
     calls = sym (answers_at_calls [] (opened b).run (parts_of b));
-    places = λ before after position node e. rw e (part_behind [] (opened b).run before after (Part.Place position node));
-    busy = λ before after peripheral e. rw e (part_behind [] (opened b).run before after (Part.Busy peripheral));
+    places = λ before after position node e. rw e (place-behind [] (opened b).run before after position node);
   },
 )
 

@@ -1,4 +1,4 @@
--- `held_unchanged`, `host_log`, `host_opening`, `host_demand_3`, `host_never_50`, `host_busy`, `host_stop_kept`, `host_stop_repeated`,
+-- `held_unchanged`, `host_log`, `host_opening`, `host_demand_3`, `host_never_50`, `host_stop_kept`, `host_stop_repeated`,
 -- `host_unopened`: what is proved of a run holds of the bytes that a host keeps.
 use Rattle.std.specs.Prelude.{◌≡◌, refl, Bool, true, false, cond, List, [], ◌∷◌, map, ℕ}
 use Rattle.std.proofs.Common.{sym, ◌∙◌, ap, subst, true≢false, ⊎_elim}
@@ -14,7 +14,6 @@ use Rattle.run.specs.declared.Answer.{Answer}
 use Rattle.run.specs.Limits.{run_in_limits}
 use Rattle.run.specs.Calls.{call_of}
 use Rattle.run.specs.Opening.{open_of, zero_run}
-use Rattle.run.specs.Busy.{busy_of}
 use Rattle.drive_records.specs.Records.{reply_record}
 use Rattle.held.specs.declared.Held.{Held}
 use Rattle.held.specs.Held.{run_of, rest_of, held_of}
@@ -27,15 +26,13 @@ use Rattle.jidlekuvo.specs.Laws.Kinds.{refused_told, stopped_told, told_50, open
 use Rattle.jidlekuvo.specs.Laws.Host.{refused_unchanged_held, stopped_unchanged_held}
 use Rattle.demands_log.specs.Log.{Log, Always, said}
 use Rattle.demands_log.specs.Drive.{Driven, drive}
-use Rattle.demands_log.specs.Busy.{busy_in}
 use Rattle.demands_log.specs.Laws.PlanStays.{plan_stays}
 use Rattle.demands.specs.Demand3.{driven_by, Demand3Of}
 use Rattle.demands.specs.Messages.{replies_of}
 use Rattle.demands.specs.Laws.Demand3Holds.{demand_3}
-use Rattle.demands.specs.Laws.BusyHoursHold.{busy_hours}
 use Rattle.demands.specs.Laws.Unchanged.{refused_unchanged, stop_kept, stops_stay, refused_opening, zeros_get_50}
 use Rattle.demands.specs.Laws.Repeated.{out_gets_50, stop_repeated}
-use Rattle.demands.specs.Hosted.{opened_by, replied, left_by, replies_to, left_by_all, written, Stays, told50, StatementHostLog, StatementHostOpening, StatementHostDemand3, StatementHostNever50, StatementHostBusy, StatementHeldUnchanged, StatementHostStopKept, StatementHostStopRepeated, StatementHostUnopened}
+use Rattle.demands.specs.Hosted.{opened_by, replied, left_by, replies_to, left_by_all, written, Stays, told50, StatementHostLog, StatementHostOpening, StatementHostDemand3, StatementHostNever50, StatementHeldUnchanged, StatementHostStopKept, StatementHostStopRepeated, StatementHostUnopened}
 
 -- ---- one call
 
@@ -144,12 +141,6 @@ host_demand_3 bytes are psi slack ts opened cs =
     let o = host_opening bytes psi slack ts cs in
     subst (Demand3Of (judge_of bytes).plan (clock psi) slack ts) (sym o.driven)
     (demand_3 bytes are (clock psi) slack ts (o.opened.0 opened) cs)
-
-pub host_busy : StatementHostBusy
-host_busy bytes are psi slack ts opened cs x low =
-    let o = host_opening bytes psi slack ts cs in
-    subst (λ (d : Driven). busy_of d.run x ≡ busy_in (judge_of bytes).plan x d.log) (sym o.driven)
-    (busy_hours bytes are (clock psi) slack ts (o.opened.0 opened) cs x low)
 
 -- the numbers of a reply that has Q
 record Says (Q : Reply → Type 0) (x : HostReply) : Type 0 where

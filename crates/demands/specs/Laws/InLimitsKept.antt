@@ -1,11 +1,9 @@
 -- `limits_kept`: a run in limits is in limits after every call, a made-up one too.
 use Rattle.std.specs.Prelude.{◌≡◌, refl, Bool, true, cond, List, [], ◌++◌, ◌⊎◌, ltb, length, get_or, set}
-use Rattle.std.proofs.Common.{sym, true≢false, inl, inr, ⊎_elim}
+use Rattle.std.proofs.Common.{sym, true≢false, inl, inr, ⊎_elim, arith, ltb-true}
 use Rattle.std.proofs.Math.Path.{ap, subst}
 use Rattle.std.proofs.Math.Bool.{false}
 use Prim.Native.Nat.{ℕ, zero, suc, ◌+◌, ◌*◌, ◌≤◌, ◌<◌}
-use native.Mathlib.Omega.{arith}
-use borrow.Author.Tests.{ltb-true, ltb-false}
 use Rattle.basis.specs.Lists.{Among}
 use Rattle.basis.specs.Laws.Lists.{among_either, among_at}
 use Rattle.basis.specs.Laws.Bools.{by_test}
@@ -22,9 +20,9 @@ use Rattle.times.specs.Engine.{last_position}
 use Rattle.times.specs.Queues.{no_instance, pending_of, instance_of}
 use Rattle.times.specs.Limits.{InstanceInLimits}
 use Rattle.times.specs.declared.Progress.{Progress}
-use Rattle.run_window.specs.Window.{vacant, started_of, is_held, is_started, is_overdue, is_late, is_due, is_node, starts_before, ends_before, by_start, placed, vacancies}
-use Rattle.run_window.specs.Laws.Tests.{overdue_tells, late_tells, due_tells, node_tells}
-use Rattle.run_window.specs.Laws.Order.{starts_order, report_order, ends_order}
+use Rattle.run_window.specs.Window.{vacant, started_of, is_held, is_started, is_due, is_node, starts_before, by_start, placed, vacancies}
+use Rattle.run_window.specs.Laws.Tests.{due_tells, node_tells}
+use Rattle.run_window.specs.Laws.Order.{starts_order, report_order}
 use Rattle.run_window.specs.Laws.Firsts.{First, by_first}
 use Rattle.run_window.specs.Places.{Holds}
 use Rattle.run_window.specs.Laws.Placed.{placed_only}
@@ -36,10 +34,7 @@ use Rattle.run_path.specs.Laws.Stepping.{next_leads, taken_kept}
 use Rattle.run_path.specs.Laws.InTime.{loads}
 use Rattle.run_outcomes.specs.Told.{tell, told_from, told_of}
 use Rattle.run_outcomes.specs.Way.{way_on}
-use Rattle.run_checks.specs.Order.{is_below, timely_by}
-use Rattle.run_checks.specs.declared.Stop.{Stop}
-use Rattle.run.specs.Busy.{spent}
-use Rattle.demands.specs.Laws.BusyLow.{spent_low, set_each}
+use Rattle.run_checks.specs.Laws.Checks.{by_timely}
 use Rattle.run.specs.declared.Run.{Run}
 use Rattle.run_checks.specs.declared.Halt.{Halt}
 use Rattle.run.specs.declared.Call.{Call}
@@ -50,12 +45,12 @@ use Rattle.run.specs.Loading.{Loading}
 use Rattle.run_checks.specs.declared.Refusal.{Refusal}
 use Rattle.run.specs.Loading.{load, on_way, on_loading, further, most_pending}
 use Rattle.run.specs.Limits.{run_in_limits}
-use Rattle.run.specs.Calls.{refuse, heard, stops, moment_of, asked, reported, finished, completed_by, completed, after_loading, cleared, is_marker, hears, learns_by, learns, timely, called, ask_of, completion_of, outcome_of, call_of, kind_of}
+use Rattle.run.specs.Calls.{refuse, heard, asked, reported, completed_by, completed, after_loading, cleared, is_marker, hears, learns_by, learns, timely, called, ask_of, completion_of, outcome_of, call_of, kind_of}
 use Rattle.demands_run.specs.Laws.Entries.{brought}
 use Rattle.demands_run.specs.Laws.Telling.{told_cases}
 use Rattle.demands_run.specs.Laws.Loaded.{not_beyond}
 use Rattle.demands_log.specs.Laws.ByCases.{by_halt}
-use Rattle.demands.specs.InLimits.{EntryInLimits, StopInLimits, HaltInLimits, RunInLimits, StatementLimitsKept}
+use Rattle.demands.specs.InLimits.{EntryInLimits, HaltInLimits, RunInLimits, StatementLimitsKept}
 
 -- ---- the entries of a path
 
@@ -64,7 +59,6 @@ record Named (p : Plan) (e : Entry) : Type 0 where
   position : e.position ≤ last_position
   activity : e.activity < p.activities
   node : e.node < size_of p e.activity
-  unbegun : e.begun.0 ≡ 0
 
 abbrev AllNamed : Plan → List Entry → Type 0
 AllNamed p es = (e : Entry) → Among e es → Named p e
@@ -79,7 +73,7 @@ module _ (p : Plan) (limits : InLimits p) where
       let b = brought g.position (activity_number (move p.automaton t).output) (taken_by p t g).schedule 0 (emitted_by p (move p.automaton t).output) e m in
       let n = by_output (move p.automaton t).output (limits.moves t l).output 0 b.number b.within in
       let z : b.number ≡ 0 + b.number = omega arith in
-      subst (Named p) (sym b.entry) record { position = q; activity = n.0; node = subst (λ (k : ℕ). k < size_of p (activity_number (move p.automaton t).output)) z n.1; unbegun = refl }
+      subst (Named p) (sym b.entry) record { position = q; activity = n.0; node = subst (λ (k : ℕ). k < size_of p (activity_number (move p.automaton t).output)) z n.1 }
 
   -- no transition of a path that passes no limit is past the last position
   low_position : (k t : ℕ) (g : Progress) → (path_from p (suc k) (Next.Goes t) g).beyond ≡ false → g.position ≤ last_position
@@ -116,28 +110,21 @@ by_way P (Next.Waits e) c l f z k q = q
 record LoadingKept (l : Loading) : Type 0 where
   kept : RunInLimits l.run
 
-abbrev Entries : Plan → Clock → List Entry → Type 0
-Entries p last w = (i : ℕ) (e : Entry) → Holds w i e → EntryInLimits p last e
+abbrev Entries : Plan → List Entry → Type 0
+Entries p w = (i : ℕ) (e : Entry) → Holds w i e → EntryInLimits p e
 
--- they are in limits at a later reading too
-entries_later : (p : Plan) (last t : Clock) (w : List Entry) → last.0 ≤ t.0 → Entries p last w → Entries p t w
-entries_later p last t w l h i e q =
-    let r = h i e q in
-    let b = r.begun in
-    record { position = r.position; activity = r.activity; node = r.node; start = r.start; end = r.end; begun = omega arith }
-
-placed_kept : (p : Plan) (limits : InLimits p) (t : ℕ) (g : Progress) → t < p.automaton.count → ProgressIn p g → (path_from p longest_path (Next.Goes t) g).beyond ≡ false → (last : Clock) (w : List Entry) → Entries p last w
-    → Entries p last (placed w (path_from p longest_path (Next.Goes t) g).entries)
-placed_kept p limits t g l h b last w old i e q = ⊎_elim (λ k. old i e k) (λ k. new k.0.number k.0.listed k.1) (placed_only w es i e q)
+placed_kept : (p : Plan) (limits : InLimits p) (t : ℕ) (g : Progress) → t < p.automaton.count → ProgressIn p g → (path_from p longest_path (Next.Goes t) g).beyond ≡ false → (w : List Entry) → Entries p w
+    → Entries p (placed w (path_from p longest_path (Next.Goes t) g).entries)
+placed_kept p limits t g l h b w old i e q = ⊎_elim (λ k. old i e k) (λ k. new k.0.number k.0.listed k.1) (placed_only w es i e q)
   where
     es : List Entry
     es = (path_from p longest_path (Next.Goes t) g).entries
 
-    new : (k : ℕ) → k < length es → e ≡ get_or es k vacant → EntryInLimits p last e
+    new : (k : ℕ) → k < length es → e ≡ get_or es k vacant → EntryInLimits p e
     new k m z =
         let n = named_path p limits longest_path (Next.Goes t) g l h b (get_or es k vacant) (among_at vacant es k m) in
         let u = (loads p limits (Next.Goes t) g l h (pathed (path_from p longest_path (Next.Goes t) g)) refl).times b k (subst (λ (x : Entry). is_held x.phase ≡ true) z q.held) in
-        subst (EntryInLimits p last) (sym z) record { position = n.position; activity = n.activity; node = n.node; start = u.0; end = u.1; begun = (let y = n.unbegun in omega arith) }
+        subst (EntryInLimits p) (sym z) record { position = n.position; activity = n.activity; node = n.node; start = u.0; end = u.1 }
 
 further_kept : (k : ℕ) (run : Run) → RunInLimits run → LoadingKept (further k run)
 unfolding further load
@@ -155,8 +142,7 @@ further_kept (suc k) run r =
           psi = r.psi;
           slack = r.slack;
           progress = (loads run.plan r.plan (Next.Goes t) run.progress l r.progress (pathed (path_from run.plan longest_path (Next.Goes t) run.progress)) refl).limits b;
-          window = placed_kept run.plan r.plan t run.progress l r.progress b run.last run.window r.window;
-          busy = r.busy;
+          window = placed_kept run.plan r.plan t run.progress l r.progress b run.window r.window;
           halt = r.halt;
         }
 
@@ -165,36 +151,29 @@ further_kept (suc k) run r =
 record AnswerKept (a : Answer) : Type 0 where
   kept : RunInLimits a.run
 
--- of a call whose reading is not below the last one
-module _ (run : Run) (r : RunInLimits run) (t : Clock) (rises : run.last.0 ≤ t.0) where
-  later : Entries run.plan t run.window
-  later = entries_later run.plan run.last t run.window rises r.window
-
-  busy_later : (x : ℕ) → x < run.plan.peripherals → get_or run.busy x 0 ≤ t.0
-  busy_later x l = let b = r.busy x l in omega arith
-
-  next : (h : Halt) (g : Progress) (w : List Entry) → HaltInLimits h → ProgressIn run.plan g → Entries run.plan t w → RunInLimits (heard run t h g w)
-  next h g w halt progress window = record { plan = r.plan; psi = r.psi; slack = r.slack; progress = progress; window = window; busy = busy_later; halt = halt }
+module _ (run : Run) (r : RunInLimits run) where
+  next : (t : Clock) (h : Halt) (g : Progress) (w : List Entry) → HaltInLimits h → ProgressIn run.plan g → Entries run.plan w → RunInLimits (heard run t h g w)
+  next t h g w halt progress window = record { plan = r.plan; psi = r.psi; slack = r.slack; progress = progress; window = window; halt = halt }
 
   -- the node that a stop names
   names : (i : ℕ) (e : Entry) → Holds run.window i e → (e.position ≤ last_position) × (e.node < 64)
   names i e h = let l = r.window i e h in (l.position, (let u = (r.plan.sizes e.activity l.activity).1 in let v = l.node in omega arith))
 
-  asked_kept : AnswerKept (asked run t)
+  asked_kept : (t : Clock) → AnswerKept (asked run t)
   unfolding asked
-  asked_kept =
+  asked_kept t =
       by_first (is_due run.psi t) (starts_before run.plan.nodes) (starts_order run.plan.nodes) run.window AnswerKept _ _
-      (λ i e f. record { kept = next Halt.Going run.progress _ tt r.progress (λ j x q. started i e f j x (stored_only run.window i (started_of t e) j x q)) })
-      (λ n. record { kept = next Halt.Going run.progress run.window tt r.progress later })
+      (λ i e f. record { kept = next t Halt.Going run.progress _ tt r.progress (λ j x q. started i e f j x (stored_only run.window i (started_of e) j x q)) })
+      (λ n. record { kept = next t Halt.Going run.progress run.window tt r.progress r.window })
     where
-      started : (i : ℕ) (e : Entry) → First (is_due run.psi t) (starts_before run.plan.nodes) run.window i e → (j : ℕ) (x : Entry) → ((j ≡ i) × (started_of t e ≡ x)) ⊎ ((j ≡ i → ⊥) × Holds run.window j x) → EntryInLimits run.plan t x
+      started : (i : ℕ) (e : Entry) → First (is_due run.psi t) (starts_before run.plan.nodes) run.window i e → (j : ℕ) (x : Entry) → ((j ≡ i) × (started_of e ≡ x)) ⊎ ((j ≡ i → ⊥) × Holds run.window j x) → EntryInLimits run.plan x
       started i e f j x (inl q) =
           let l = r.window i e (record { entry = f.stands; held = ap is_held ((due_tells run.psi t e).0 f.passes).0 }) in
-          subst (EntryInLimits run.plan t) q.1 record { position = l.position; activity = l.activity; node = l.node; start = l.start; end = l.end; begun = omega arith }
-      started i e f j x (inr q) = later j x q.1
+          subst (EntryInLimits run.plan) q.1 record { position = l.position; activity = l.activity; node = l.node; start = l.start; end = l.end }
+      started i e f j x (inr q) = r.window j x q.1
 
-  cleared_kept : (i : ℕ) (g : Progress) → ProgressIn run.plan g → RunInLimits (cleared run t i g)
-  cleared_kept i g h = next Halt.Going g (set run.window i vacant) tt h (λ j x q. later j x (cleared_only run.window i j x q).1)
+  cleared_kept : (t : Clock) (i : ℕ) (g : Progress) → ProgressIn run.plan g → RunInLimits (cleared run t i g)
+  cleared_kept t i g h = next t Halt.Going g (set run.window i vacant) tt h (λ j x q. r.window j x (cleared_only run.window i j x q).1)
 
   -- a report of a node that stands in the window
   reported_kept : (p n : ℕ) (f : ℕ → Entry → Answer) → ((i : ℕ) (e : Entry) → Holds run.window i e → AnswerKept (f i e)) → AnswerKept (reported run p n f)
@@ -202,29 +181,15 @@ module _ (run : Run) (r : RunInLimits run) (t : Clock) (rises : run.last.0 ≤ t
       by_first (is_node p n) by_start report_order run.window AnswerKept _ _
       (λ i e q. by_test AnswerKept (is_started e.phase) (f i e) (refuse run Refusal.NotStarted) (λ s. h i e (record { entry = q.stands; held = ((node_tells p n e).0 q.passes).0 })) (λ s. record { kept = r })) (λ q. record { kept = r })
 
-  -- the action at place i is complete
-  finished_kept : (i x : ℕ) (begun : Clock) → begun.0 ≤ run.last.0 → RunInLimits (finished run t i x begun)
-  finished_kept i x begun l =
-      let c = cleared_kept i run.progress r.progress in
-      record {
-        plan = c.plan;
-        psi = c.psi;
-        slack = c.slack;
-        progress = c.progress;
-        window = c.window;
-        busy = λ y m. set_each (λ n. n ≤ t.0) run.busy x (spent (get_or run.busy x 0) begun t) y (spent_low (get_or run.busy x 0) begun t (omega arith)) (busy_later y m);
-        halt = c.halt;
-      }
+  completed_by_kept : (t : Clock) (i : ℕ) (k : Kind) → AnswerKept (completed_by run t i k)
+  completed_by_kept t i (Kind.Action a x) = record { kept = cleared_kept t i run.progress r.progress }
+  completed_by_kept t i (Kind.Claim x) = record { kept = r }
+  completed_by_kept t i (Kind.Release x) = record { kept = r }
+  completed_by_kept t i (Kind.Event x) = record { kept = r }
 
-  completed_by_kept : (i : ℕ) (e : Entry) → Holds run.window i e → (k : Kind) → AnswerKept (completed_by run t i e k)
-  completed_by_kept i e h (Kind.Action a x) = record { kept = finished_kept i x e.begun (r.window i e h).begun }
-  completed_by_kept i e h (Kind.Claim x) = record { kept = r }
-  completed_by_kept i e h (Kind.Release x) = record { kept = r }
-  completed_by_kept i e h (Kind.Event x) = record { kept = r }
-
-  completed_kept : (p n : ℕ) → AnswerKept (completed run t p n)
+  completed_kept : (t : Clock) (p n : ℕ) → AnswerKept (completed run t p n)
   unfolding completed
-  completed_kept p n = reported_kept p n _ (λ i e h. completed_by_kept i e h (kind_of run e))
+  completed_kept t p n = reported_kept p n _ (λ i e h. completed_by_kept t i (kind_of run e))
 
   told_kept : (x : Entry) (e o : ℕ) → e < run.plan.events → o < outcomes_of run.plan e → ProgressIn run.plan (told_of run.progress e x o)
   told_kept x e o l has = record {
@@ -244,53 +209,41 @@ module _ (run : Run) (r : RunInLimits run) (t : Clock) (rises : run.last.0 ≤ t
 
   loaded_kept : (f : Failure) (next : Run) → RunInLimits next → AnswerKept (after_loading f next)
   loaded_kept Failure.None next h = record { kept = h }
-  loaded_kept Failure.Full next h = record { kept = record { plan = h.plan; psi = h.psi; slack = h.slack; progress = h.progress; window = h.window; busy = h.busy; halt = tt } }
-  loaded_kept Failure.Beyond next h = record { kept = record { plan = h.plan; psi = h.psi; slack = h.slack; progress = h.progress; window = h.window; busy = h.busy; halt = tt } }
+  loaded_kept Failure.Full next h = record { kept = record { plan = h.plan; psi = h.psi; slack = h.slack; progress = h.progress; window = h.window; halt = tt } }
+  loaded_kept Failure.Beyond next h = record { kept = record { plan = h.plan; psi = h.psi; slack = h.slack; progress = h.progress; window = h.window; halt = tt } }
 
-  learns_by_kept : (i : ℕ) (x : Entry) (o : ℕ) (k : Kind) → KindNames run.plan k → AnswerKept (learns_by run t i x o k)
-  learns_by_kept i x o (Kind.Action a y) n = record { kept = r }
-  learns_by_kept i x o (Kind.Claim y) n = record { kept = r }
-  learns_by_kept i x o (Kind.Release y) n = record { kept = r }
-  learns_by_kept i x o (Kind.Event e) n =
+  learns_by_kept : (t : Clock) (i : ℕ) (x : Entry) (o : ℕ) (k : Kind) → KindNames run.plan k → AnswerKept (learns_by run t i x o k)
+  learns_by_kept t i x o (Kind.Action a y) n = record { kept = r }
+  learns_by_kept t i x o (Kind.Claim y) n = record { kept = r }
+  learns_by_kept t i x o (Kind.Release y) n = record { kept = r }
+  learns_by_kept t i x o (Kind.Event e) n =
       by_test AnswerKept (ltb o (outcomes_of run.plan e)) (hears run t i x e o) (refuse run Refusal.OutcomeLacking)
-      (λ has. by_test AnswerKept (is_marker run.plan e) _ _ (λ m. record { kept = cleared_kept i run.progress r.progress })
-      (λ m. loaded_kept (further most_pending (after has)).failure (further most_pending (after has)).run (further_kept most_pending (after has) (cleared_kept i (told_of run.progress e x o) (told_kept x e o n (ltb-true _ _ has)))).kept))
+      (λ has. by_test AnswerKept (is_marker run.plan e) _ _ (λ m. record { kept = cleared_kept t i run.progress r.progress })
+      (λ m. loaded_kept (further most_pending (after has)).failure (further most_pending (after has)).run (further_kept most_pending (after has) (cleared_kept t i (told_of run.progress e x o) (told_kept x e o n (ltb-true _ _ has)))).kept))
       (λ has. record { kept = r })
     where
       after : ltb o (outcomes_of run.plan e) ≡ true → Run
       after has = cleared run t i (told_of run.progress e x o)
 
-  learns_kept : (p n o : ℕ) → AnswerKept (learns run t p n o)
+  learns_kept : (t : Clock) (p n o : ℕ) → AnswerKept (learns run t p n o)
   unfolding learns
-  learns_kept p n o = reported_kept p n _ (λ i e h. let l = r.window i e h in learns_by_kept i e o (kind_of run e) (r.plan.nodes e.activity e.node l.activity l.node).names)
+  learns_kept t p n o = reported_kept p n _ (λ i e h. let l = r.window i e h in learns_by_kept t i e o (kind_of run e) (r.plan.nodes e.activity e.node l.activity l.node).names)
 
-  -- 42 and 41
-  stopped_kept : (i : ℕ) (e : Entry) → Holds run.window i e → (s : Stop) → StopInLimits s → AnswerKept (stops run t s)
-  stopped_kept i e q s l = record { kept = next (Halt.Stopped s) run.progress run.window l r.progress later }
-
--- ---- the order of checks
-
-module _ (run : Run) (r : RunInLimits run) where
-  timely_kept : (t : Clock) (go : Answer) → (run.last.0 ≤ t.0 → AnswerKept go) → AnswerKept (timely run t go)
-  unfolding timely_by
+  timely_kept : (t : Clock) (go : Answer) → AnswerKept go → AnswerKept (timely run t go)
   timely_kept t go h =
-      by_test AnswerKept (is_below (moment_of run t)) _ _ (λ b. record { kept = r }) λ b.
-      let l = ltb-false t.0 run.last.0 b in
-      by_first (is_overdue run.psi t) ends_before ends_order run.window AnswerKept _ _
-      (λ i e f. let q : Holds run.window i e = record { entry = f.stands; held = ap is_held ((overdue_tells run.psi t e).0 f.passes).0 } in stopped_kept run r t l i e q (Stop.Overdue e.position e.node) (names run r t l i e q)) λ n.
-      by_first (is_late run.psi run.slack t) (starts_before run.plan.nodes) (starts_order run.plan.nodes) run.window AnswerKept _ _
-      (λ i e f. let q : Holds run.window i e = record { entry = f.stands; held = ap is_held ((late_tells run.psi t e run.slack).0 f.passes).0 } in stopped_kept run r t l i e q (Stop.Late e.position e.node) (names run r t l i e q))
-      (λ m. h l)
+      by_timely AnswerKept _ _ _ _ _ (record { kept = r })
+      (λ i e q. record { kept = next t _ run.progress run.window (names i e q) r.progress r.window })
+      (λ i e q. record { kept = next t _ run.progress run.window (names i e q) r.progress r.window }) h
 
-  called_kept : (t : Clock) (go : Answer) → (run.last.0 ≤ t.0 → AnswerKept go) → AnswerKept (called run t go)
+  called_kept : (t : Clock) (go : Answer) → AnswerKept go → AnswerKept (called run t go)
   called_kept t go h =
       by_test AnswerKept (run_in_limits run) _ _ (λ l. by_halt AnswerKept run.halt _ _ (λ s e. record { kept = r }) (λ e. timely_kept t go h)) (λ l. record { kept = r })
 
   call_kept : (c : Call) → AnswerKept (call_of run c)
   unfolding call_of ask_of completion_of outcome_of
-  call_kept (Call.Ask t) = called_kept t _ (asked_kept run r t)
-  call_kept (Call.Completion t p n) = called_kept t _ (λ l. completed_kept run r t l p n)
-  call_kept (Call.Outcome t p n o) = called_kept t _ (λ l. learns_kept run r t l p n o)
+  call_kept (Call.Ask t) = called_kept t _ (asked_kept t)
+  call_kept (Call.Completion t p n) = called_kept t _ (completed_kept t p n)
+  call_kept (Call.Outcome t p n o) = called_kept t _ (learns_kept t p n o)
 
 pub limits_kept : StatementLimitsKept
 limits_kept run c r = (call_kept run r c).kept

@@ -63,7 +63,7 @@ rising_different es rises k l hk hl (p, n) = go (dec_lt k l) (dec_lt l k)
 
 -- the run with the window v
 abbrev pub with_window : Run → List Entry → Run
-with_window run v = record { plan = run.plan; psi = run.psi; slack = run.slack; progress = run.progress; window = v; last = run.last; halt = run.halt; busy = run.busy }
+with_window run v = record { plan = run.plan; psi = run.psi; slack = run.slack; progress = run.progress; window = v; last = run.last; halt = run.halt }
 
 -- the nodes stand at positions before the next one
 abbrev pub Before : Progress → List Entry → Type 0
@@ -77,7 +77,7 @@ pub record Like (a b : Run) : Type 0 where
 
 pub like_runs : (run other : Run) → OtherPlaces run other → Like run other
 like_runs run other h = record {
-  rest = rw (h.plan, h.psi, h.slack, h.progress, h.last, h.halt, h.busy);
+  rest = rw (h.plan, h.psi, h.slack, h.progress, h.last, h.halt);
   content = h.content;
   loaded = h.loaded;
 }

@@ -12,7 +12,7 @@ use Rattle.run.specs.declared.Run.{Run}
 use Rattle.run.specs.declared.Call.{Call}
 use Rattle.run.specs.declared.Reply.{Reply}
 use Rattle.run.specs.declared.Answer.{Answer}
-use Rattle.run.specs.Calls.{call_of, kind_of, reading_of}
+use Rattle.run.specs.Calls.{call_of, kind_of}
 use Rattle.run.specs.Opening.{open_of}
 use Rattle.demands_log.specs.Log.{Log, id, said, Accepts, Fails, StoppedIn}
 use Rattle.demands_log.specs.Log as Log
@@ -22,7 +22,7 @@ use Rattle.demands.specs.Conditions.{entry_at, NodeAt, Condition, Reports, Decid
 use Rattle.demands.specs.Laws.InLimitsIff.{in_limits_lem}
 use Rattle.demands.specs.Laws.Unchanged.{refused_unchanged, stop_kept}
 use Rattle.demands.specs.Laws.ConditionsMet.{met}
-use Rattle.demands.specs.Laws.ConditionsGive.{overdue_call, late_call, timely_call, asked_starts, asked_nothing, none_due, report_call, completed_window, marker_call}
+use Rattle.demands.specs.Laws.ConditionsGive.{overdue_call, late_call, timely_call, asked_starts, asked_nothing, none_due, report_call, completed_action, marker_call}
 use Rattle.demands.specs.Laws.AfterCalls.{After, going_stopped, after_call, after_opening}
 use Rattle.demands.specs.Laws.ByLogConditions.{stopped_by_lem}
 pub use Rattle.demands.specs.Laws.LowestPlaces.{lowest_places, outcome_places, first_places}
@@ -38,20 +38,20 @@ window_of a = a.run.window
 module _ (run : Run) where
   -- what a call does to the places that hold nodes
   abbrev Stays : Call → Type 0
-  Stays c = (i : ℕ) (e : Entry) → Holds run.window i e → Kept (call_of run c).run.window i (reading_of c) e ⊎ ReportedAt run c i
+  Stays c = (i : ℕ) (e : Entry) → Holds run.window i e → Kept (call_of run c).run.window i e ⊎ ReportedAt run c i
 
   same_window : (c : Call) → (call_of run c).run.window ≡ run.window → Stays c
   same_window c q i e h = inl (inl (subst (λ (w : List Entry). Holds w i e) (sym q) h))
 
   -- ask starts the node at place j
-  started_here : (t : Clock) (i : ℕ) (e : Entry) → Holds run.window i e → Holds (set run.window i (started_of t (entry_at run i))) i (started_of t e)
-  started_here t i e h = rw h.entry (stored_here run.window i (started_of t e) (holds_within run.window i e h) refl)
+  started_here : (i : ℕ) (e : Entry) → Holds run.window i e → Holds (set run.window i (started_of (entry_at run i))) i (started_of e)
+  started_here i e h = rw h.entry (stored_here run.window i (started_of e) (holds_within run.window i e h) refl)
 
-  starts_at : (t : Clock) (j : ℕ) → (call_of run (Call.Ask t)).run.window ≡ set run.window j (started_of t (entry_at run j)) → Stays (Call.Ask t)
-  starts_at t j q i e h =
-      inl (subst (λ (w : List Entry). Kept w i t e) (sym q)
-      (⊎_elim (λ s. inr (subst (λ (k : ℕ). Holds (set run.window k (started_of t (entry_at run k))) i (started_of t e)) s (started_here t i e h)))
-      (λ d. inl (stored_kept run.window j (started_of t (entry_at run j)) i e d h))
+  starts_at : (c : Call) (j : ℕ) → (call_of run c).run.window ≡ set run.window j (started_of (entry_at run j)) → Stays c
+  starts_at c j q i e h =
+      inl (subst (λ (w : List Entry). Kept w i e) (sym q)
+      (⊎_elim (λ s. inr (subst (λ (k : ℕ). Holds (set run.window k (started_of (entry_at run k))) i (started_of e)) s (started_here i e h)))
+      (λ d. inl (stored_kept run.window j (started_of (entry_at run j)) i e d h))
       (same_or_other i j)))
 
   -- place j is reported, and the others keep their nodes
@@ -65,13 +65,13 @@ module _ (run : Run) where
   stays_learns t p n o j x l y = reports_at (Call.Outcome t p n o) j l.learns.reports y (one_by_one_kept (outcome_places run t p n o j x l))
 
   stays_asked : (c : Call) (r : Reply) → Asks run c r → Stays c
-  stays_asked _ _ (Asks.starts {t} j h f) = starts_at t j (ap window_of (timely_call run (Call.Ask t) h ∙ asked_starts run t j f))
+  stays_asked _ _ (Asks.starts {t} j h f) = starts_at (Call.Ask t) j (ap window_of (timely_call run (Call.Ask t) h ∙ asked_starts run t j f))
   stays_asked _ _ (Asks.done {t} h e) = same_window (Call.Ask t) (ap window_of (timely_call run (Call.Ask t) h ∙ asked_nothing run t (none_due run t e)))
   stays_asked _ _ (Asks.waits {t} h n e) = same_window (Call.Ask t) (ap window_of (timely_call run (Call.Ask t) h ∙ asked_nothing run t n))
 
   stays_taken : (c : Call) → (call_of run c).reply ≡ Reply.Taken → Takes run c → Stays c
   stays_taken _ y (Takes.completion {t} {p} {n} j r k) =
-      let q = ap window_of (report_call run (Call.Completion t p n) j r) ∙ completed_window run t j (entry_at run j) (kind_of run (entry_at run j)) k in
+      let q = ap window_of (report_call run (Call.Completion t p n) j r ∙ completed_action run t j (kind_of run (entry_at run j)) k) in
       reports_at (Call.Completion t p n) j r (inl y) (λ i e h. subst (λ (w : List Entry). Holds w i e) (sym q) h)
   stays_taken _ y (Takes.outcome {t} {p} {n} {o} j x l f) = stays_learns t p n o j x l (inl y)
   stays_taken _ y (Takes.marker {t} {p} {n} {o} j x l one) =

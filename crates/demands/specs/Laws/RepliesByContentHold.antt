@@ -76,10 +76,10 @@ module _ (run : Run) (v : List Entry) (c : SameContent run.window v) (old : Befo
   -- ---- ask
 
   started_like : (t : Clock) (i j : ℕ) (e : Entry) → Holds run.window i e → Holds v j e
-      → Like (heard run t Halt.Going run.progress (set run.window i (started_of t e))) (heard other t Halt.Going run.progress (set v j (started_of t e)))
+      → Like (heard run t Halt.Going run.progress (set run.window i (started_of e))) (heard other t Halt.Going run.progress (set v j (started_of e)))
   started_like t i j e p q =
-      heard_like t Halt.Going run.progress _ _ (content_stored run.window v c i j e (started_of t e) p q (λ h. (refl, refl)))
-      (λ k x h. ⊎_elim (λ s. subst (λ (y : Entry). y.position < run.progress.position) s.1 (old i e p)) (λ s. old k x s.1) (stored_only run.window i (started_of t e) k x h))
+      heard_like t Halt.Going run.progress _ _ (content_stored run.window v c i j e (started_of e) p q (λ h. (refl, refl)))
+      (λ k x h. ⊎_elim (λ s. subst (λ (y : Entry). y.position < run.progress.position) s.1 (old i e p)) (λ s. old k x s.1) (stored_only run.window i (started_of e) k x h))
 
   asked_like : (t : Clock) → LikeAnswer (asked run t) (asked other t)
   unfolding asked
@@ -102,10 +102,8 @@ module _ (run : Run) (v : List Entry) (c : SameContent run.window v) (old : Befo
         heard_like t Halt.Going g _ _ (content_stored run.window v c i j e vacant p q (λ h. absurd (true≢false (sym h))))
         (λ k x h. let b = old k x (cleared_only run.window i k x h).1 in omega arith)
 
-    completed_by_like : (k : Kind) → LikeAnswer (completed_by run t i e k) (completed_by other t j e k)
-    completed_by_like (Kind.Action a x) =
-        let l = cleared_like run.progress refl in
-        record { reply = refl; run = record { rest = refl; content = l.content; loaded = l.loaded } }
+    completed_by_like : (k : Kind) → LikeAnswer (completed_by run t i k) (completed_by other t j k)
+    completed_by_like (Kind.Action a x) = record { reply = refl; run = cleared_like run.progress refl }
     completed_by_like (Kind.Claim r) = same (Reply.Refused Refusal.OtherKind)
     completed_by_like (Kind.Release r) = same (Reply.Refused Refusal.OtherKind)
     completed_by_like (Kind.Event x) = same (Reply.Refused Refusal.OtherKind)
@@ -135,10 +133,10 @@ module _ (run : Run) (v : List Entry) (c : SameContent run.window v) (old : Befo
   same_limits = tells_same (tells_run run) (tells_iff (from, to) (tells_run other))
     where
       to : RunInLimits run → RunInLimits other
-      to r = record { plan = r.plan; psi = r.psi; slack = r.slack; progress = r.progress; window = λ j e h. let b = c.back j e h in r.window b.0 e b.1; busy = r.busy; halt = r.halt }
+      to r = record { plan = r.plan; psi = r.psi; slack = r.slack; progress = r.progress; window = λ j e h. let b = c.back j e h in r.window b.0 e b.1; halt = r.halt }
 
       from : RunInLimits other → RunInLimits run
-      from r = record { plan = r.plan; psi = r.psi; slack = r.slack; progress = r.progress; window = λ i e h. let b = c.there i e h in r.window b.0 e b.1; busy = r.busy; halt = r.halt }
+      from r = record { plan = r.plan; psi = r.psi; slack = r.slack; progress = r.progress; window = λ i e h. let b = c.there i e h in r.window b.0 e b.1; halt = r.halt }
 
   timely_like : (t : Clock) (go on : Answer) → LikeAnswer go on → LikeAnswer (timely run t go) (timely other t on)
   unfolding timely_by

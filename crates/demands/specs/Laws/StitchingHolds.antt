@@ -18,7 +18,7 @@ use Rattle.run.specs.declared.Call.{Call}
 use Rattle.run.specs.declared.Reply.{Reply}
 use Rattle.run.specs.declared.Opening.{Opening}
 use Rattle.run.specs.Opening.{open_of}
-use Rattle.demands_log.specs.Log.{Id, Log, Always, reading, Starts, Started, Reports, Reported, Finishes, StartedAt}
+use Rattle.demands_log.specs.Log.{Id, Log, Always, reading, Starts, Started, Reports, Reported, Finishes}
 use Rattle.demands_log.specs.Drive.{Driven}
 use Rattle.demands_theory.specs.Nodes.{whose, Work, EmitsAt}
 use Rattle.demands_theory.specs.TheWord.{state_after, whole_of, TheWord}
@@ -29,7 +29,7 @@ use Rattle.demands.specs.Accepted.{Bytes}
 use Rattle.demands.specs.Verdicts.{Judged}
 use Rattle.demands.specs.Openings.{OpensBy}
 use Rattle.demands.specs.Demand3.{Demand3, driven_by}
-use Rattle.demands.specs.Stitching.{processed_in, EndsInDone, NamedWith, SameStitching, log_after, StatementSame, StatementSameOutcomes, StatementProcessed, StatementStartReading}
+use Rattle.demands.specs.Stitching.{processed_in, EndsInDone, StartedAt, NamedWith, SameStitching, log_after, StatementSame, StatementSameOutcomes, StatementProcessed, StatementStartReading}
 use Rattle.demands.specs.Laws.VerdictsHold.{verdict, handed_on}
 use Rattle.demands.specs.Laws.OpeningsHold.{opening_by}
 use Rattle.demands.specs.Laws.Demand3Holds.{demand_3}

@@ -68,15 +68,15 @@ right_reported run p n f h =
     by_found (RightOf run) (first (is_node p n) by_start 0 run.window) _ _
     (λ i e. by_cond (RightOf run) (is_started e.phase) (f i e) (refuse run Refusal.NotStarted) (h i e) (record { right = refl })) (record { right = refl })
 
-right_completed_by : (run : Run) (t : Clock) (i : ℕ) (e : Entry) (k : Kind) → RightOf run (completed_by run t i e k)
-right_completed_by run t i e (Kind.Action a x) = record { right = tt }
-right_completed_by run t i e (Kind.Claim r) = record { right = refl }
-right_completed_by run t i e (Kind.Release r) = record { right = refl }
-right_completed_by run t i e (Kind.Event v) = record { right = refl }
+right_completed_by : (run : Run) (t : Clock) (i : ℕ) (k : Kind) → RightOf run (completed_by run t i k)
+right_completed_by run t i (Kind.Action a x) = record { right = tt }
+right_completed_by run t i (Kind.Claim r) = record { right = refl }
+right_completed_by run t i (Kind.Release r) = record { right = refl }
+right_completed_by run t i (Kind.Event e) = record { right = refl }
 
 right_completed : (run : Run) (t : Clock) (p n : ℕ) → RightOf run (completed run t p n)
 unfolding completed
-right_completed run t p n = right_reported run p n _ (λ i e. right_completed_by run t i e (kind_of run e))
+right_completed run t p n = right_reported run p n _ (λ i e. right_completed_by run t i (kind_of run e))
 
 right_loaded : (run next : Run) (f : Failure) → RightOf run (after_loading f next)
 right_loaded run next Failure.None = record { right = tt }

@@ -79,15 +79,15 @@ right_reported run t p n f h =
     by_found (RightOf t) (first (is_node p n) by_start 0 run.window) _ _
     (λ i e. by_cond (RightOf t) (is_started e.phase) (f i e) (refuse run Refusal.NotStarted) (h i e) (record { right = tt })) (record { right = tt })
 
-right_completed_by : (run : Run) (t : Clock) (i : ℕ) (e : Entry) (k : Kind) → RightOf t (completed_by run t i e k)
-right_completed_by run t i e (Kind.Action a x) = record { right = (refl, refl) }
-right_completed_by run t i e (Kind.Claim r) = record { right = tt }
-right_completed_by run t i e (Kind.Release r) = record { right = tt }
-right_completed_by run t i e (Kind.Event v) = record { right = tt }
+right_completed_by : (run : Run) (t : Clock) (i : ℕ) (k : Kind) → RightOf t (completed_by run t i k)
+right_completed_by run t i (Kind.Action a x) = record { right = (refl, refl) }
+right_completed_by run t i (Kind.Claim r) = record { right = tt }
+right_completed_by run t i (Kind.Release r) = record { right = tt }
+right_completed_by run t i (Kind.Event e) = record { right = tt }
 
 right_completed : (run : Run) (t : Clock) (p n : ℕ) → RightOf t (completed run t p n)
 unfolding completed
-right_completed run t p n = right_reported run t p n _ (λ i e. right_completed_by run t i e (kind_of run e))
+right_completed run t p n = right_reported run t p n _ (λ i e. right_completed_by run t i (kind_of run e))
 
 right_loaded : (t : Clock) (next : Run) (f : Failure) → On t Halt.Going next → RightOf t (after_loading f next)
 right_loaded t next Failure.None e = record { right = e }

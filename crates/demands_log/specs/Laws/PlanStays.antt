@@ -69,11 +69,11 @@ module _ (run : Run) where
       (λ i e. by_cond Right (is_started e.phase) (f i e) (refuse run Refusal.NotStarted) (h i e) (record { stays = refl }))
       (record { stays = refl })
 
-  right_completed : (t : Clock) (i : ℕ) (e : Entry) (k : Kind) → Right (completed_by run t i e k)
-  right_completed t i e (Kind.Action a x) = record { stays = refl }
-  right_completed t i e (Kind.Claim r) = record { stays = refl }
-  right_completed t i e (Kind.Release r) = record { stays = refl }
-  right_completed t i e (Kind.Event v) = record { stays = refl }
+  right_completed : (t : Clock) (i : ℕ) (k : Kind) → Right (completed_by run t i k)
+  right_completed t i (Kind.Action a x) = record { stays = refl }
+  right_completed t i (Kind.Claim r) = record { stays = refl }
+  right_completed t i (Kind.Release r) = record { stays = refl }
+  right_completed t i (Kind.Event e) = record { stays = refl }
 
   right_loaded : (f : Failure) (next : Run) → next.plan ≡ run.plan → Right (after_loading f next)
   right_loaded Failure.None next e = record { stays = e }
@@ -106,7 +106,7 @@ module _ (run : Run) where
   right : (c : Call) → Right (call_of run c)
   unfolding call_of ask_of completion_of outcome_of completed learns
   right (Call.Ask t) = right_called t _ (right_asked t)
-  right (Call.Completion t p n) = right_called t _ (right_reported p n _ (λ i e. right_completed t i e (kind_of run e)))
+  right (Call.Completion t p n) = right_called t _ (right_reported p n _ (λ i e. right_completed t i (kind_of run e)))
   right (Call.Outcome t p n o) = right_called t _ (right_reported p n _ (λ i e. right_learns t i e o (kind_of run e)))
 
 pub plan_stays : (run : Run) (c : Call) → (call_of run c).run.plan ≡ run.plan

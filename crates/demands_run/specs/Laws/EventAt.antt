@@ -28,13 +28,13 @@ use Rattle.demands_run.specs.Laws.Bounds.{entry_within}
 use Rattle.demands_run.specs.Laws.Ways.{run_of}
 use Rattle.demands_run.specs.Laws.Kinds.{kind_is}
 
-module _ (p : Plan) (psi : Clock) (slack : ℕ) (given : Accepted p psi slack) (available : ℕ → ℕ) (log : Log) (is : List ℕ) (g : Progress) (w : List Entry) (last : Clock) (halt : Halt) (busy : List ℕ)
-    (good : Good p psi slack available log is (run_of p psi slack given available g w last halt busy))
-    (v : Invariant (world_of p available) machine psi.0 slack is log (run_of p psi slack given available g w last halt busy)) where
+module _ (p : Plan) (psi : Clock) (slack : ℕ) (given : Accepted p psi slack) (available : ℕ → ℕ) (log : Log) (is : List ℕ) (g : Progress) (w : List Entry) (last : Clock) (halt : Halt)
+    (good : Good p psi slack available log is (run_of p psi slack given available g w last halt))
+    (v : Invariant (world_of p available) machine psi.0 slack is log (run_of p psi slack given available g w last halt)) where
   pub path : Follows p p.automaton.initial is (state_after p is)
   path = takes_follows p log is good.stands.taken
 
-  module _ (i : ℕ) (e : Entry) (ev : ℕ) (held : Holds w i e) (kind : kind_of (run_of p psi slack given available g w last halt busy) e ≡ Kind.Event ev) where
+  module _ (i : ℕ) (e : Entry) (ev : ℕ) (held : Holds w i e) (kind : kind_of (run_of p psi slack given available g w last halt) e ≡ Kind.Event ev) where
     pub agrees : Agrees (world_of p available) is e
     agrees = v.accounts.agree i e held
 
@@ -46,7 +46,7 @@ module _ (p : Plan) (psi : Clock) (slack : ℕ) (given : Accepted p psi slack) (
 
     pub low : ev < p.events
     low =
-        let r = entry_within p.activities p.sizes last e held.held (subst (λ (x : Entry). entry_in_limits p.activities p.sizes last x ≡ true) held.entry (good.entries i)) in
+        let r = entry_within p.activities p.sizes e held.held (subst (λ (x : Entry). entry_in_limits p.activities p.sizes x ≡ true) held.entry (good.entries i)) in
         subst (KindNames p) kind (given.lawful.file.limits.nodes e.activity e.node r.activity r.node).names
 
     pub inside : e.position < length_of is

@@ -49,9 +49,9 @@ use Rattle.demands_run.specs.Laws.Sums.{sum, sum_falls, sum_has}
 use Rattle.demands_run.specs.Laws.Onward.{Heard, heard_if, stuck_if}
 
 module _ (p : Plan) (lawful : Lawful p) (automaton : MeetsAutomaton p) (available : ℕ → ℕ) (log : Log) (base : List ℕ) (v : List Entry) (laws : EngineLaws)
-    (psi : Clock) (slack : ℕ) (last : Clock) (halt : Halt) (busy : List ℕ) where
+    (psi : Clock) (slack : ℕ) (last : Clock) (halt : Halt) where
   abbrev pub run_at : Progress → List Entry → Run
-  run_at g w = record { plan = p; psi = psi; slack = slack; progress = g; window = w; last = last; halt = halt; busy = busy }
+  run_at g w = record { plan = p; psi = psi; slack = slack; progress = g; window = w; last = last; halt = halt }
 
   abbrev In : List ℕ → Progress → List Entry → Type 0
   In us g w = Loaded p lawful automaton available log base v us g w

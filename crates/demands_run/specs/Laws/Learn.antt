@@ -1,6 +1,6 @@
 -- An accepted outcome goes its way: it is stored, and then as many paths are loaded as the log tells of.
 use Rattle.std.specs.Prelude.{◌≡◌, refl, true, List, [], ◌∷◌, ℕ, ◌≤◌, ◌<◌, ltb, length, get_or, set}
-use Rattle.std.proofs.Common.{sym, ap, ◌∙◌, subst, true≢false, inl, inr, ⊎_elim, arith, ltb-true, length-set}
+use Rattle.std.proofs.Common.{sym, ap, ◌∙◌, subst, inl, inr, ⊎_elim, arith, ltb-true, length-set}
 use Rattle.std.proofs.Math.Decide.{ℕ_discrete}
 use Rattle.time.specs.declared.Clock.{Clock}
 use Rattle.plan.specs.Plan.{outcomes_of}
@@ -49,8 +49,7 @@ use Rattle.demands_theory.specs.Laws.World.{old_position, new_start}
 use Rattle.demands_theory.specs.Laws.OfRun.{machine}
 use Rattle.demands_run.specs.Laws.Engine.{EngineLaws}
 use Rattle.demands_run.specs.Laws.Stands.{Stands, Accepted, Good}
-use Rattle.demands_run.specs.Laws.Bounds.{vacant_passes, entry_later}
-use Rattle.demands_run.specs.Laws.Busy.{busied_later}
+use Rattle.demands_run.specs.Laws.Bounds.{vacant_passes}
 use Rattle.demands_run.specs.Laws.Ways.{run_of, Calm, Goes, Learning}
 use Rattle.demands_run.specs.Laws.Counts.{pending_length, pending_few}
 use Rattle.demands_run.specs.Laws.Loaded.{Loaded}
@@ -73,25 +72,25 @@ failed_limits Failure.None = refl
 failed_limits Failure.Full = refl
 failed_limits Failure.Beyond = refl
 
-module _ (laws : EngineLaws) (p : Plan) (psi : Clock) (slack : ℕ) (given : Accepted p psi slack) (available : ℕ → ℕ) (log : Log) (is : List ℕ) (g : Progress) (w : List Entry) (last : Clock) (halt : Halt) (busy : List ℕ)
-    (good : Good p psi slack available log is (run_of p psi slack given available g w last halt busy))
-    (v : Invariant (world_of p available) machine psi.0 slack is log (run_of p psi slack given available g w last halt busy)) where
+module _ (laws : EngineLaws) (p : Plan) (psi : Clock) (slack : ℕ) (given : Accepted p psi slack) (available : ℕ → ℕ) (log : Log) (is : List ℕ) (g : Progress) (w : List Entry) (last : Clock) (halt : Halt)
+    (good : Good p psi slack available log is (run_of p psi slack given available g w last halt))
+    (v : Invariant (world_of p available) machine psi.0 slack is log (run_of p psi slack given available g w last halt)) where
   abbrev W : World
   W = world_of p available
 
   abbrev run : Run
-  run = run_of p psi slack given available g w last halt busy
+  run = run_of p psi slack given available g w last halt
 
   path : Follows p p.automaton.initial is (state_after p is)
-  path = EventAt.path p psi slack given available log is g w last halt busy good v
+  path = EventAt.path p psi slack given available log is g w last halt good v
 
-  module _ (t : Clock) (i : ℕ) (e : Entry) (ev o : ℕ) (going : halt ≡ Halt.Going) (calm : Calm p psi slack given available log is g w last halt busy good t) (held : Holds w i e) (started : is_started e.phase ≡ true)
+  module _ (t : Clock) (i : ℕ) (e : Entry) (ev o : ℕ) (going : halt ≡ Halt.Going) (calm : Calm p psi slack given available log is g w last halt good t) (held : Holds w i e) (started : is_started e.phase ≡ true)
       (kind : kind_of run e ≡ Kind.Event ev) (has : ltb o (outcomes_of p ev) ≡ true) where
     abbrev c : Call
     c = Call.Outcome t e.position e.node o
 
     agrees : Agrees W is e
-    agrees = EventAt.agrees p psi slack given available log is g w last halt busy good v i e ev held kind
+    agrees = EventAt.agrees p psi slack given available log is g w last halt good v i e ev held kind
 
     unstopped : StoppedIn log → ⊥
     unstopped = (v.clock going).unstopped
@@ -100,13 +99,13 @@ module _ (laws : EngineLaws) (p : Plan) (psi : Clock) (slack : ℕ) (given : Acc
     before = good.whole (λ q. unstopped (failed_stopped log q))
 
     event : Is (whole_of p is) (whose (id_of e)) (Kind.Event ev)
-    event = EventAt.event p psi slack given available log is g w last halt busy good v i e ev held kind
+    event = EventAt.event p psi slack given available log is g w last halt good v i e ev held kind
 
     low : ev < p.events
-    low = EventAt.low p psi slack given available log is g w last halt busy good v i e ev held kind
+    low = EventAt.low p psi slack given available log is g w last halt good v i e ev held kind
 
     inside : e.position < length_of is
-    inside = EventAt.inside p psi slack given available log is g w last halt busy good v i e ev held kind
+    inside = EventAt.inside p psi slack given available log is g w last halt good v i e ev held kind
 
     accepts : (f : Failure) → Accepts (reply_after f) log
     accepts Failure.None = tt
@@ -140,11 +139,11 @@ module _ (laws : EngineLaws) (p : Plan) (psi : Clock) (slack : ℕ) (given : Acc
         agree = λ j x q. v.accounts.agree j x (cleared_only w i j x q).1;
         once = cleared_once w i (λ j k x y q r z. v.accounts.distinct j k x y q r (λ n. record { position = z.0 n; node = z.1 n }));
         all = λ x n. inl n;
-        entries = λ last q. q;
+        entries = stored_each (λ x. entry_in_limits p.activities p.sizes x ≡ true) w i vacant good.entries (vacant_passes p.activities p.sizes);
         long = length-set w i vacant ∙ good.long;
       }
 
-      few : told p given.lawful given.automaton available log1 is w1 laws psi slack t Halt.Going busy g1 ≤ most_pending
+      few : told p given.lawful given.automaton available log1 is w1 laws psi slack t Halt.Going g1 ≤ most_pending
       few =
           let u = sum_at_most p.events 8 (λ e. tolds (queue_of g1 e)) (λ e m.
           let a = tolds_few (queue_of g1 e) in
@@ -172,12 +171,12 @@ module _ (laws : EngineLaws) (p : Plan) (psi : Clock) (slack : ℕ) (given : Acc
       old_report : (x : Id) → Reported log1 x → x.position < length_of is
       old_report x = ⊎_elim (λ r. subst (λ (z : Id). z.position < length_of is) r.0 inside) (λ r. old_position p given.lawful available is (state_after p is) path x (v.accounts.reported_node x r))
 
-      loads : Furthered p given.lawful given.automaton available log1 is w1 laws psi slack t Halt.Going busy is g1 l
+      loads : Furthered p given.lawful given.automaton available log1 is w1 laws psi slack t Halt.Going is g1 l
       loads =
-          further_loads p given.lawful given.automaton available log1 is w1 laws psi slack t Halt.Going busy (told_once log1 reports_once) unreported held_still old_report
+          further_loads p given.lawful given.automaton available log1 is w1 laws psi slack t Halt.Going (told_once log1 reports_once) unreported held_still old_report
           most_pending is g1 w1 start good.rests few
 
-      after_loading_lem : l.failure ≡ f → Good p psi slack available log1 loads.word (run_of p psi slack given available loads.progress loads.window t (halt_after f) busy)
+      after_loading_lem : l.failure ≡ f → Good p psi slack available log1 loads.word (run_of p psi slack given available loads.progress loads.window t (halt_after f))
       after_loading_lem q =
           let x = loads in
           let e = subst (EndsAt p available log1 x.word) q (loads_end p available log1 is x.word l.failure x.says) in
@@ -191,11 +190,9 @@ module _ (laws : EngineLaws) (p : Plan) (psi : Clock) (slack : ℕ) (given : Acc
             whole = ends_whole p available log1 x.word c log f e;
             beyond = ends_beyond p available log1 x.word f e;
             full = ends_full p available log1 x.word f e;
-            entries = x.loaded.entries t (stored_each (λ y. entry_in_limits p.activities p.sizes t y ≡ true) w i vacant (λ j. entry_later p.activities p.sizes last t calm.rises (get_or w j vacant) (good.entries j)) (vacant_passes p.activities p.sizes t));
+            entries = x.loaded.entries;
             long = x.loaded.long;
             halt = failed_limits f;
-            busied = busied_later p log w last busy good.busied c (reply_after f) (λ y. refl) x.window t calm.rises
-                (λ j y q s. ⊎_elim (λ r. inl (cleared_only w i j y r).1) (λ r. absurd (true≢false (sym s ∙ r.0))) (x.loaded.only j y q));
           }
 
       -- what is heard first is the outcome of this call
@@ -208,7 +205,7 @@ module _ (laws : EngineLaws) (p : Plan) (psi : Clock) (slack : ℕ) (given : Acc
       not_told d x u n (waits b m none) old k = none x u (subst (λ (z : ℕ). Oldest p is z x) (waits_same (sym n ∙ m)) old) k
 
       -- nothing that is loaded starts before the reported event's completion
-      held_back : (word : List ℕ) → Onto p given.lawful given.automaton available log1 is w1 laws psi slack t Halt.Going busy is g1 word → Follows p p.automaton.initial word (state_after p word)
+      held_back : (word : List ℕ) → Onto p given.lawful given.automaton available log1 is w1 laws psi slack t Halt.Going is g1 word → Follows p p.automaton.initial word (state_after p word)
           → (y : Entry) → Agrees W word y → length_of is ≤ y.position → e.end.0 ≤ y.start.0
       held_back word still q y a m = absurd (let u = old_position p given.lawful available is (state_after p is) path (id_of y) a.node in omega arith)
       held_back word (hearing {t = n} s h b) q y a m =
@@ -220,7 +217,7 @@ module _ (laws : EngineLaws) (p : Plan) (psi : Clock) (slack : ℕ) (given : Acc
           omega arith
 
       -- the whole way, from the run that loading hands back
-      way : (x : Furthered p given.lawful given.automaton available log1 is w1 laws psi slack t Halt.Going busy is g1 l) → Way.Loads W (Holds w) (Holds x.window) i e.end.0 is x.word
+      way : (x : Furthered p given.lawful given.automaton available log1 is w1 laws psi slack t Halt.Going is g1 l) → Way.Loads W (Holds w) (Holds x.window) i e.end.0 is x.word
       way x = record {
         extends = x.loaded.grows;
         kept = λ j y n q. x.loaded.kept j y (stored_kept w i vacant j y n q);
@@ -234,32 +231,32 @@ module _ (laws : EngineLaws) (p : Plan) (psi : Clock) (slack : ℕ) (given : Acc
         all = x.loaded.all;
       }
 
-    learnt_way : (f : Failure) → l.failure ≡ f → Goes p psi slack given available log is g w last halt busy good c (after_loading f l.run)
+    learnt_way : (f : Failure) → l.failure ≡ f → Goes p psi slack given available log is g w last halt good c (after_loading f l.run)
     learnt_way Failure.None q =
         let x = loads Failure.None in
-        subst (λ (r : Run). Goes p psi slack given available log is g w last halt busy good c (after_loading Failure.None r)) (sym x.same) (
+        subst (λ (r : Run). Goes p psi slack given available log is g w last halt good c (after_loading Failure.None r)) (sym x.same) (
           x.word,
           learns i e Failure.None (record { going = going; last = refl; halt = refl }) calm held started (way Failure.None x),
           after_loading_lem Failure.None q,
         )
     learnt_way Failure.Full q =
         let x = loads Failure.Full in
-        subst (λ (r : Run). Goes p psi slack given available log is g w last halt busy good c (after_loading Failure.Full r)) (sym x.same) (
+        subst (λ (r : Run). Goes p psi slack given available log is g w last halt good c (after_loading Failure.Full r)) (sym x.same) (
           x.word,
           learns i e Failure.Full (record { going = going; last = refl; halt = refl }) calm held started (way Failure.Full x),
           after_loading_lem Failure.Full q,
         )
     learnt_way Failure.Beyond q =
         let x = loads Failure.Beyond in
-        subst (λ (r : Run). Goes p psi slack given available log is g w last halt busy good c (after_loading Failure.Beyond r)) (sym x.same) (
+        subst (λ (r : Run). Goes p psi slack given available log is g w last halt good c (after_loading Failure.Beyond r)) (sym x.same) (
           x.word,
           learns i e Failure.Beyond (record { going = going; last = refl; halt = refl }) calm held started (way Failure.Beyond x),
           after_loading_lem Failure.Beyond q,
         )
 
-  pub learning_says : (t : Clock) (i : ℕ) (e : Entry) (ev o : ℕ) → halt ≡ Halt.Going → Calm p psi slack given available log is g w last halt busy good t → Holds w i e → is_started e.phase ≡ true → kind_of run e ≡ Kind.Event ev → ltb o (outcomes_of p ev) ≡ true
+  pub learning_says : (t : Clock) (i : ℕ) (e : Entry) (ev o : ℕ) → halt ≡ Halt.Going → Calm p psi slack given available log is g w last halt good t → Holds w i e → is_started e.phase ≡ true → kind_of run e ≡ Kind.Event ev → ltb o (outcomes_of p ev) ≡ true
       → (us : List ℕ) × Loads p available (said (Call.Outcome t e.position e.node o) Reply.Taken ∷ log) is us (further most_pending (cleared run t i (told_of g ev e o))).failure
   learning_says t i e ev o going calm held started kind has = let x = loads t i e ev o going calm held started kind has Failure.None in (x.word, x.says)
 
-  pub learning : Learning p psi slack given available log is g w last halt busy good
+  pub learning : Learning p psi slack given available log is g w last halt good
   learning t i e ev o going calm held started kind has = learnt_way t i e ev o going calm held started kind has (further most_pending (cleared run t i (told_of g ev e o))).failure refl

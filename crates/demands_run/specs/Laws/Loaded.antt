@@ -6,7 +6,6 @@ use Rattle.basis.specs.Lists.{Among}
 use Rattle.basis.specs.Laws.Lists.{among_at, at_among}
 use Rattle.basis.specs.Laws.PartsHold.{length_part}
 use Rattle.time.specs.Time.{horizon}
-use Rattle.time.specs.declared.Clock.{Clock}
 use Rattle.time.specs.declared.Specified.{Specified}
 use Rattle.plan.specs.Plan.{move, emitted_by, past_node, size_of}
 use Rattle.plan.specs.Limits.{OutputNames}
@@ -99,8 +98,7 @@ module _ (p : Plan) (lawful : Lawful p) (automaton : MeetsAutomaton p) (availabl
     pub agree : (j : ℕ) (f : Entry) → Holds w j f → Agrees (world_of p available) us f
     pub once : Once w
     pub all : (x : Id) → (world_of p available).Node us x → (world_of p available).Node base x ⊎ Held (Holds w) x
-    -- and within the limits, at every last reading at which the window v is
-    pub entries : (last : Clock) → ((j : ℕ) → entry_in_limits p.activities p.sizes last (get_or v j vacant) ≡ true) → (j : ℕ) → entry_in_limits p.activities p.sizes last (get_or w j vacant) ≡ true
+    pub entries : (j : ℕ) → entry_in_limits p.activities p.sizes (get_or w j vacant) ≡ true
     pub long : length w ≡ 512
 
   module _ (laws : EngineLaws) (us : List ℕ) (g : Progress) (w : List Entry) (h : Loaded us g w) (t : ℕ) (next : Takes p log (t ∷ us)) (in-time : (taken_by p t g).beyond ≡ false) where
@@ -166,13 +164,13 @@ module _ (p : Plan) (lawful : Lawful p) (automaton : MeetsAutomaton p) (availabl
         let x = timed n l k in
         record { node = x.0; starts = x.1; completes = x.2; activity = emits_here n (move p.automaton t).output refl l }
 
-    new_within : (last : Clock) (n : ℕ) → n < length a → EntryWithin p.activities p.sizes last (loaded g.position number s n)
-    new_within last n l =
+    new_within : (n : ℕ) → n < length a → EntryWithin p.activities p.sizes (loaded g.position number s n)
+    new_within n l =
         let b = not_beyond p t g in-time in
         let x = named_here n (move p.automaton t).output (lawful.file.limits.moves t can.low).output l in
         let e = b.1 n l in
         let d = adv.steps.timed.ends n l in
-        record { position = b.0; activity = x.0; node = x.1; start = omega arith; end = e; begun = omega arith }
+        record { position = b.0; activity = x.0; node = x.1; start = omega arith; end = e }
 
     abbrev es : List Entry
     es = entries_by p t g
@@ -227,7 +225,7 @@ module _ (p : Plan) (lawful : Lawful p) (automaton : MeetsAutomaton p) (availabl
       agree = λ j f q. ⊎_elim (λ r. agrees_later W us (t ∷ us) f further (h.agree j f r)) (λ r. subst (Agrees W (t ∷ us)) (sym r.1) (each (Agrees W (t ∷ us)) new_agrees (get_or es r.0.number vacant) (new_at r.0.number r.0.listed))) (placed_only w es j f q);
       once = placed_once w es h.once (λ k l x y q. different g.position number s 0 a k l x y q.1) unheld;
       all = all_held room;
-      entries = λ last q. placed_each w es (λ e. entry_in_limits p.activities p.sizes last e ≡ true) (h.entries last q) (λ k l. each (λ e. entry_in_limits p.activities p.sizes last e ≡ true) (λ n m x. entry_passes p.activities p.sizes last (loaded g.position number s n) refl (new_within last n m)) (get_or es k vacant) (new_at k l));
+      entries = placed_each w es (λ e. entry_in_limits p.activities p.sizes e ≡ true) h.entries (λ k l. each (λ e. entry_in_limits p.activities p.sizes e ≡ true) (λ n m x. entry_passes p.activities p.sizes (loaded g.position number s n) refl (new_within n m)) (get_or es k vacant) (new_at k l));
       long = placed_length w es ∙ h.long;
     }
       where

@@ -1,5 +1,5 @@
 -- The report of a marker goes its way: the word stays, nothing is loaded, and the place is free again.
-use Rattle.std.specs.Prelude.{◌≡◌, refl, true, List, ◌∷◌, ℕ, get_or, set}
+use Rattle.std.specs.Prelude.{◌≡◌, refl, true, List, ◌∷◌, ℕ, set}
 use Rattle.std.proofs.Common.{sym, ◌∙◌, inl, inr, ltb-true, eqb-true, length-set}
 use Rattle.time.specs.declared.Clock.{Clock}
 use Rattle.plan.specs.declared.Plan.{Plan}
@@ -24,16 +24,15 @@ use Rattle.demands_theory.specs.Laws.Growth.{extends_self}
 use Rattle.demands_theory.specs.Laws.Replies.{not_going}
 use Rattle.demands_theory.specs.Laws.OfRun.{machine}
 use Rattle.demands_run.specs.Laws.Stands.{Accepted, Good}
-use Rattle.demands_run.specs.Laws.Bounds.{vacant_passes, entry_later}
-use Rattle.demands_run.specs.Laws.Busy.{busied_later}
+use Rattle.demands_run.specs.Laws.Bounds.{vacant_passes}
 use Rattle.demands_run.specs.Laws.Ways.{run_of, Marking}
 use Rattle.demands_run.specs.Laws.EventAt.{event, low, inside}
 use Rattle.demands_run.specs.Laws.Informed.{stands_marked}
 use Rattle.demands_run.specs.Laws.Apart.{stuck_marked}
 
-module _ (p : Plan) (psi : Clock) (slack : ℕ) (given : Accepted p psi slack) (available : ℕ → ℕ) (log : Log) (is : List ℕ) (g : Progress) (w : List Entry) (last : Clock) (halt : Halt) (busy : List ℕ)
-    (good : Good p psi slack available log is (run_of p psi slack given available g w last halt busy))
-    (v : Invariant (world_of p available) machine psi.0 slack is log (run_of p psi slack given available g w last halt busy)) where
+module _ (p : Plan) (psi : Clock) (slack : ℕ) (given : Accepted p psi slack) (available : ℕ → ℕ) (log : Log) (is : List ℕ) (g : Progress) (w : List Entry) (last : Clock) (halt : Halt)
+    (good : Good p psi slack available log is (run_of p psi slack given available g w last halt))
+    (v : Invariant (world_of p available) machine psi.0 slack is log (run_of p psi slack given available g w last halt)) where
   abbrev W : World
   W = world_of p available
 
@@ -47,15 +46,15 @@ module _ (p : Plan) (psi : Clock) (slack : ℕ) (given : Accepted p psi slack) (
     all = λ x n. inl n;
   }
 
-  pub marking : Marking p psi slack given available log is g w last halt busy good
+  pub marking : Marking p psi slack given available log is g w last halt good
   marking t i e ev o going calm held started kind has marker =
       (is, learns i e Failure.None (record { going = going; last = refl; halt = refl }) calm held started (loads_nothing i e.end.0), after)
     where
-      after : Good p psi slack available (said (Call.Outcome t e.position e.node o) Reply.Taken ∷ log) is (run_of p psi slack given available g (set w i vacant) t Halt.Going busy)
+      after : Good p psi slack available (said (Call.Outcome t e.position e.node o) Reply.Taken ∷ log) is (run_of p psi slack given available g (set w i vacant) t Halt.Going)
       after =
-          let at = event p psi slack given available log is g w last halt busy good v i e ev held kind in
-          let before = inside p psi slack given available log is g w last halt busy good v i e ev held kind in
-          let names = low p psi slack given available log is g w last halt busy good v i e ev held kind in
+          let at = event p psi slack given available log is g w last halt good v i e ev held kind in
+          let before = inside p psi slack given available log is g w last halt good v i e ev held kind in
+          let names = low p psi slack given available log is g w last halt good v i e ev held kind in
           record {
             same_plan = refl;
             same_psi = refl;
@@ -67,7 +66,6 @@ module _ (p : Plan) (psi : Clock) (slack : ℕ) (given : Accepted p psi slack) (
             beyond = λ z. absurd (not_going _ (sym z));
             full = λ z. absurd (not_going _ (sym z));
             long = length-set w i vacant ∙ good.long;
-            entries = stored_each (λ x. entry_in_limits p.activities p.sizes t x ≡ true) w i vacant (λ j. entry_later p.activities p.sizes last t calm.rises (get_or w j vacant) (good.entries j)) (vacant_passes p.activities p.sizes t);
+            entries = stored_each (λ x. entry_in_limits p.activities p.sizes x ≡ true) w i vacant good.entries (vacant_passes p.activities p.sizes);
             halt = refl;
-            busied = busied_later p log w last busy good.busied (Call.Outcome t e.position e.node o) Reply.Taken (λ y. refl) (set w i vacant) t calm.rises (λ j y q s. inl (cleared_only w i j y q).1);
           }

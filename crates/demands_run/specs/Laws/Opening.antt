@@ -1,14 +1,14 @@
 -- An accepted opening gives a good run: in limits, with the first path loaded and at rest.
 use Rattle.std.specs.Prelude.{◌≡◌, false, ◌||◌, ℕ, ◌*◌, ◌-◌, ◌≤◌, ◌<◌, ltb, eqb, get_or, replicate}
-use Rattle.std.proofs.Math.Path.{refl, ap, subst}
-use Rattle.std.proofs.Common.{sym, ◌∙◌, true≢false, inl, arith, length-append}
+use Rattle.std.proofs.Math.Path.{refl, ap}
+use Rattle.std.proofs.Common.{sym, ◌∙◌, subst, true≢false, inl, arith, length-append}
 use Rattle.std.proofs.Math.Bool.{true}
 use Rattle.std.proofs.Math.Logic.{⊎_elim}
 use mathlib.Core.List.{List, [], ◌∷◌, map}
 use Rattle.std.proofs.Math.Decide.{dec_lt}
 use borrow.Author.Tests.{ltb-false, eqb-true}
-use Rattle.std.proofs.Math.ListN.{length, length-replicate}
-use Rattle.std.proofs.lemmas.List.{length-map}
+use Rattle.std.proofs.Math.ListN.{length}
+use Rattle.std.proofs.lemmas.List.{length-map, length-replicate}
 use Rattle.basis.specs.Lists.{Among}
 use Rattle.basis.specs.Parts.{part}
 use Rattle.basis.specs.Inner.Tells.{Tells}
@@ -108,18 +108,11 @@ module _ (laws : EngineLaws) (p : Plan) (psi : Clock) (slack : ℕ) (given : Acc
   abbrev w : List Entry
   w = replicate 512 vacant
 
-  -- the last reading
-  abbrev first : Clock
-  first = record { 0 = 0 }
-
   none_pending : (e : ℕ) → pending_of g e ≡ 0
   none_pending e = all_same 16 e 0
 
   empty_queue : (e : ℕ) → queue_of g e ≡ []
   empty_queue e = ap (part no_instance g.pending (8 * e)) (none_pending e)
-
-  unused : (x : ℕ) → get_or (replicate 64 0) x 0 ≤ 0
-  unused x = let u : ◌≡◌ {A = ℕ} (get_or (replicate 64 0) x 0) 0 = all_same 64 x 0 in omega arith
 
   unheld : {A : Type 0} (j : ℕ) (e : Entry) → Holds w j e → A
   unheld j e h = absurd (true≢false (sym h.held ∙ ap (λ (x : Entry). is_held x.phase) (sym h.entry ∙ all_same 512 j vacant)))
@@ -165,7 +158,7 @@ module _ (laws : EngineLaws) (p : Plan) (psi : Clock) (slack : ℕ) (given : Acc
     agree = λ j f q. unheld j f q;
     once = λ i j e f q r s. unheld i e q;
     all = λ x n. inl n;
-    entries = λ last q. q;
+    entries = λ j. subst (λ (e : Entry). entry_in_limits p.activities p.sizes e ≡ true) (sym (all_same 512 j vacant)) (vacant_passes p.activities p.sizes);
     long = length-replicate 512 vacant;
   }
 
@@ -237,15 +230,9 @@ module _ (laws : EngineLaws) (p : Plan) (psi : Clock) (slack : ℕ) (given : Acc
             whole = λ nf. stuck_if p given.lawful given.automaton available [] r.word _ r.loaded.stands laws r.rests (λ t e. (heard_if p given.lawful given.automaton available [] r.word _ r.loaded.stands t e).told);
             beyond = λ e. absurd (not_going Stop.Beyond (sym e));
             full = λ e. absurd (not_going Stop.Full (sym e));
-            entries = r.loaded.entries first (λ j. subst (λ (e : Entry). entry_in_limits p.activities p.sizes first e ≡ true) (sym (all_same 512 j vacant)) (vacant_passes p.activities p.sizes first));
+            entries = r.loaded.entries;
             long = r.loaded.long;
             halt = refl;
-            busied = record {
-              sums = λ x l. all_same 64 x 0;
-              low = λ x l. unused x;
-              begun = λ i e h s. absurd (true≢false (sym s ∙ ⊎_elim (λ k. unheld i e k) (λ k. k.0) (r.loaded.only i e h)));
-              long = length-replicate {A = ℕ} 64 0;
-            };
           };
           going = refl;
           agree = r.loaded.agree;

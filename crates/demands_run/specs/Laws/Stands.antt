@@ -1,14 +1,12 @@
 -- What a run knows of itself after the calls of a log: it is in limits and keeps the opening's plan, Ψ and slack; its word is
 -- taken by what the log tells, up to a waiting or final state, within the limits of 44, and as far as it goes unless a loading has
--- failed, by the next path; where it stands is where the engine's way over that word leads; and its busy times are those of the log.
+-- failed, by the next path; and where it stands is where the engine's way over that word leads.
 use Rattle.std.specs.Prelude.{◌≡◌, true, List, ◌++◌, map, ℕ, ◌≤◌, ◌<◌, length, get_or}
 use Rattle.std.proofs.Common.{sym, ap, ◌∙◌}
 use Rattle.basis.specs.Lists.{Among}
 use Rattle.time.specs.Time.{horizon}
 use Rattle.time.specs.declared.Clock.{Clock}
 use Rattle.plan.specs.Plan.{outcomes_of}
-use Rattle.plan.specs.Limits.{node_at}
-use Rattle.plan.specs.declared.Kind.{Kind}
 use Rattle.plan.specs.declared.Plan.{Plan}
 use Rattle.automaton.specs.Next.{next_of}
 use Rattle.automaton.specs.Rules.{MeetsAutomaton}
@@ -24,9 +22,7 @@ use Rattle.times.specs.declared.Instance.{Instance}
 use Rattle.times.specs.declared.Progress.{Progress}
 use Rattle.times_equal.specs.Laws.Seen.{seen, Whole}
 use Rattle.run_path.specs.Pathed.{ProgressIn}
-use Rattle.run_window.specs.Window.{vacant, is_started}
-use Rattle.run_window.specs.Places.{Holds}
-use Rattle.run_window.specs.declared.Entry.{Entry}
+use Rattle.run_window.specs.Window.{vacant}
 use Rattle.run_limits.specs.Window.{entry_in_limits}
 use Rattle.run.specs.Limits.{slack_in_limits, halt_in_limits}
 use Rattle.run.specs.declared.Run.{Run}
@@ -34,7 +30,6 @@ use Rattle.run_checks.specs.declared.Halt.{Halt}
 use Rattle.run_checks.specs.declared.Stop.{Stop}
 use Rattle.demands_log.specs.Log.{Id, id, Log, FailedIn}
 use Rattle.demands_log.specs.Log as Log
-use Rattle.demands_log.specs.Busy.{busy_in}
 use Rattle.demands_theory.specs.Nodes.{length_of}
 use Rattle.demands_theory.specs.TheWord.{state_after, next_after, whole_of, Rests, Takes, Stuck}
 use Rattle.demands_theory.specs.Loading.{PathBeyond, PathFull}
@@ -91,15 +86,6 @@ pub record Accepted (p : Plan) (psi : Clock) (slack : ℕ) : Type 0 where
   -- no "action or event with duration not above the slack" (33)
   pub long : Long p slack
 
--- ---- the busy times
-
--- they are those of the log, and exceed neither the last reading nor the start reading of an action on their peripheral that is started
-pub record Busied (p : Plan) (log : Log) (w : List Entry) (last : Clock) (busy : List ℕ) : Type 0 where
-  pub sums : (x : ℕ) → x < p.peripherals → get_or busy x 0 ≡ busy_in p x log
-  pub low : (x : ℕ) → x < p.peripherals → get_or busy x 0 ≤ last.0
-  pub begun : (i : ℕ) (e : Entry) → Holds w i e → is_started e.phase ≡ true → (a x : ℕ) → x < p.peripherals → (node_at p e.activity e.node).kind ≡ Kind.Action a x → get_or busy x 0 ≤ e.begun.0
-  pub long : length busy ≡ 64
-
 -- ---- the run
 
 pub record Good (p : Plan) (psi : Clock) (slack : ℕ) (available : ℕ → ℕ) (log : Log) (is : List ℕ) (run : Run) : Type 0 where
@@ -113,6 +99,5 @@ pub record Good (p : Plan) (psi : Clock) (slack : ℕ) (available : ℕ → ℕ)
   pub beyond : run.halt ≡ Halt.Stopped Stop.Beyond → PathBeyond p available log is
   pub full : run.halt ≡ Halt.Stopped Stop.Full → PathFull p available log is
   pub long : length run.window ≡ 512
-  pub entries : (j : ℕ) → entry_in_limits p.activities p.sizes run.last (get_or run.window j vacant) ≡ true
+  pub entries : (j : ℕ) → entry_in_limits p.activities p.sizes (get_or run.window j vacant) ≡ true
   pub halt : halt_in_limits run.halt ≡ true
-  pub busied : Busied p log run.window run.last run.busy

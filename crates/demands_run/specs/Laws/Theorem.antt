@@ -1,6 +1,6 @@
 -- Demand 3 of the run of document 01: after an accepted opening and any list of calls there is a word of the log, and only one,
 -- it has specified times, and the claim holds of it.
-use Rattle.std.specs.Prelude.{◌≡◌, true, List, [], ◌∷◌, ℕ, ◌<◌, ltb, length, get_or}
+use Rattle.std.specs.Prelude.{◌≡◌, true, List, [], ◌∷◌, ℕ, ltb, length, get_or}
 use Rattle.std.proofs.Common.{sym, ap, ◌∙◌, subst}
 use Rattle.time.specs.declared.Clock.{Clock}
 use Rattle.plan.specs.Plan.{outcomes_of}
@@ -17,7 +17,6 @@ use Rattle.run.specs.declared.Run.{Run}
 use Rattle.run_checks.specs.declared.Halt.{Halt}
 use Rattle.run.specs.declared.Reply.{Reply}
 use Rattle.demands_log.specs.Log.{FailedIn, said}
-use Rattle.demands_log.specs.Busy.{busy_in}
 use Rattle.run.specs.Opening.{open_of}
 use Rattle.run.specs.declared.Call.{Call}
 use Rattle.run.specs.declared.Opening.{Opening}
@@ -79,12 +78,8 @@ module _ (bytes : List ℕ) (are : Bytes bytes) (psi : Clock) (slack : ℕ) (ts 
   pub in_limits_lem : run_in_limits driven.run ≡ true
   in_limits_lem =
       let g = after.1 in
-      subst (λ (r : Run). run_in_limits r ≡ true) (λ i. record { plan = sym g.same_plan i; psi = sym g.same_psi i; slack = sym g.same_slack i; progress = driven.run.progress; window = driven.run.window; last = driven.run.last; halt = driven.run.halt; busy = driven.run.busy })
-      (run_passes plan psi slack well.given driven.run.progress driven.run.window driven.run.last driven.run.halt driven.run.busy g.stands.within g.entries g.halt g.busied.low)
-
-  -- the busy times are those of the log
-  pub busy_sums : (x : ℕ) → x < plan.peripherals → get_or driven.run.busy x 0 ≡ busy_in plan x driven.log
-  busy_sums = after.1.busied.sums
+      subst (λ (r : Run). run_in_limits r ≡ true) (λ i. record { plan = sym g.same_plan i; psi = sym g.same_psi i; slack = sym g.same_slack i; progress = driven.run.progress; window = driven.run.window; last = driven.run.last; halt = driven.run.halt })
+      (run_passes plan psi slack well.given driven.run.progress driven.run.window driven.run.last driven.run.halt g.stands.within g.entries g.halt)
 
   -- unless a loading has failed, the word of the log is loaded
   module _ (nf : FailedIn driven.log → ⊥) (is : List ℕ) (w : TheWord plan driven.log is) where

@@ -40,13 +40,13 @@ module _ (laws : EngineLaws) (p : Plan) (psi : Clock) (slack : ℕ) (given : Acc
   Stays log is c run = (later : List ℕ) × Way (world_of p available) machine psi.0 slack run (call_of run c).run is later c (call_of run c).reply × Good p psi slack available (said c (call_of run c).reply ∷ log) later (call_of run c).run
 
   module _ (log : Log) (is : List ℕ) (run : Run) (good : Good p psi slack available log is run) (v : Invariant (world_of p available) machine psi.0 slack is log run) where
-    same : run_of p psi slack given available run.progress run.window run.last run.halt run.busy ≡ run
-    same = λ i. record { plan = sym good.same_plan i; psi = sym good.same_psi i; slack = sym good.same_slack i; progress = run.progress; window = run.window; last = run.last; halt = run.halt; busy = run.busy }
+    same : run_of p psi slack given available run.progress run.window run.last run.halt ≡ run
+    same = λ i. record { plan = sym good.same_plan i; psi = sym good.same_psi i; slack = sym good.same_slack i; progress = run.progress; window = run.window; last = run.last; halt = run.halt }
 
-    here : Good p psi slack available log is (run_of p psi slack given available run.progress run.window run.last run.halt run.busy)
-    here = record { same_plan = refl; same_psi = refl; same_slack = refl; stands = good.stands; rests = good.rests; within = good.within; whole = good.whole; beyond = good.beyond; full = good.full; long = good.long; entries = good.entries; halt = good.halt; busied = good.busied }
+    here : Good p psi slack available log is (run_of p psi slack given available run.progress run.window run.last run.halt)
+    here = record { same_plan = refl; same_psi = refl; same_slack = refl; stands = good.stands; rests = good.rests; within = good.within; whole = good.whole; beyond = good.beyond; full = good.full; long = good.long; entries = good.entries; halt = good.halt }
 
-    v1 : Invariant (world_of p available) machine psi.0 slack is log (run_of p psi slack given available run.progress run.window run.last run.halt run.busy)
+    v1 : Invariant (world_of p available) machine psi.0 slack is log (run_of p psi slack given available run.progress run.window run.last run.halt)
     v1 = subst (Invariant (world_of p available) machine psi.0 slack is log) (sym same) v
 
     -- how loading after an accepted outcome ends
@@ -55,14 +55,14 @@ module _ (laws : EngineLaws) (p : Plan) (psi : Clock) (slack : ℕ) (given : Acc
         → (us : List ℕ) × Loads p available (said (Call.Outcome t e.position e.node o) Reply.Taken ∷ log) is us (further most_pending (cleared run t i (told_of run.progress ev e o))).failure
     loading_says t i e ev o going calm held started =
         subst (λ (r : Run). kind_of r e ≡ Kind.Event ev → ltb o (outcomes_of p ev) ≡ true → (us : List ℕ) × Loads p available (said (Call.Outcome t e.position e.node o) Reply.Taken ∷ log) is us (further most_pending (cleared r t i (told_of run.progress ev e o))).failure) same
-        (λ kind has. learning_says laws p psi slack given available log is run.progress run.window run.last run.halt run.busy here v1 t i e ev o going calm held started kind has)
+        (λ kind has. learning_says laws p psi slack given available log is run.progress run.window run.last run.halt here v1 t i e ev o going calm held started kind has)
 
   ways : (log : Log) (is : List ℕ) (run : Run) → Good p psi slack available log is run → Invariant (world_of p available) machine psi.0 slack is log run → (c : Call) → Stays log is c run
   ways log is run good v c =
       subst (Stays log is c) (same log is run good v)
-      (call_way p psi slack given available log is run.progress run.window run.last run.halt run.busy (here log is run good v)
-      (learning laws p psi slack given available log is run.progress run.window run.last run.halt run.busy (here log is run good v) (v1 log is run good v))
-      (marking p psi slack given available log is run.progress run.window run.last run.halt run.busy (here log is run good v) (v1 log is run good v)) (v1 log is run good v) c)
+      (call_way p psi slack given available log is run.progress run.window run.last run.halt (here log is run good v)
+      (learning laws p psi slack given available log is run.progress run.window run.last run.halt (here log is run good v) (v1 log is run good v))
+      (marking p psi slack given available log is run.progress run.window run.last run.halt (here log is run good v) (v1 log is run good v)) (v1 log is run good v) c)
 
   pub works : Works (world_of p available) machine psi.0 slack (Good p psi slack available)
   works = record {

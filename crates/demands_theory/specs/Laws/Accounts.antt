@@ -9,8 +9,6 @@ use Rattle.run_window.specs.declared.Entry.{Entry}
 use Rattle.run.specs.declared.Call.{Call}
 use Rattle.run.specs.declared.Reply.{Reply}
 use Rattle.demands_log.specs.Log.{Accepts, Always, Id, IsAsk, Log, Reported, Reports, Said, Started, Starts, id, reading, said}
-use Rattle.demands_log.specs.Busy.{By, start_by, start_of}
-use Rattle.demands_log.specs.Laws.Busy.{start_quiet, start_other, start_here}
 use Rattle.demands_theory.specs.Laws.Machine.{Held, Window, World}
 use Rattle.demands_theory.specs.Laws.Way.{Outlasts, InOrder, Agrees, RightActivity, Clear, Clears, Extends, Marks, New, Stays}
 use Rattle.demands_theory.specs.Nodes.{id_of}
@@ -95,9 +93,6 @@ pub record Accounts (W : World) (psi slack : ℕ) (word : W.Word) (log : Log) (w
   -- an entry is marked as started if the log has its start
   pub waiting : (i : ℕ) (e : Entry) → ws i e → is_started e.phase ≡ false → Started log (id_of e) → ⊥
   pub running : (i : ℕ) (e : Entry) → ws i e → is_started e.phase ≡ true → Started log (id_of e)
-  -- and keeps the reading of that ask, which came at its specified clock start or later
-  pub since : (i : ℕ) (e : Entry) → ws i e → is_started e.phase ≡ true → start_of log e.position e.node ≡ By e.activity e.begun.0
-  pub begun_from : (i : ℕ) (e : Entry) → ws i e → is_started e.phase ≡ true → psi + e.start.0 ≤ e.begun.0
   -- every start and every report of the log was right
   pub starts : Always (BegunAt W psi slack word) log
   pub reports : Always (EndedAt W psi word) log
@@ -115,8 +110,6 @@ module _ (W : World) (psi slack : ℕ) (word : W.Word) (log : Log) (ws : Window)
     reported_node = λ id. ⊎_elim (λ p. absurd (no_report c r log id nr p)) (λ p. a.reported_node id p);
     waiting = λ i e h s. ⊎_elim (λ p. ns (id_of e) p) (λ p. a.waiting i e ((q i e).0 h) s p);
     running = λ i e h s. inr (a.running i e ((q i e).0 h) s);
-    since = λ i e h s. start_quiet r ns (reading c) e.position e.node (start_of log e.position e.node) ∙ a.since i e ((q i e).0 h) s;
-    begun_from = λ i e h s. a.begun_from i e ((q i e).0 h) s;
     starts = (λ id p. absurd (ns id p), a.starts);
     reports = (λ id p. absurd (no_report c r log id nr p), a.reports);
     activities = (right_quiet W word r ns, a.activities);
@@ -142,7 +135,7 @@ module _ (W : World) (psi slack : ℕ) (word : W.Word) (log : Log) (ws : Window)
   pub accounts_begin : Outlasts W slack word →
       InOrder W word →
       ((i : ℕ) (e f : Entry) → ws i e → ws i f → e ≡ f) →
-      (last : ℕ) (t : Clock) → Clear psi slack last ws t.0 → (i : ℕ) (e : Entry) → ws i e → is_started e.phase ≡ false → psi + e.start.0 ≤ t.0 → (ws' : Window) → Marks ws ws' i e t →
+      (last : ℕ) (t : Clock) → Clear psi slack last ws t.0 → (i : ℕ) (e : Entry) → ws i e → is_started e.phase ≡ false → psi + e.start.0 ≤ t.0 → (ws' : Window) → Marks ws ws' i e →
       Accounts W psi slack word (said (Call.Ask t) (Reply.Start e.position e.activity e.node) ∷ log) ws'
   accounts_begin long orders one last t k i e h s d ws' q = record {
     agree = λ j f g. was_agree j f ((q j f).0 g);
@@ -153,21 +146,19 @@ module _ (W : World) (psi slack : ℕ) (word : W.Word) (log : Log) (ws : Window)
     reported_node = λ id. ⊎_elim (λ p. absurd p) (λ p. a.reported_node id p);
     waiting = λ j f g u. still_waiting j f ((q j f).0 g) u;
     running = λ j f g u. now_running j f ((q j f).0 g) u;
-    since = λ j f g u. now_since j f ((q j f).0 g) u;
-    begun_from = λ j f g u. now_from j f ((q j f).0 g) u;
     starts = (λ id p. subst (Begun W psi slack word log (Call.Ask t)) p first_time, a.starts);
     reports = (λ id p. absurd p, a.reports);
     activities = ((a.agree i e h).activity, a.activities);
   }
     where
       Was : ℕ → Entry → Type 0
-      Was j f = ((j ≡ i) × (f ≡ started_of t e)) ⊎ ((j ≡ i → ⊥) × ws j f)
+      Was j f = ((j ≡ i) × (f ≡ started_of e)) ⊎ ((j ≡ i → ⊥) × ws j f)
 
       was_agree : (j : ℕ) (f : Entry) → Was j f → Agrees W word f
       was_agree j f (inl p) = let g = a.agree i e h in subst (Agrees W word) (sym p.1) record { node = g.node; starts = g.starts; completes = g.completes; activity = g.activity }
       was_agree j f (inr p) = a.agree j f p.1
 
-      same_id : (f : Entry) → f ≡ started_of t e → id_of f ≡ id_of e
+      same_id : (f : Entry) → f ≡ started_of e → id_of f ≡ id_of e
       same_id f p = ap id_of p
 
       once_more : (j l : ℕ) (f g : Entry) → Was j f → Was l g → id_of f ≡ id_of g → j ≡ l
@@ -182,7 +173,7 @@ module _ (W : World) (psi slack : ℕ) (word : W.Word) (log : Log) (ws : Window)
 
       held_still : (id : Id) → Held ws id → Held ws' id
       held_still id x = elim (ℕ_discrete x.0 i) [
-        | yes z ↦ (i, started_of t e, (q i (started_of t e)).1 (inl (refl, refl)), ap id_of (one i e x.1 h (subst (λ (n : ℕ). ws n x.1) z x.2)) ∙ x.3)
+        | yes z ↦ (i, started_of e, (q i (started_of e)).1 (inl (refl, refl)), ap id_of (one i e x.1 h (subst (λ (n : ℕ). ws n x.1) z x.2)) ∙ x.3)
         | no z ↦ (x.0, x.1, (q x.0 x.1).1 (inr (z, x.2)), x.3)
       ]
 
@@ -193,18 +184,6 @@ module _ (W : World) (psi slack : ℕ) (word : W.Word) (log : Log) (ws : Window)
       now_running : (j : ℕ) (f : Entry) → Was j f → is_started f.phase ≡ true → Started (said (Call.Ask t) (Reply.Start e.position e.activity e.node) ∷ log) (id_of f)
       now_running j f (inl p) u = inl (sym (same_id f p.1))
       now_running j f (inr p) u = inr (a.running j f p.1 u)
-
-      now_since : (j : ℕ) (f : Entry) → Was j f → is_started f.phase ≡ true → start_by (Reply.Start e.position e.activity e.node) t.0 f.position f.node (start_of log f.position f.node) ≡ By f.activity f.begun.0
-      now_since j f (inl p) u =
-          subst (λ (y : Entry). start_by (Reply.Start e.position e.activity e.node) t.0 y.position y.node (start_of log y.position y.node) ≡ By y.activity y.begun.0) (sym p.1)
-          (start_here e.position e.activity e.node t.0 (start_of log e.position e.node))
-      now_since j f (inr p) u =
-          start_other e.position e.activity e.node t.0 f.position f.node (start_of log f.position f.node) (λ z. p.0 (a.distinct j i f e p.1 h (sym z)))
-          ∙ a.since j f p.1 u
-
-      now_from : (j : ℕ) (f : Entry) → Was j f → is_started f.phase ≡ true → psi + f.start.0 ≤ f.begun.0
-      now_from j f (inl p) u = subst (λ (y : Entry). psi + y.start.0 ≤ y.begun.0) (sym p.1) d
-      now_from j f (inr p) u = a.begun_from j f p.1 u
 
       first_time : Begun W psi slack word log (Call.Ask t) (id_of e)
       first_time =
@@ -232,8 +211,6 @@ module _ (W : World) (psi slack : ℕ) (word : W.Word) (log : Log) (ws : Window)
     reported_node = λ id. ⊎_elim (λ z. subst (W.Node word) (only id z) (a.agree i e h).node) (λ z. a.reported_node id z);
     waiting = λ j f g u. ⊎_elim (λ z. ns (id_of f) z) (λ z. a.waiting j f ((q j f).0 g).1 u z);
     running = λ j f g u. inr (a.running j f ((q j f).0 g).1 u);
-    since = λ j f g u. start_quiet r ns (reading c) f.position f.node (start_of log f.position f.node) ∙ a.since j f ((q j f).0 g).1 u;
-    begun_from = λ j f g u. a.begun_from j f ((q j f).0 g).1 u;
     starts = (λ id z. absurd (ns id z), a.starts);
     reports = (λ id z. subst (Ended W psi word log c) (only id z) right, a.reports);
     activities = (right_quiet W word r ns, a.activities);
@@ -280,8 +257,6 @@ module _ (W : World) (psi slack : ℕ) (word : W.Word) (log : Log) (ws : Window)
     reported_node = λ id p. x.nodes id (a.reported_node id p);
     waiting = λ i e h s p. ⊎_elim (λ j. a.waiting i e j s p) (λ n. n.new (a.started_node (id_of e) p)) (only i e h);
     running = λ i e h s. ⊎_elim (λ j. a.running i e j s) (λ n. absurd (true≢false (sym s ∙ n.unstarted))) (only i e h);
-    since = λ i e h s. ⊎_elim (λ j. a.since i e j s) (λ n. absurd (true≢false (sym s ∙ n.unstarted))) (only i e h);
-    begun_from = λ i e h s. ⊎_elim (λ j. a.begun_from i e j s) (λ n. absurd (true≢false (sym s ∙ n.unstarted))) (only i e h);
     starts = always_map (BegunAt W psi slack word) (BegunAt W psi slack later) (λ y older h id p. begun_later later x older y.call id (h id p)) log a.starts;
     reports = always_map (EndedAt W psi word) (EndedAt W psi later) (λ y older h id p. ended_later later x older y.call id (h id p)) log a.reports;
     activities = always_map (NamedAt W word) (NamedAt W later) (λ y older h. right_later W word later x y.reply h) log a.activities;

@@ -17,7 +17,6 @@ use Rattle.run.specs.declared.Reply.{Reply}
 use Rattle.run_checks.specs.declared.Stop.{Stop}
 use Rattle.demands_log.specs.Log.{Id, Said, said, Log, Always, Started, StoppedBy, Reports, Reported, FailedIn, Finishes}
 use Rattle.demands_log.specs.Host.{Reading, None, At}
-use Rattle.demands_log.specs.Laws.Busy.{start_at_lem}
 use Rattle.demands_log.specs.Drive.{Driven, drive}
 use Rattle.demands_theory.specs.Laws.Machine.{World, Finished, Waiting, before}
 use Rattle.demands_theory.specs.Laws.Machine as Machine
@@ -61,8 +60,6 @@ module _ (W : World) (psi slack : ℕ) (Good : Log → W.Word → Run → Type 0
       reported_node = λ id p. absurd p;
       waiting = λ i e h s p. p;
       running = λ i e h s. absurd (true≢false (sym s ∙ o.unstarted i e h));
-      since = λ i e h s. absurd (true≢false (sym s ∙ o.unstarted i e h));
-      begun_from = λ i e h s. absurd (true≢false (sym s ∙ o.unstarted i e h));
       starts = tt;
       reports = tt;
       activities = tt;
@@ -176,7 +173,6 @@ module _ (p : Plan) (lawful : Lawful p) (psi slack : ℕ) (available : ℕ → �
     window_only = of_word;
     window_once = a.distinct;
     window_started = λ i e h. (a.running i e h, λ q. flag i e h q (is_started e.phase) refl);
-    begun_kept = λ i e h s. start_at_lem d.log e.position e.node e.activity e.begun.0 (a.since i e h s);
     done = λ nf. ends d.log nf refl v.latest;
     never_late = λ h. (v.mild (λ y. C (whose y)) (λ y q. let n = a.started_node y q in end_is y (x.nodes y n) ∙ x.completions y n) h).0;
     never_50 = v.numbers;

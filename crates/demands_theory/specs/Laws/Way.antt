@@ -57,9 +57,9 @@ Stays ws ws' = (j : ℕ) (f : Entry) → ws' j f ↔ ws j f
 abbrev pub Clears : Window → Window → ℕ → Type 0
 Clears ws ws' i = (j : ℕ) (f : Entry) → ws' j f ↔ ((j ≡ i → ⊥) × ws j f)
 
--- the entry e at place i is started at the reading t
-abbrev pub Marks : Window → Window → ℕ → Entry → Clock → Type 0
-Marks ws ws' i e t = (j : ℕ) (f : Entry) → ws' j f ↔ (((j ≡ i) × (f ≡ started_of t e)) ⊎ ((j ≡ i → ⊥) × ws j f))
+-- the entry e at place i is started
+abbrev pub Marks : Window → Window → ℕ → Entry → Type 0
+Marks ws ws' i e = (j : ℕ) (f : Entry) → ws' j f ↔ (((j ≡ i) × (f ≡ started_of e)) ⊎ ((j ≡ i → ⊥) × ws j f))
 
 -- place i is cleared, and new entries stand in other places: all that is new in the word, if the loading failed or not
 pub record Loads (W : World) (ws ws' : Window) (i floor : ℕ) (word later : W.Word) : Type 0 where
@@ -118,7 +118,7 @@ pub data Way (W : World) (M : Machine) (psi slack : ℕ) (run run' : M.Run) (wor
       → M.last run ≤ reading c → M.holds run i e → is_started e.phase ≡ false → psi + e.start.0 + slack < reading c
       → Way W M psi slack run run' word word c (Reply.Stopped (Stop.Late e.position e.node))
   begins : {t : Clock} (i : ℕ) (e : Entry) → Turns M run run' t.0 Halt.Going → Clear psi slack (M.last run) (M.holds run) t.0
-      → M.holds run i e → is_started e.phase ≡ false → psi + e.start.0 ≤ t.0 → Marks (M.holds run) (M.holds run') i e t
+      → M.holds run i e → is_started e.phase ≡ false → psi + e.start.0 ≤ t.0 → Marks (M.holds run) (M.holds run') i e
       → Way W M psi slack run run' word word (Call.Ask t) (Reply.Start e.position e.activity e.node)
   idles : {t : Clock} {r : Reply} → Turns M run run' t.0 Halt.Going → Clear psi slack (M.last run) (M.holds run) t.0 → Idle r
       → ((i : ℕ) (e : Entry) → M.holds run i e → is_started e.phase ≡ false → t.0 < psi + e.start.0) → Answers W word (M.holds run) r

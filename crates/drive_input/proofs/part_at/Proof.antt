@@ -1,7 +1,7 @@
 -- Which part it is, by its kind.
 use mathlib.Core.Path.{◌∙◌}
 use native.Mathlib.Omega.{arith}
-use Rattle.drive_input.proofs.Offsets.{no_part, is_ask, is_completion, is_outcome, is_place, is_busy, no_kind}
+use Rattle.drive_input.proofs.Offsets.{no_part, is_ask, is_completion, is_outcome, is_place, no_kind}
 use borrow.Author.Rules.{rules}
 use Rattle.drive_input.proofs.part_at.Statement.{statement}
 use Rattle.drive_input.proofs.part_at.Tie as tie
@@ -22,10 +22,7 @@ returns-5 : tie.Need-returns-5
 returns-5 c = let a = c.before.before.before.before.before.before.before.before.args in c.place_at.ensures ∙ is_place a.input.now a.at (omega arith) c.before.if5.true
 
 returns-6 : tie.Need-returns-6
-returns-6 c = let a = c.before.before.before.before.before.before.before.before.before.args in c.busy-at.ensures ∙ is_busy a.input.now a.at (omega arith) c.before.if6.true
-
-returns-7 : tie.Need-returns-7
-returns-7 c = let a = c.before.before.before.before.before.before.before.before.args in no_kind a.input.now a.at (omega arith) c.before.before.before.before.if2.false c.before.before.before.if3.false c.before.before.if4.false c.before.if5.false c.if6.false
+returns-6 c = let a = c.before.before.before.before.before.before.before.args in no_kind a.input.now a.at (omega arith) c.before.before.before.if2.false c.before.before.if3.false c.before.if4.false c.if5.false
 
 pub part-at-spec : {M : Type 1} → statement M
 part-at-spec =
@@ -41,6 +38,4 @@ part-at-spec =
     returns-4
     (λ c κs. search rules)
     returns-5
-    (λ c κs. search rules)
-    returns-6
-    returns-7)
+    returns-6)

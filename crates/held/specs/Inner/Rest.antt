@@ -9,9 +9,9 @@ use Rattle.held.specs.declared.HeldRest.{HeldRest}
 use Rattle.held.specs.Held.{held_entry, held_progress, held_halt}
 
 -- with the window as it is written
-abbrev pub rest_with : Clock → ℕ → Clock → List ℕ → List HeldEntry → Progress → Halt → HeldRest
-rest_with psi slack last busy window progress halt =
-    record { psi = psi; slack = slack; last = last; busy = busy; window = window; progress = held_progress progress; halt = held_halt halt }
+abbrev pub rest_with : Clock → ℕ → Clock → List HeldEntry → Progress → Halt → HeldRest
+rest_with psi slack last window progress halt =
+    record { psi = psi; slack = slack; last = last; window = window; progress = held_progress progress; halt = held_halt halt }
 
-abbrev pub rest_by : Clock → ℕ → Clock → List ℕ → List Entry → Progress → Halt → HeldRest
-rest_by psi slack last busy window progress halt = rest_with psi slack last busy (map held_entry window) progress halt
+abbrev pub rest_by : Clock → ℕ → Clock → List Entry → Progress → Halt → HeldRest
+rest_by psi slack last window progress halt = rest_with psi slack last (map held_entry window) progress halt

@@ -62,7 +62,7 @@ move_back m =
 
 entry_back : (e : Entry) → entry_of (held_entry e) ≡ e
 entry_back e =
-    ap (λ (p : Phase). record { start = e.start; end = e.end; begun = e.begun; position = e.position; activity = e.activity; node = e.node; phase = p }) (phase_back e.phase)
+    ap (λ (p : Phase). record { start = e.start; end = e.end; position = e.position; activity = e.activity; node = e.node; phase = p }) (phase_back e.phase)
 
 instance_back : (x : Instance) → instance_of (held_instance x) ≡ x
 instance_back x = ap (λ (t : Told). record { end = x.end; position = x.position; node = x.node; told = t }) (told_back x.told)

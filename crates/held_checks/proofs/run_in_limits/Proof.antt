@@ -18,43 +18,21 @@ returns-3 c =
 
 returns-4 : tie.Need-returns-4
 returns-4 c =
-    let h = c.before in
-    let s = h.before in
-    let g = s.before in
-    let a = g.before.args in
-    rw (not-false a.good g.if1.false, not-false a.stands s.if2.false, not-false a.holds h.if3.false, not-true a.busy c.if4.true)
+    let a = c.before.before.before.before.before.args in
+    rw (not-false a.good c.before.before.before.before.if1.false, not-false a.stands c.before.before.before.if2.false, not-false a.holds c.before.before.if3.false, lt-leb _ _ c.if4.true)
 
 returns-5 : tie.Need-returns-5
 returns-5 c =
-    let b = c.before.before in
-    let h = b.before in
-    let s = h.before in
-    let g = s.before in
-    let a = g.before.args in
-    rw (not-false a.good g.if1.false, not-false a.stands s.if2.false, not-false a.holds h.if3.false, not-false a.busy b.if4.false, lt-leb _ _ c.if5.true)
+    let a = c.before.before.before.before.before.before.before.args in
+    rw (not-false a.good c.before.before.before.before.before.before.if1.false, not-false a.stands c.before.before.before.before.before.if2.false, not-false a.holds c.before.before.before.before.if3.false, le-leb _ _ c.before.before.if4.false, sym c.before.slack-in-limits.ensures ∙ not-true c.before.slack-in-limits.result c.if5.true)
 
 returns-6 : tie.Need-returns-6
 returns-6 c =
-    let p = c.before.before in
-    let b = p.before.before in
-    let h = b.before in
-    let s = h.before in
-    let g = s.before in
-    let a = g.before.args in
-    rw (not-false a.good g.if1.false, not-false a.stands s.if2.false, not-false a.holds h.if3.false, not-false a.busy b.if4.false, le-leb _ _ p.if5.false, sym c.before.slack-in-limits.ensures ∙ not-true c.before.slack-in-limits.result c.if6.true)
-
-returns-7 : tie.Need-returns-7
-returns-7 c =
-    let p = c.before.before.before in
-    let b = p.before.before in
-    let h = b.before in
-    let s = h.before in
-    let g = s.before in
-    let a = g.before.args in
-    rw (not-false a.good g.if1.false, not-false a.stands s.if2.false, not-false a.holds h.if3.false, not-false a.busy b.if4.false, le-leb _ _ p.if5.false, sym c.before.before.slack-in-limits.ensures ∙ not-false c.before.before.slack-in-limits.result c.before.if6.false)
+    let a = c.before.before.before.before.before.before.before.before.args in
+    rw (not-false a.good c.before.before.before.before.before.before.before.if1.false, not-false a.stands c.before.before.before.before.before.before.if2.false, not-false a.holds c.before.before.before.before.before.if3.false, le-leb _ _ c.before.before.before.if4.false, sym c.before.before.slack-in-limits.ensures ∙ not-false c.before.before.slack-in-limits.result c.before.if5.false)
     c.halt-in-limits.ensures
 
 pub run-in-limits-spec : {M : Type 1} → statement M
 run-in-limits-spec =
     tie.close
-    (tie.spec returns returns-2 returns-3 returns-4 returns-5 (λ c κs. search rules) returns-6 (λ c κs. search rules) returns-7)
+    (tie.spec returns returns-2 returns-3 returns-4 (λ c κs. search rules) returns-5 (λ c κs. search rules) returns-6)

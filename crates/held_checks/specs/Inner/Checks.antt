@@ -11,7 +11,6 @@ use Rattle.run_window.specs.declared.Sought.{Sought}
 use Rattle.run_window.specs.Inner.Search.{Scanned, first_of}
 use Rattle.run_limits.specs.Progress.{progress_in_limits}
 use Rattle.run_limits.specs.Window.{window_in_limits}
-use Rattle.run_limits.specs.Busy.{busy_in_limits}
 use Rattle.run_checks.specs.declared.Halt.{Halt}
 use Rattle.run_checks.specs.declared.Refusal.{Refusal}
 use Rattle.run_checks.specs.declared.Objection.{Objection}
@@ -36,17 +35,14 @@ moment_at rest c = record { psi = rest.psi; slack = rest.slack; last = rest.last
 abbrev pub run_by : HeldPlan → HeldRest → Run
 run_by plan rest = run_of (record { rest = rest; plan = plan })
 
--- where it is known of plan, progress, window and busy times whether they are within the limits
-abbrev pub limits_by : Bool → Bool → Bool → Bool → Clock → ℕ → Halt → Bool
-limits_by good stands holds busy psi slack halt =
-    good && (stands && (holds && (busy && (leb psi.0 horizon && (slack_in_limits slack && halt_in_limits halt)))))
+-- where it is known of plan, progress and window whether they are within the limits
+abbrev pub limits_by : Bool → Bool → Bool → Clock → ℕ → Halt → Bool
+limits_by good stands holds psi slack halt = good && (stands && (holds && (leb psi.0 horizon && (slack_in_limits slack && halt_in_limits halt))))
 
 -- a run is within the limits, but for the nodes of its plan
 unfoldable pub all_but_nodes : Run → Bool
 all_but_nodes run =
-    limits_by (numbers_in_limits run.plan) (progress_in_limits run.plan run.progress)
-    (window_in_limits run.plan.activities run.plan.sizes run.last run.window)
-    (busy_in_limits run.plan.peripherals run.last run.busy)
+    limits_by (numbers_in_limits run.plan) (progress_in_limits run.plan run.progress) (window_in_limits run.plan.activities run.plan.sizes run.window)
     run.psi run.slack run.halt
 
 abbrev pub nothing_seen : Seen

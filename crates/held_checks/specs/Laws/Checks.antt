@@ -19,7 +19,6 @@ use Rattle.run_window.specs.Window.{vacant, node_place}
 use Rattle.run_window.specs.Inner.Search.{SoughtInTime, first_of, seen_of}
 use Rattle.run_limits.specs.Progress.{progress_in_limits}
 use Rattle.run_limits.specs.Window.{entry_in_limits, window_in_limits}
-use Rattle.run_limits.specs.Busy.{busy_in_limits}
 use Rattle.run_limits.specs.Laws.Places.{tells_window}
 use Rattle.run_checks.specs.declared.Refusal.{Refusal}
 use Rattle.run_checks.specs.declared.Objection.{Objection}
@@ -41,48 +40,43 @@ use Rattle.held_checks.specs.Laws.Limits.{both_parts}
 
 -- ---- the limits
 
-nodes_last : (a n p s g w b h : Bool) → (a && n) && (p && (s && (g && (w && (b && h))))) ≡ (a && (g && (w && (b && (p && (s && h)))))) && n
-nodes_last false n p s g w b h = refl
-nodes_last true false p s false w b h = refl
-nodes_last true false p s true false b h = refl
-nodes_last true false p s true true false h = refl
-nodes_last true false false s true true true h = refl
-nodes_last true false true false true true true h = refl
-nodes_last true false true true true true true false = refl
-nodes_last true false true true true true true true = refl
-nodes_last true true false s false w b h = refl
-nodes_last true true false s true false b h = refl
-nodes_last true true false s true true false h = refl
-nodes_last true true false s true true true h = refl
-nodes_last true true true false false w b h = refl
-nodes_last true true true false true false b h = refl
-nodes_last true true true false true true false h = refl
-nodes_last true true true false true true true h = refl
-nodes_last true true true true false w b h = refl
-nodes_last true true true true true false b h = refl
-nodes_last true true true true true true false h = refl
-nodes_last true true true true true true true false = refl
-nodes_last true true true true true true true true = refl
+nodes_last : (a n p s g w h : Bool) → (a && n) && (p && (s && (g && (w && h)))) ≡ (a && (g && (w && (p && (s && h))))) && n
+nodes_last false n p s g w h = refl
+nodes_last true false p s false w h = refl
+nodes_last true false p s true false h = refl
+nodes_last true false false s true true h = refl
+nodes_last true false true false true true h = refl
+nodes_last true false true true true true false = refl
+nodes_last true false true true true true true = refl
+nodes_last true true false s false w h = refl
+nodes_last true true false s true false h = refl
+nodes_last true true false s true true h = refl
+nodes_last true true true false false w h = refl
+nodes_last true true true false true false h = refl
+nodes_last true true true false true true h = refl
+nodes_last true true true true false w h = refl
+nodes_last true true true true true false h = refl
+nodes_last true true true true true true false = refl
+nodes_last true true true true true true true = refl
 
 pub limits_apart : (run : Run) → run_in_limits run ≡ all_but_nodes run && nodes_good run.plan
 unfolding run_in_limits all_but_nodes
 limits_apart run =
-    ap (λ (b : Bool). b && (leb run.psi.0 horizon && (slack_in_limits run.slack && (progress_in_limits run.plan run.progress && (window_in_limits run.plan.activities run.plan.sizes run.last run.window && (busy_in_limits run.plan.peripherals run.last run.busy && halt_in_limits run.halt)))))) (both_parts run.plan)
-    ∙ nodes_last (numbers_in_limits run.plan) (nodes_good run.plan) (leb run.psi.0 horizon) (slack_in_limits run.slack) (progress_in_limits run.plan run.progress) (window_in_limits run.plan.activities run.plan.sizes run.last run.window) (busy_in_limits run.plan.peripherals run.last run.busy) (halt_in_limits run.halt)
+    ap (λ (b : Bool). b && (leb run.psi.0 horizon && (slack_in_limits run.slack && (progress_in_limits run.plan run.progress && (window_in_limits run.plan.activities run.plan.sizes run.window && halt_in_limits run.halt))))) (both_parts run.plan)
+    ∙ nodes_last (numbers_in_limits run.plan) (nodes_good run.plan) (leb run.psi.0 horizon) (slack_in_limits run.slack) (progress_in_limits run.plan run.progress) (window_in_limits run.plan.activities run.plan.sizes run.window) (halt_in_limits run.halt)
 
 -- ---- what is known of a run that is within the limits but for its nodes
 
 module _ (run : Run) (good : all_but_nodes run ≡ true) where
-  parts : (numbers_in_limits run.plan ≡ true) × ((progress_in_limits run.plan run.progress ≡ true) × (((i : ℕ) → i < length run.window → entry_in_limits run.plan.activities run.plan.sizes run.last (get_or run.window i vacant) ≡ true) × ((busy_in_limits run.plan.peripherals run.last run.busy ≡ true) × ((run.psi.0 ≤ horizon) × (((1 ≤ run.slack) × (run.slack ≤ 1_000_000)) × (halt_in_limits run.halt ≡ true))))))
+  parts : (numbers_in_limits run.plan ≡ true) × ((progress_in_limits run.plan run.progress ≡ true) × (((i : ℕ) → i < length run.window → entry_in_limits run.plan.activities run.plan.sizes (get_or run.window i vacant) ≡ true) × ((run.psi.0 ≤ horizon) × (((1 ≤ run.slack) × (run.slack ≤ 1_000_000)) × (halt_in_limits run.halt ≡ true)))))
   unfolding all_but_nodes
   parts =
       told_true
       (tells_and (tells_self (numbers_in_limits run.plan))
       (tells_and (tells_self (progress_in_limits run.plan run.progress))
-      (tells_and (tells_window run.plan.activities run.plan.sizes run.last run.window)
-      (tells_and (tells_self (busy_in_limits run.plan.peripherals run.last run.busy))
+      (tells_and (tells_window run.plan.activities run.plan.sizes run.window)
       (tells_and (tells_leb run.psi.0 horizon)
-      (tells_and (tells_and (tells_leb 1 run.slack) (tells_leb run.slack 1_000_000)) (tells_self (halt_in_limits run.halt))))))))
+      (tells_and (tells_and (tells_leb 1 run.slack) (tells_leb run.slack 1_000_000)) (tells_self (halt_in_limits run.halt)))))))
       good
 
   counts : (run.plan.resources ≤ 16) × ((run.plan.peripherals ≤ 64) × ((run.plan.events ≤ 16) × ((run.plan.activities ≤ 32) × (counted_in_limits run.plan ≡ true))))
@@ -111,17 +105,17 @@ module _ (run : Run) (good : all_but_nodes run ≡ true) where
       omega arith
 
   pub all_timed : (t : Clock) → Timed (moment_of run t) run.window
-  all_timed t = window_timed run.plan.activities run.plan.sizes run.last few small (moment_of run t) run.window parts.1.1.1.1.0 parts.1.1.1.1.1.0.1 parts.1.1.0
+  all_timed t = window_timed run.plan.activities run.plan.sizes few small (moment_of run t) run.window parts.1.1.1.0 parts.1.1.1.1.0.1 parts.1.1.0
 
   pub all_sought : (c : Call) → SoughtInTime (sought_by run.psi c)
-  all_sought (Call.Ask t) = parts.1.1.1.1.0
+  all_sought (Call.Ask t) = parts.1.1.1.0
   all_sought (Call.Completion t p n) = tt
   all_sought (Call.Outcome t p n o) = tt
 
   held_below : (i : ℕ) (e : Entry) (nodes : List Node) (s : Sought) → first_of nodes s run.window ≡ Found.At i e → node_place e < 2048
   held_below i e nodes s q =
       let f = found_holds nodes s run.window i e q in
-      node_below run.plan.activities run.plan.sizes run.last few small e f.0.held (subst (λ (x : Entry). entry_in_limits run.plan.activities run.plan.sizes run.last x ≡ true) f.0.entry (parts.1.1.0 i f.1))
+      node_below run.plan.activities run.plan.sizes few small e f.0.held (subst (λ (x : Entry). entry_in_limits run.plan.activities run.plan.sizes x ≡ true) f.0.entry (parts.1.1.0 i f.1))
 
 -- ---- what the checks say
 

@@ -61,8 +61,8 @@ returns-2 c =
     let l = Effect.Learns x.0.0 x.0.1.0 x.0.1.1.0 x.0.1.1.1.0 in
     let k = named h (called s) e.outcome-effect.result e.outcome-effect.ensures (long s) l x.1 in
     c.learns.ensures
-    ∙ ap (λ (g : Progress). stepped_of (acted (run_at (plan_of h.plan) g (map entry_of h.rest.window) h.rest.busy c.before.before.before.moment-of.result Halt.Going) c.before.before.before.moment-of.result.t l)) c.before.progress-of.ensures
-    ∙ ap (λ (m : Moment). stepped_of (acted (run_at (plan_of h.plan) (progress_of h.rest.progress) (map entry_of h.rest.window) h.rest.busy m Halt.Going) m.t l)) c.before.before.before.moment-of.ensures
+    ∙ ap (λ (g : Progress). stepped_of (acted (run_at (plan_of h.plan) g (map entry_of h.rest.window) c.before.before.before.moment-of.result Halt.Going) c.before.before.before.moment-of.result.t l)) c.before.progress-of.ensures
+    ∙ ap (λ (m : Moment). stepped_of (acted (run_at (plan_of h.plan) (progress_of h.rest.progress) (map entry_of h.rest.window) m Halt.Going) m.t l)) c.before.before.before.moment-of.ensures
     ∙ changes h (called s) (run_of h) refl (acted (run_of h) (reading_of (called s)) l) (answered h (called s) e.outcome-effect.result e.outcome-effect.ensures l x.1) k.4 (learns_accepts (run_of h) (reading_of (called s)) x.0.0 x.0.1.0 x.0.1.1.0 x.0.1.1.1.0)
 
 pub outcome-spec : {M : Type 1} → statement M

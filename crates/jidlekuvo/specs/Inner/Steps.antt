@@ -3,7 +3,6 @@ use Rattle.std.specs.Prelude.{List, map, ℕ, ◌<◌, get_or, set}
 use Rattle.plan.specs.Plan.{past_node}
 use Rattle.times.specs.declared.Progress.{Progress}
 use Rattle.run_window.specs.declared.Entry.{Entry}
-use Rattle.run_window.specs.Window.{vacant}
 use Rattle.run_checks.specs.declared.Check.{Check}
 use Rattle.run_checks.specs.declared.Halt.{Halt}
 use Rattle.run_checks.specs.declared.Moment.{Moment}
@@ -12,8 +11,7 @@ use Rattle.run.specs.declared.Answer.{Answer}
 use Rattle.run.specs.declared.Call.{Call}
 use Rattle.run.specs.declared.Effect.{Effect}
 use Rattle.run.specs.Inner.Effects.{found_by, place_of, rests_as}
-use Rattle.run.specs.Busy.{busy_after}
-use Rattle.run.specs.Calls.{reading_of, ask_of, completion_of, outcome_of}
+use Rattle.run.specs.Calls.{ask_of, completion_of, outcome_of}
 use Rattle.held.specs.declared.Held.{Held}
 use Rattle.held.specs.declared.HeldEntry.{HeldEntry}
 use Rattle.held.specs.declared.HeldPlan.{HeldPlan}
@@ -34,14 +32,12 @@ abbrev pub stepped_of : Answer → Stepped
 stepped_of a = record { rest = rest_of a.run; reply = told_of a.reply }
 
 -- the same by the parts of the run after it; its reading is the last one
-abbrev pub stepped_by : Moment → List ℕ → List Entry → Progress → Halt → Reply → Stepped
-stepped_by m busy window progress halt told =
-    record { rest = rest_by m.psi m.slack m.t busy window progress halt; reply = told_of told }
+abbrev pub stepped_by : Moment → List Entry → Progress → Halt → Reply → Stepped
+stepped_by m window progress halt told = record { rest = rest_by m.psi m.slack m.t window progress halt; reply = told_of told }
 
 -- with the window as it is written
-abbrev pub stepped_with : Moment → List ℕ → List HeldEntry → Progress → Halt → Reply → Stepped
-stepped_with m busy window progress halt told =
-    record { rest = rest_with m.psi m.slack m.t busy window progress halt; reply = told_of told }
+abbrev pub stepped_with : Moment → List HeldEntry → Progress → Halt → Reply → Stepped
+stepped_with m window progress halt told = record { rest = rest_with m.psi m.slack m.t window progress halt; reply = told_of told }
 
 -- ---- what a call does
 
@@ -52,25 +48,22 @@ effect_in plan c check =
 
 -- ---- carried out on the numbers
 
--- an effect that is no outcome that loads, and the state, place and peripheral of which are the run's
+-- an effect that is no outcome that loads, and the state and place of which are the run's
 abbrev pub Carries : HeldRest → Effect → Type 0
 Carries rest (Effect.Stays told) = Unit {0}
 Carries rest (Effect.Stops s) = Unit {0}
 Carries rest Effect.Rests = rest.progress.state < 64
 Carries rest (Effect.Stores i e told) = i < 512
-Carries rest (Effect.Completes i x begun) = (i < 512) × (x < 64)
 Carries rest (Effect.Learns i x e o) = ⊥
 
 abbrev pub carried_by : ℕ → HeldRest → Call → Effect → Stepped
 carried_by finals rest c (Effect.Stays told) = record { rest = rest; reply = told_of told }
 carried_by finals rest c (Effect.Stops s) =
-    stepped_by (moment_at rest c) rest.busy (map entry_of rest.window) (progress_of rest.progress) (Halt.Stopped s) (Reply.Stopped s)
+    stepped_by (moment_at rest c) (map entry_of rest.window) (progress_of rest.progress) (Halt.Stopped s) (Reply.Stopped s)
 carried_by finals rest c Effect.Rests =
-    stepped_by (moment_at rest c) rest.busy (map entry_of rest.window) (progress_of rest.progress) Halt.Going (rests_as finals rest.progress.state (map entry_of rest.window))
+    stepped_by (moment_at rest c) (map entry_of rest.window) (progress_of rest.progress) Halt.Going (rests_as finals rest.progress.state (map entry_of rest.window))
 carried_by finals rest c (Effect.Stores i e told) =
-    stepped_by (moment_at rest c) rest.busy (set (map entry_of rest.window) i e) (progress_of rest.progress) Halt.Going told
-carried_by finals rest c (Effect.Completes i x begun) =
-    stepped_by (moment_at rest c) (busy_after rest.busy x begun (reading_of c)) (set (map entry_of rest.window) i vacant) (progress_of rest.progress) Halt.Going Reply.Taken
+    stepped_by (moment_at rest c) (set (map entry_of rest.window) i e) (progress_of rest.progress) Halt.Going told
 carried_by finals rest c (Effect.Learns i x e o) = record { rest = rest; reply = told_of Reply.Taken }
 
 -- a call that is no outcome

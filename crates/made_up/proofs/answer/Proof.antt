@@ -1,8 +1,8 @@
--- The records of two calls and of the busy times, or a buffer too short.
+-- Two records, or a buffer too short.
 use native.Mathlib.Omega.{arith}
 use Rattle.wire.specs.Laws.Puts.{puts_length}
 use Rattle.drive_records.specs.Laws.Records.{record_length}
-use Rattle.made_up.proofs.Recorded.{too_short, all_written}
+use Rattle.made_up.proofs.Recorded.{too_short, both-written}
 use borrow.Author.Rules.{rules}
 use Rattle.made_up.proofs.answer.Statement.{statement}
 use Rattle.made_up.proofs.answer.Tie as tie
@@ -13,11 +13,8 @@ returns c = let a = c.before.before.before.args in too_short a.bytes.now a.out.n
 put-at-requires-2 : tie.Need-put-at-requires-2
 put-at-requires-2 c κs = let p = c.before.before.before.before.before.before.before in omega (arith, record_length p.before.reply-record.result, p.put-at.ensures.past, puts_length p.put-at.ensures)
 
-put-busy-requires : tie.Need-put-busy-requires
-put-busy-requires c κs = let q = c.before.before.before.before in let p = q.before.before.before.before.before.before.before.before in omega (arith, record_length p.before.reply-record.result, p.put-at.ensures.past, puts_length p.put-at.ensures, record_length q.before.reply-record2.result, q.put-at2.ensures.past, puts_length q.put-at2.ensures)
-
 returns-2 : tie.Need-returns-2
-returns-2 c = let q = c.before.before.before.before.before.before.before in let d = q.before.before.before in let p = d.before.before.before.before.before in let e = p.before.before.before in let a = e.before.before.before.before.before.before.args in all_written a.bytes.now a.out.now (omega arith) _ e.before.before.run_of.ensures _ _ e.before.call_at.ensures d.before.call-at2.ensures _ _ e.call.ensures d.call2.ensures _ _ p.before.reply-record.ensures q.before.reply-record2.ensures p.put-at.ensures q.put-at2.ensures c.before.before.put-busy.ensures
+returns-2 c = let q = c.before.before in let d = q.before.before.before in let p = d.before.before.before.before.before in let e = p.before.before.before in let a = e.before.before.before.before.before.before.args in both-written a.bytes.now a.out.now (omega arith) _ e.before.before.run_of.ensures _ _ e.before.call_at.ensures d.before.call-at2.ensures _ _ e.call.ensures d.call2.ensures _ _ p.before.reply-record.ensures q.before.reply-record2.ensures p.put-at.ensures q.put-at2.ensures
 
 pub answer-spec : {M : Type 1} → statement M
 answer-spec =
@@ -33,6 +30,5 @@ answer-spec =
     (λ c κs. search rules)
     (λ c κs. search rules)
     put-at-requires-2
-    put-busy-requires
     (λ c. search rules)
     returns-2)

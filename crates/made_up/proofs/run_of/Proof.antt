@@ -6,13 +6,12 @@ use Rattle.made_up.proofs.run_of.Tie as tie
 
 returns : tie.Need-returns
 unfolding made_of
-returns c = let p = c.before.before.before in rw (← c.window-of.ensures, ← c.before.progress-of.ensures, ← c.before.before.eight3.ensures, ← p.plan-of.ensures, ← p.before.busy-of.ensures, ← p.before.before.halt-at.ensures, ← p.before.before.before.eight2.ensures, ← p.before.before.before.before.eight.ensures)
+returns c = let p = c.before.before.before in rw (← c.window-of.ensures, ← c.before.progress-of.ensures, ← c.before.before.eight3.ensures, ← p.plan-of.ensures, ← p.before.halt-at.ensures, ← p.before.before.eight2.ensures, ← p.before.before.before.eight.ensures)
 
 pub run-of-spec : {M : Type 1} → statement M
 run-of-spec =
     tie.close
     (tie.spec
-    (λ c κs. search rules)
     (λ c κs. search rules)
     (λ c κs. search rules)
     (λ c κs. search rules)

@@ -3,7 +3,6 @@ use Rattle.std.specs.Prelude.{Bool, ◌&&◌}
 use Rattle.time.specs.declared.Clock.{Clock}
 use Rattle.run_limits.specs.Progress.{progress_in_limits}
 use Rattle.run_limits.specs.Window.{window_in_limits}
-use Rattle.run_limits.specs.Busy.{busy_in_limits}
 use Rattle.run_window.specs.declared.Sought.{Sought}
 use Rattle.run_window.specs.Inner.Search.{first_of}
 use Rattle.run_checks.specs.declared.Check.{Check}
@@ -12,12 +11,11 @@ use Rattle.run.specs.declared.Run.{Run}
 use Rattle.run.specs.Limits.{halt_in_limits, run_in_limits}
 use Rattle.run.specs.Calls.{moment_of}
 
--- where the behaviour stands, the window, the busy times and the stop
+-- where the behaviour stands, the window and the stop
 unfoldable pub stored_in_limits : Run → Bool
 stored_in_limits run =
     progress_in_limits run.plan run.progress
-    && (window_in_limits run.plan.activities run.plan.sizes run.last run.window
-    && (busy_in_limits run.plan.peripherals run.last run.busy && halt_in_limits run.halt))
+    && (window_in_limits run.plan.activities run.plan.sizes run.window && halt_in_limits run.halt)
 
 -- what the checks say, and the first of what the call looks for
 unfoldable pub check_of : Run → Clock → Sought → Check

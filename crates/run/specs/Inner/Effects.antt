@@ -22,7 +22,7 @@ use Rattle.run.specs.declared.Answer.{Answer}
 use Rattle.run.specs.declared.Call.{Call}
 use Rattle.run.specs.declared.Checked.{Checked}
 use Rattle.run.specs.declared.Effect.{Effect}
-use Rattle.run.specs.Calls.{answer, heard, finished, stops, is_done, learnt}
+use Rattle.run.specs.Calls.{answer, heard, stops, is_done, learnt}
 use Rattle.run.specs.Inner.Calls.{told_run, reply_after, halt_after}
 use Rattle.run.specs.Inner.Loads.{Loads}
 use Rattle.run.specs.Inner.Checks.{check_of}
@@ -67,12 +67,12 @@ checked_of run t sought = record {
 abbrev pub refusing : Refusal → Effect
 refusing f = Effect.Stays (Reply.Refused f)
 
--- the reported action leaves the window, and its peripheral was busy; 54 completion of an event
-abbrev pub completes_by : ℕ → Entry → Kind → Effect
-completes_by i e (Kind.Action a x) = Effect.Completes i x e.begun
-completes_by i e (Kind.Claim r) = refusing Refusal.OtherKind
-completes_by i e (Kind.Release r) = refusing Refusal.OtherKind
-completes_by i e (Kind.Event v) = refusing Refusal.OtherKind
+-- the reported action leaves the window; 54 completion of an event
+abbrev pub completes_by : ℕ → Kind → Effect
+completes_by i (Kind.Action a x) = Effect.Stores i vacant Reply.Taken
+completes_by i (Kind.Claim r) = refusing Refusal.OtherKind
+completes_by i (Kind.Release r) = refusing Refusal.OtherKind
+completes_by i (Kind.Event e) = refusing Refusal.OtherKind
 
 -- an outcome that the event has; a marker's "report closes the node and is not queued"
 abbrev pub hears_as : ℕ → Entry → ℕ → ℕ → ℕ → Effect
@@ -86,13 +86,13 @@ learns_as i x o most (Kind.Release r) = refusing Refusal.OtherKind
 learns_as i x o most (Kind.Event e) = cond (ltb o most) (hears_as i x e o most) (refusing Refusal.OutcomeLacking)
 
 -- the due node is started, or nothing is due
-abbrev pub starts_by : Clock → Found → Effect
-starts_by t found = on_found found (λ i e. Effect.Stores i (started_of t e) (Reply.Start e.position e.activity e.node)) Effect.Rests
+abbrev pub starts_by : Found → Effect
+starts_by found = on_found found (λ i e. Effect.Stores i (started_of e) (Reply.Start e.position e.activity e.node)) Effect.Rests
 
 -- of a call that passes its checks, by what it found, the kind of its node and how many outcomes that has
 abbrev pub effect_on : Call → Found → Kind → ℕ → Effect
-effect_on (Call.Ask t) found kind most = starts_by t found
-effect_on (Call.Completion t p n) found kind most = reported_by found (λ i e. completes_by i e kind) refusing
+effect_on (Call.Ask t) found kind most = starts_by found
+effect_on (Call.Completion t p n) found kind most = reported_by found (λ i e. completes_by i kind) refusing
 effect_on (Call.Outcome t p n o) found kind most = reported_by found (λ i e. learns_as i e o most kind) refusing
 
 abbrev pub effect_for : Objection → Effect
@@ -118,7 +118,6 @@ acted run t (Effect.Stays reply) = answer reply run
 acted run t (Effect.Stops s) = stops run t s
 acted run t Effect.Rests = answer (cond (is_done run) Reply.Done Reply.Wait) (heard run t Halt.Going run.progress run.window)
 acted run t (Effect.Stores i e reply) = answer reply (heard run t Halt.Going run.progress (set run.window i e))
-acted run t (Effect.Completes i x begun) = answer Reply.Taken (finished run t i x begun)
 acted run t (Effect.Learns i x e o) = learnt (told_run run t i x e o)
 
 -- an outcome, from what was loaded after it
@@ -143,17 +142,14 @@ Accepts Reply.Taken = Unit {0}
 Accepts (Reply.Refused f) = ⊥
 Accepts (Reply.Stopped s) = Unit {0}
 
--- what is known of an effect: a run that it changes keeps no stop, and the state, the place, the peripheral, the event and the outcome
--- are the plan's
+-- what is known of an effect: a run that it changes keeps no stop, and the state, the place, the event and the outcome are the plan's
 abbrev pub Named : Run → Effect → Type 0
 Named run (Effect.Stays reply) = Leaves run.halt reply
 Named run (Effect.Stops s) = run.halt ≡ Halt.Going
 Named run Effect.Rests = (run.progress.state < 64) × (run.halt ≡ Halt.Going)
 Named run (Effect.Stores i e reply) = (i < 512) × Accepts reply × (run.halt ≡ Halt.Going)
-Named run (Effect.Completes i x begun) = (i < 512) × (x < 64) × (run.halt ≡ Halt.Going)
 Named run (Effect.Learns i x e o) = (i < 512) × (e < run.plan.events) × (o < outcomes_of run.plan e) × Loads run × (run.halt ≡ Halt.Going)
 
 -- the run with these parts; of the moment, its times
-abbrev pub run_at : Plan → Progress → List Entry → List ℕ → Moment → Halt → Run
-run_at plan progress window busy m halt =
-    record { plan = plan; psi = m.psi; slack = m.slack; progress = progress; window = window; last = m.last; halt = halt; busy = busy }
+abbrev pub run_at : Plan → Progress → List Entry → Moment → Halt → Run
+run_at plan progress window m halt = record { plan = plan; psi = m.psi; slack = m.slack; progress = progress; window = window; last = m.last; halt = halt }

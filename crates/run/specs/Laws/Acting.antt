@@ -27,11 +27,10 @@ use Rattle.run.specs.declared.Answer.{Answer}
 use Rattle.run.specs.declared.Call.{Call}
 use Rattle.run.specs.declared.Effect.{Effect}
 use Rattle.run.specs.Limits.{run_in_limits}
-use Rattle.run.specs.Calls.{answer, refuse, heard, busied, objected, is_done, asked, kind_of, completed_by, completed, is_marker, hears, learns_by, learns, called, ask_of, completion_of, outcome_of, call_of, reading_of}
-use Rattle.run.specs.Busy.{busy_after}
+use Rattle.run.specs.Calls.{answer, refuse, heard, objected, is_done, asked, kind_of, completed_by, completed, is_marker, hears, learns_by, learns, called, ask_of, completion_of, outcome_of, call_of, reading_of}
 use Rattle.run.specs.Inner.Checks.{check_of}
 use Rattle.run.specs.Inner.Effects.{sought_by, found_by, place_of, outcomes_for, kind_found, checked_of, refusing, completes_by, hears_as, learns_as, starts_by, effect_on, effect_for, effect_by, effect_of, acted, Named}
-use Rattle.run.specs.Laws.Checking.{goes, objected_halt, answer_goes, answer_objects, timed, state_below, loads_in_limits, named_held, peripheral_below}
+use Rattle.run.specs.Laws.Checking.{goes, objected_halt, answer_goes, answer_objects, timed, state_below, loads_in_limits, named_held}
 
 -- ---- the answer of each effect
 
@@ -46,8 +45,8 @@ module _ (run : Run) (t : Clock) where
   acted_objection (Objection.Stops s) = refl
 
   acted_ask : (found : Found)
-      → acted run t (starts_by t found)
-      ≡ on_found found (λ i e. answer (Reply.Start e.position e.activity e.node) (heard run t Halt.Going run.progress (set run.window i (started_of t e))))
+      → acted run t (starts_by found)
+      ≡ on_found found (λ i e. answer (Reply.Start e.position e.activity e.node) (heard run t Halt.Going run.progress (set run.window i (started_of e))))
       (answer (cond (is_done run) Reply.Done Reply.Wait) (heard run t Halt.Going run.progress run.window))
   acted_ask Found.Nothing = refl
   acted_ask (Found.At i e) = refl
@@ -58,11 +57,11 @@ module _ (run : Run) (t : Clock) where
     acted_report Found.Nothing h = refl
     acted_report (Found.At i e) h = acted_cond (is_started e.phase) (f i e) (refusing Refusal.NotStarted) ∙ ap (λ (a : Answer). cond (is_started e.phase) a (refuse run Refusal.NotStarted)) (h i e refl)
 
-  acted_completes : (i : ℕ) (e : Entry) (k : Kind) → acted run t (completes_by i e k) ≡ completed_by run t i e k
-  acted_completes i e (Kind.Action a x) = refl
-  acted_completes i e (Kind.Claim r) = refl
-  acted_completes i e (Kind.Release r) = refl
-  acted_completes i e (Kind.Event v) = refl
+  acted_completes : (i : ℕ) (k : Kind) → acted run t (completes_by i k) ≡ completed_by run t i k
+  acted_completes i (Kind.Action a x) = refl
+  acted_completes i (Kind.Claim r) = refl
+  acted_completes i (Kind.Release r) = refl
+  acted_completes i (Kind.Event e) = refl
 
   acted_hears : (i : ℕ) (x : Entry) (e o : ℕ) → acted run t (hears_as i x e o (outcomes_of run.plan e)) ≡ hears run t i x e o
   acted_hears i x e o = acted_cond (is_marker run.plan e) (Effect.Stores i vacant Reply.Taken) (Effect.Learns i x e o)
@@ -97,11 +96,11 @@ module _ (run : Run) where
   unfolding asked completed learns
   acted_call (Call.Ask t) found q =
       acted_ask run t found
-      ∙ ap (λ (f : Found). on_found f (λ i e. answer (Reply.Start e.position e.activity e.node) (heard run t Halt.Going run.progress (set run.window i (started_of t e)))) (answer (cond (is_done run) Reply.Done Reply.Wait) (heard run t Halt.Going run.progress run.window))) q
+      ∙ ap (λ (f : Found). on_found f (λ i e. answer (Reply.Start e.position e.activity e.node) (heard run t Halt.Going run.progress (set run.window i (started_of e)))) (answer (cond (is_done run) Reply.Done Reply.Wait) (heard run t Halt.Going run.progress run.window))) q
   acted_call (Call.Completion t p n) found q =
-      acted_report run t (λ i e. completes_by i e (kind_at found)) (λ i e. completed_by run t i e (kind_of run e)) found
-      (λ i e s. acted_completes run t i e (kind_at found) ∙ ap (λ (f : Found). completed_by run t i e (kind_at f)) s)
-      ∙ ap (λ (f : Found). reported_by f (λ i e. completed_by run t i e (kind_of run e)) (refuse run)) q
+      acted_report run t (λ i e. completes_by i (kind_at found)) (λ i e. completed_by run t i (kind_of run e)) found
+      (λ i e s. acted_completes run t i (kind_at found) ∙ ap (λ (f : Found). completed_by run t i (kind_at f)) s)
+      ∙ ap (λ (f : Found). reported_by f (λ i e. completed_by run t i (kind_of run e)) (refuse run)) q
   acted_call (Call.Outcome t p n o) found q =
       acted_report run t (λ i e. learns_as i e o (outcomes_for run.plan.outcomes (kind_at found)) (kind_at found)) (λ i e. learns_by run t i e o (kind_of run e)) found
       (λ i e s. acted_learns run t i e o (kind_at found) ∙ ap (λ (f : Found). learns_by run t i e o (kind_at f)) s)
@@ -134,11 +133,11 @@ module _ (run : Run) (long : length run.window ≡ 512) where
     named_report Found.Nothing h = tt
     named_report (Found.At i e) h = by_test (Named run) (is_started e.phase) _ _ (λ s. h i e refl) (λ s. tt)
 
-  named_completes : (i : ℕ) (e : Entry) (k : Kind) → i < 512 → KindNames run.plan k → Passes run → Named run (completes_by i e k)
-  named_completes i e (Kind.Action a x) l n p = (l, peripheral_below run p.0 x n, p.1)
-  named_completes i e (Kind.Claim r) l n p = tt
-  named_completes i e (Kind.Release r) l n p = tt
-  named_completes i e (Kind.Event v) l n p = tt
+  named_completes : (i : ℕ) (k : Kind) → i < 512 → Passes run → Named run (completes_by i k)
+  named_completes i (Kind.Action a x) l p = (l, tt, p.1)
+  named_completes i (Kind.Claim r) l p = tt
+  named_completes i (Kind.Release r) l p = tt
+  named_completes i (Kind.Event e) l p = tt
 
   named_learns : (i : ℕ) (x : Entry) (o : ℕ) (k : Kind) → i < 512 → KindNames run.plan k → Passes run → Named run (learns_as i x o (outcomes_for run.plan.outcomes k) k)
   named_learns i x o (Kind.Action a y) l n p = tt
@@ -155,10 +154,8 @@ module _ (run : Run) (long : length run.window ≡ 512) where
     named_call (Call.Ask t) Found.Nothing q = (state_below run p.0, p.1)
     named_call (Call.Ask t) (Found.At i e) q = ((named_held run p.0 long i e (found_holds run.plan.nodes (Sought.Due run.psi t) run.window i e (sym q))).0, tt, p.1)
     named_call (Call.Completion t m n) found q =
-        named_report (λ f i e. completes_by i e (kind_at run f)) found
-        (λ i e s.
-        let k = named_held run p.0 long i e (found_holds run.plan.nodes (Sought.Node m n) run.window i e (sym q ∙ s)) in
-        named_completes i e (kind_at run found) k.0 (subst (λ (f : Found). KindNames run.plan (kind_at run f)) (sym s) k.2) p)
+        named_report (λ f i e. completes_by i (kind_at run f)) found
+        (λ i e s. named_completes i (kind_at run found) (named_held run p.0 long i e (found_holds run.plan.nodes (Sought.Node m n) run.window i e (sym q ∙ s))).0 p)
     named_call (Call.Outcome t m n o) found q =
         named_report (λ f i e. learns_as i e o (outcomes_for run.plan.outcomes (kind_at run f)) (kind_at run f)) found
         (λ i e s.
@@ -201,13 +198,9 @@ place_below run long t sought (Check.Goes (Found.At i e)) q =
 
 -- the run with its reading, and with a place stored
 pub rests_acted : (run : Run) (t : Clock) (r : Reply) → run.halt ≡ Halt.Going → r ≡ cond (is_done run) Reply.Done Reply.Wait
-    → answer r (heard run t run.halt run.progress run.window) ≡ acted run t Effect.Rests
+    → answer r (record { plan = run.plan; psi = run.psi; slack = run.slack; progress = run.progress; window = run.window; last = t; halt = run.halt }) ≡ acted run t Effect.Rests
 rests_acted run t r h q = rw (h, q)
 
 pub stores_acted : (run : Run) (t : Clock) (i : ℕ) (e : Entry) (r : Reply) → run.halt ≡ Halt.Going
-    → answer r (heard run t run.halt run.progress (set run.window i e)) ≡ acted run t (Effect.Stores i e r)
+    → answer r (record { plan = run.plan; psi = run.psi; slack = run.slack; progress = run.progress; window = set run.window i e; last = t; halt = run.halt }) ≡ acted run t (Effect.Stores i e r)
 stores_acted run t i e r h = rw h
-
-pub completes_acted : (run : Run) (t : Clock) (i x : ℕ) (begun : Clock) → run.halt ≡ Halt.Going
-    → answer Reply.Taken (heard (busied run (busy_after run.busy x begun t)) t run.halt run.progress (set run.window i vacant)) ≡ acted run t (Effect.Completes i x begun)
-completes_acted run t i x begun h = rw h

@@ -14,7 +14,6 @@ use Rattle.run_limits.specs.Window.{entry_in_limits}
 use Rattle.plan_limits.specs.Laws.Plans.{tells_in_limits}
 use Rattle.run_limits.specs.Laws.Stored.{tells_stored}
 use Rattle.run_limits.specs.Laws.Places.{tells_window}
-use Rattle.run_limits.specs.Busy.{busy_in_limits}
 use Rattle.run_window.specs.declared.Entry.{Entry}
 use Rattle.run_window.specs.declared.Found.{Found}
 use Rattle.run_window.specs.declared.Sought.{Sought}
@@ -81,20 +80,20 @@ tells_self true = holds refl
 tells_self false = fails (λ e. true≢false (sym e))
 
 -- what is known of an entry that is held
-abbrev Known : ℕ → List ℕ → Clock → Entry → Type 0
-Known activities sizes last e =
+abbrev Known : ℕ → List ℕ → Entry → Type 0
+Known activities sizes e =
     (e.position ≤ last_position)
-    × (((e.activity < activities) × (e.node < get_or sizes e.activity 0)) × ((e.start.0 ≤ horizon) × ((e.end.0 ≤ horizon) × (e.begun.0 ≤ last.0))))
+    × (((e.activity < activities) × (e.node < get_or sizes e.activity 0)) × ((e.start.0 ≤ horizon) × (e.end.0 ≤ horizon)))
 
-known : (activities : ℕ) (sizes : List ℕ) (last : Clock) (e : Entry) → is_held e.phase ≡ true → entry_in_limits activities sizes last e ≡ true → Known activities sizes last e
+known : (activities : ℕ) (sizes : List ℕ) (e : Entry) → is_held e.phase ≡ true → entry_in_limits activities sizes e ≡ true → Known activities sizes e
 unfolding entry_in_limits
-known activities sizes last e h q =
+known activities sizes e h q =
     ⊎_elim (λ (f : is_free e.phase ≡ true). absurd (true≢false (sym f ∙ held_unfree e.phase h))) (λ k. k)
     (told_true
     (tells_or (tells_self (is_free e.phase))
     (tells_and (tells_leb e.position last_position)
     (tells_and (tells_and (tells_ltb e.activity activities) (tells_ltb e.node (get_or sizes e.activity 0)))
-    (tells_and (tells_leb e.start.0 horizon) (tells_and (tells_leb e.end.0 horizon) (tells_leb e.begun.0 last.0))))))
+    (tells_and (tells_leb e.start.0 horizon) (tells_leb e.end.0 horizon)))))
     q)
 
 -- a claim of every place holds past the end too, where it holds of a free place
@@ -103,27 +102,27 @@ beyond P [] v f i = v
 beyond P (e ∷ w) v f zero = f 0 (omega arith)
 beyond P (e ∷ w) v f (suc i) = beyond P w v (λ j l. f (suc j) (omega arith)) i
 
-abbrev Good : ℕ → List ℕ → Clock → Entry → Type 0
-Good activities sizes last e = entry_in_limits activities sizes last e ≡ true
+abbrev Good : ℕ → List ℕ → Entry → Type 0
+Good activities sizes e = entry_in_limits activities sizes e ≡ true
 
 -- a window that names nodes of the plan, of at most 32 activities of at most 64 nodes each
-module _ (activities : ℕ) (sizes : List ℕ) (last : Clock) (few : activities ≤ 32) (small : (a : ℕ) → a < activities → get_or sizes a 0 ≤ 64) where
+module _ (activities : ℕ) (sizes : List ℕ) (few : activities ≤ 32) (small : (a : ℕ) → a < activities → get_or sizes a 0 ≤ 64) where
   -- a node that is held is one of the plan's
-  pub node_below : (e : Entry) → is_held e.phase ≡ true → Good activities sizes last e → node_place e < 2048
+  pub node_below : (e : Entry) → is_held e.phase ≡ true → Good activities sizes e → node_place e < 2048
   node_below e h q =
-      let k = known activities sizes last e h q in
+      let k = known activities sizes e h q in
       let b = k.1.0.0 in
       let n = k.1.0.1 in
       let z = small e.activity b in
       omega arith
 
-  pub window_timed : (m : Moment) (w : List Entry) → m.psi.0 ≤ horizon → m.slack ≤ 1_000_000 → ((i : ℕ) → i < length w → Good activities sizes last (get_or w i vacant)) → Timed m w
+  pub window_timed : (m : Moment) (w : List Entry) → m.psi.0 ≤ horizon → m.slack ≤ 1_000_000 → ((i : ℕ) → i < length w → Good activities sizes (get_or w i vacant)) → Timed m w
   window_timed m w p s good = (
     p,
     omega arith,
     beyond (λ (e : Entry). is_held e.phase ≡ true → (e.start.0 ≤ horizon) × (e.end.0 ≤ horizon)) w
         (λ h. absurd (true≢false (sym h)))
-        (λ i l h. let k = known activities sizes last (get_or w i vacant) h (good i l) in (k.1.1.0, k.1.1.1.0)),
+        (λ i l h. (known activities sizes (get_or w i vacant) h (good i l)).1.1),
     beyond (λ (e : Entry). is_held e.phase ≡ true → node_place e < 2048) w
         (λ h. absurd (true≢false (sym h)))
         (λ i l h. node_below (get_or w i vacant) h (good i l)),
@@ -135,7 +134,7 @@ module _ (run : Run) (good : run_in_limits run ≡ true) where
       × (run.plan.events ≤ 16)
       × ProgressInLimits run.plan.resources run.plan.events run.plan.automaton.states run.plan.outcomes run.progress
 
-  parts : InLimits run.plan × ((run.psi.0 ≤ horizon) × (((1 ≤ run.slack) × (run.slack ≤ 1_000_000)) × (Stored × (((i : ℕ) → i < length run.window → Good run.plan.activities run.plan.sizes run.last (get_or run.window i vacant)) × ((busy_in_limits run.plan.peripherals run.last run.busy ≡ true) × (halt_in_limits run.halt ≡ true))))))
+  parts : InLimits run.plan × ((run.psi.0 ≤ horizon) × (((1 ≤ run.slack) × (run.slack ≤ 1_000_000)) × (Stored × (((i : ℕ) → i < length run.window → Good run.plan.activities run.plan.sizes (get_or run.window i vacant)) × (halt_in_limits run.halt ≡ true)))))
   unfolding run_in_limits
   parts =
       told_true
@@ -143,8 +142,7 @@ module _ (run : Run) (good : run_in_limits run ≡ true) where
       (tells_and (tells_leb run.psi.0 horizon)
       (tells_and (tells_and (tells_leb 1 run.slack) (tells_leb run.slack 1_000_000))
       (tells_and (tells_stored run.plan run.progress)
-      (tells_and (tells_window run.plan.activities run.plan.sizes run.last run.window)
-      (tells_and (tells_self (busy_in_limits run.plan.peripherals run.last run.busy)) (tells_self (halt_in_limits run.halt))))))))
+      (tells_and (tells_window run.plan.activities run.plan.sizes run.window) (tells_self (halt_in_limits run.halt)))))))
       good
 
   few : run.plan.activities ≤ 32
@@ -154,14 +152,10 @@ module _ (run : Run) (good : run_in_limits run ≡ true) where
   small a l = let z = (parts.0.sizes a l).1 in omega arith
 
   pub timed : (t : Clock) → Timed (moment_of run t) run.window
-  timed t = window_timed run.plan.activities run.plan.sizes run.last few small (moment_of run t) run.window parts.1.0 parts.1.1.0.1 parts.1.1.1.1.0
+  timed t = window_timed run.plan.activities run.plan.sizes few small (moment_of run t) run.window parts.1.0 parts.1.1.0.1 parts.1.1.1.1.0
 
   pub state_below : run.progress.state < 64
   state_below = let s = parts.1.1.1.0.2.state in let m = parts.0.states.1 in omega arith
-
-  -- a peripheral of the plan has a busy time
-  pub peripheral_below : (x : ℕ) → x < run.plan.peripherals → x < 64
-  peripheral_below x l = let m = parts.0.peripherals in omega arith
 
   -- its plan and its progress
   pub loads_in_limits : Loads run
@@ -170,6 +164,6 @@ module _ (run : Run) (good : run_in_limits run ≡ true) where
   -- a node that the window holds is one of the plan's
   pub named_held : length run.window ≡ 512 → (i : ℕ) (e : Entry) → Holds run.window i e × (i < length run.window) → (i < 512) × (node_place e < 2048) × KindNames run.plan (kind_of run e)
   named_held long i e (h, l) =
-      let g = subst (Good run.plan.activities run.plan.sizes run.last) h.entry (parts.1.1.1.1.0 i l) in
-      let k = known run.plan.activities run.plan.sizes run.last e h.held g in
-      (omega arith, node_below run.plan.activities run.plan.sizes run.last few small e h.held g, (parts.0.nodes e.activity e.node k.1.0.0 k.1.0.1).names)
+      let g = subst (Good run.plan.activities run.plan.sizes) h.entry (parts.1.1.1.1.0 i l) in
+      let k = known run.plan.activities run.plan.sizes e h.held g in
+      (omega arith, node_below run.plan.activities run.plan.sizes few small e h.held g, (parts.0.nodes e.activity e.node k.1.0.0 k.1.0.1).names)

@@ -9,17 +9,16 @@ use Prim.Native.Nat.{ℕ, zero, suc, ◌+◌, ◌≤◌, ◌<◌}
 use Rattle.std.proofs.Math.ListN.{length}
 use Rattle.std.proofs.Math.Seq.{drop-cons}
 use Rattle.basis.specs.Inner.Tells.{Tells, holds, fails}
-use Rattle.time.specs.declared.Clock.{Clock}
 use Rattle.run_window.specs.Window.{vacant}
 use Rattle.run_window.specs.declared.Entry.{Entry}
 use Rattle.run_limits.specs.Window.{entry_in_limits, window_in_limits}
 
-module _ (activities : ℕ) (sizes : List ℕ) (last : Clock) where
+module _ (activities : ℕ) (sizes : List ℕ) where
   abbrev good : Entry → Bool
-  good e = entry_in_limits activities sizes last e
+  good e = entry_in_limits activities sizes e
 
   abbrev all : List Entry → Bool
-  all w = window_in_limits activities sizes last w
+  all w = window_in_limits activities sizes w
 
   -- the rest is the place i, and then the rest past it
   split : (w : List Entry) (i : ℕ) → i < length w → all (drop i w) ≡ good (get_or w i vacant) && all (drop (i + 1) w)

@@ -1,5 +1,6 @@
 -- What the inner functions answer: the activity of a transition as an array, and a path's entries put one after the other.
 use Rattle.std.specs.Prelude.{Bool, true, false, cond, List, [], ◌∷◌, ℕ, ◌+◌, ltb, length, set, replicate}
+use Rattle.time.specs.declared.Specified.{Specified}
 use Rattle.plan.specs.declared.Node.{Node}
 use Rattle.plan.specs.declared.Output.{Output}
 use Rattle.plan.specs.declared.Activity.{Activity}
@@ -7,6 +8,7 @@ use Rattle.plan.specs.declared.Plan.{Plan}
 use Rattle.activity.specs.Inner.Copied.{empty_node, copied}
 use Rattle.times.specs.declared.Progress.{Progress}
 use Rattle.run_window.specs.Window.{vacant}
+use Rattle.run_window.specs.declared.Phase.{Phase}
 use Rattle.run_window.specs.declared.Entry.{Entry}
 use Rattle.run_path.specs.declared.Pathed.{Pathed}
 use Rattle.run_path.specs.Path.{Path, is_work, taken_by, entries_by}
@@ -20,6 +22,10 @@ emitted_of p (Output.Activity a) = copied p a
 abbrev pub emitted_count : Output → ℕ → ℕ
 emitted_count Output.Empty size = 0
 emitted_count (Output.Activity a) size = size
+
+-- the entry of a node, which is not started
+abbrev pub entry_of : ℕ → ℕ → ℕ → Specified → Specified → Entry
+entry_of position a n start end = record { phase = Phase.Loaded; position = position; activity = a; node = n; start = start; end = end }
 
 -- how many entries a path has after a node
 abbrev pub counted_of : ℕ → Node → ℕ

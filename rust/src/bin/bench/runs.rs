@@ -2,7 +2,7 @@
 
 use crate::cases::{Case, Work};
 use crate::linked::{self, Driver};
-use jidlekuvo_reference::drive::{self, calls_among, drive, Part, RECORD};
+use jidlekuvo_reference::drive::{self, drive, RECORD};
 use jidlekuvo_reference::generate::in_time::{calls_in_time, opening_of, plan_t_read};
 use jidlekuvo_reference::generate::markers::marked_path;
 use jidlekuvo_reference::generate::messages::sent;
@@ -13,10 +13,10 @@ use jidlekuvo_reference::run::{Call, Opening, Request};
 /// How many calls a row over a full window takes.
 const CALLS: usize = 20;
 
-/// The form in which an opening and calls, or questions, are put to both builds.
+/// The form in which an opening and calls are put to both builds.
 struct Form {
-    encode: fn(&Opening, &[Part]) -> Vec<u8>,
-    /// The room for the answers to so many of them.
+    encode: fn(&Opening, &[Call]) -> Vec<u8>,
+    /// The room for the answers to so many calls.
     room: fn(usize) -> usize,
     rust: Driver,
     rattle: Option<Driver>,
@@ -24,15 +24,15 @@ struct Form {
 
 /// As calls, answered by records.
 fn called_by_records() -> Form {
-    let room = |parts| (parts + 1) * RECORD;
-    Form { encode: drive::encode, room, rust: drive, rattle: linked::drive() }
+    let room = |calls| (calls + 1) * RECORD;
+    Form { encode: drive::encode_calls, room, rust: drive, rattle: linked::drive() }
 }
 
 /// As messages, answered by messages. With room for the longest answers the Rattle side goes through a list
-/// once. No message asks a question.
+/// once.
 fn called_by_messages() -> Form {
-    let encode = |opening: &Opening, parts: &[Part]| {
-        link::encode(opening, &calls_among(parts).into_iter().map(sent).collect::<Vec<_>>())
+    let encode = |opening: &Opening, calls: &[Call]| {
+        link::encode(opening, &calls.iter().map(|&call| sent(call)).collect::<Vec<_>>())
     };
     Form { encode, room: |calls| RECORD + 8 * calls, rust: link::drive, rattle: linked::link() }
 }
@@ -44,8 +44,8 @@ struct Drive {
 }
 
 impl Drive {
-    fn new(form: &Form, opening: &Opening, parts: &[Part]) -> Drive {
-        let made = Drive { input: (form.encode)(opening, parts), room: (form.room)(parts.len()) };
+    fn new(form: &Form, opening: &Opening, calls: &[Call]) -> Drive {
+        let made = Drive { input: (form.encode)(opening, calls), room: (form.room)(calls.len()) };
         let answered = made.answers(form.rust);
         assert!(answered[0] == 0, "the opening is refused");
         form.rattle.iter().for_each(|&rattle| assert!(answered == made.answers(rattle)));
@@ -65,29 +65,25 @@ impl Drive {
     }
 }
 
-fn parts_of(calls: &[Call]) -> Vec<Part> {
-    calls.iter().map(|&call| Part::Call(call)).collect()
-}
-
 fn driving(name: &str, opening: &Opening, calls: &[Call]) -> Case {
-    driving_by(called_by_records(), name, opening, &parts_of(calls))
+    driving_by(called_by_records(), name, opening, calls)
 }
 
-fn driving_by(form: Form, name: &str, opening: &Opening, parts: &[Part]) -> Case {
-    let drives = Drive::new(&form, opening, parts);
+fn driving_by(form: Form, name: &str, opening: &Opening, calls: &[Call]) -> Case {
+    let drives = Drive::new(&form, opening, calls);
     let rattle = form.rattle.map(|function| drives.work(function));
     Case { name: name.to_string(), units: 1.0, rust: drives.work(form.rust), rattle }
 }
 
 /// One call: a drive with the calls without one with the first `before` of them.
 fn calling(name: &str, opening: &Opening, calls: &[Call], before: usize) -> Case {
-    calling_by(called_by_records(), name, opening, &parts_of(calls), before)
+    calling_by(called_by_records(), name, opening, calls, before)
 }
 
-fn calling_by(form: Form, name: &str, opening: &Opening, parts: &[Part], before: usize) -> Case {
-    let (all, few) = (Drive::new(&form, opening, parts), Drive::new(&form, opening, &parts[..before]));
+fn calling_by(form: Form, name: &str, opening: &Opening, calls: &[Call], before: usize) -> Case {
+    let (all, few) = (Drive::new(&form, opening, calls), Drive::new(&form, opening, &calls[..before]));
     let work = |function: Driver| all.work(function).without(few.work(function));
-    let units = (parts.len() - before) as f64;
+    let units = (calls.len() - before) as f64;
     Case { name: name.to_string(), units, rust: work(form.rust), rattle: form.rattle.map(work) }
 }
 
@@ -124,7 +120,7 @@ fn ask_over_full_window() -> Case {
 fn asks_over_the_link() -> Vec<Case> {
     let (t, full) = (opening_of(&plan_t_read()), full_opening());
     let (of_t, of_full) = (repeated(&t, Request::Ask), repeated(&full, Request::Ask));
-    let linked = |name, opening, calls| calling_by(called_by_messages(), name, opening, &parts_of(calls), 0);
+    let linked = |name, opening, calls| calling_by(called_by_messages(), name, opening, calls, 0);
     vec![
         calling("ask of plan T (wait)", &t, &of_t, 0),
         linked("read, ask of plan T, write over the link (wait)", &t, &of_t),
@@ -181,7 +177,7 @@ fn called_for_a_host() -> Option<Form> {
     Some(Form { rust: by_records.rattle?, rattle: Some(for_a_host), ..by_records })
 }
 
-/// Openings, asks, reports, outcomes and busy times in both ways; none where one of them is not there.
+/// Openings, asks, reports and outcomes in both ways; none where one of them is not there.
 pub fn held() -> Vec<Case> {
     let (t, largest) = (opening_of(&plan_t_read()), opening_of(&plans::largest_plan()));
     let (full, loading) = (full_opening(), loading_opening());
@@ -189,19 +185,18 @@ pub fn held() -> Vec<Case> {
     let rows = [
         ("open plan T", &t, vec![], 0),
         ("open the largest accepted plan", &largest, vec![], 0),
-        ("ask of plan T (wait)", &t, parts_of(&repeated(&t, Request::Ask)), 0),
-        ("ask over a full window (wait)", &full, parts_of(&repeated(&full, Request::Ask)), 0),
-        ("report over a full window (52)", &full, parts_of(&repeated(&full, absent)), 0),
-        ("start or report while a full window empties", &full, parts_of(&calls_in_time(&full, 3 + CALLS)), 3),
-        ("an outcome that loads a path of 75 nodes", &loading, parts_of(&calls_in_time(&loading, 2)), 1),
-        ("an outcome that loads 1 node into a window of 511", &full, parts_of(&calls_in_time(&full, 3)), 2),
-        ("a busy time over a full window", &full, vec![Part::Busy { peripheral: 1 }; CALLS], 0),
+        ("ask of plan T (wait)", &t, repeated(&t, Request::Ask), 0),
+        ("ask over a full window (wait)", &full, repeated(&full, Request::Ask), 0),
+        ("report over a full window (52)", &full, repeated(&full, absent), 0),
+        ("start or report while a full window empties", &full, calls_in_time(&full, 3 + CALLS), 3),
+        ("an outcome that loads a path of 75 nodes", &loading, calls_in_time(&loading, 2), 1),
+        ("an outcome that loads 1 node into a window of 511", &full, calls_in_time(&full, 3), 2),
     ];
-    let row = |(name, opening, parts, before): (&str, &Opening, Vec<Part>, usize)| {
+    let row = |(name, opening, calls, before): (&str, &Opening, Vec<Call>, usize)| {
         let form = called_for_a_host()?;
-        Some(match parts.is_empty() {
-            true => driving_by(form, name, opening, &parts),
-            false => calling_by(form, name, opening, &parts, before),
+        Some(match calls.is_empty() {
+            true => driving_by(form, name, opening, &calls),
+            false => calling_by(form, name, opening, &calls, before),
         })
     };
     rows.into_iter().filter_map(row).collect()

@@ -1,11 +1,9 @@
 //! Runs that no opening made: runs that openings and calls produced, with stored values pushed to a
-//! limit or one past it, or with markers, start readings and busy times as no opening gives them, and two
-//! calls of each.
+//! limit or one past it, or with markers as no opening gives them, and two calls of each.
 
 mod of_markers;
 mod of_plans;
 mod of_runs;
-mod of_times;
 
 pub use of_markers::case as marker_case;
 pub use of_plans::OF_PLANS;
@@ -175,9 +173,6 @@ fn run(random: &mut Random) -> Run {
     if random.one_in(40) {
         run.last_reading = random.pick(&[0, u64::MAX, run.psi]);
     }
-    if random.one_in(6) {
-        run = of_times::with_times(random, run);
-    }
     match random.one_in(2) {
         true => pushed(random, run, 1),
         false => run,
@@ -231,13 +226,10 @@ fn calls(random: &mut Random, run: &Run) -> [Call; 2] {
     [first, call(random, &after)]
 }
 
-/// A made-up run and two calls of it; one in six is about markers, one in eight about busy times.
+/// A made-up run and two calls of it; one in six is about markers.
 pub fn case(random: &mut Random) -> (Run, [Call; 2]) {
     if random.one_in(6) {
         return marker_case(random);
-    }
-    if random.one_in(8) {
-        return of_times::case(random);
     }
     let run = run(random);
     let calls = calls(random, &run);

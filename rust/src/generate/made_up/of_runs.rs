@@ -28,14 +28,6 @@ fn change_entry(random: &mut Random, run: &mut Run, change: impl Fn(&mut Entry))
     any(random, &mut run.window).map(change)
 }
 
-/// Gives a node of the window, started or not, the last reading as its start reading, or one past it.
-fn change_begun(random: &mut Random, run: &mut Run, is_started: bool, past: u8) -> Option<()> {
-    let reading = run.last_reading.checked_add(past as u64)?;
-    let mut nodes: Vec<&mut Entry> = run.window.iter_mut().filter(|e| e.started == is_started).collect();
-    any(random, &mut nodes)?.begun = reading;
-    Some(())
-}
-
 /// A run with a stop of this number.
 fn stopped(run: &mut Run, number: u8, position: u64, node: u64) -> Option<()> {
     run.stop = Some(Stop { number, node: Some((position as u32, node as u8)) });
@@ -114,14 +106,6 @@ pub const OF_RUNS: &[Push] = &[
     }),
     ("completion of an entry", |random, run, past| {
         change_entry(random, run, |entry| entry.time.completion = HORIZON + past as u64)
-    }),
-    ("start reading of a started node", |random, run, past| change_begun(random, run, true, past)),
-    ("start reading of a loaded node", |random, run, past| change_begun(random, run, false, past)),
-    ("busy time", |random, run, past| {
-        let of_the_plan = run.busy.0.iter_mut().zip(&run.plan.peripherals);
-        let mut times: Vec<&mut u64> = of_the_plan.map(|(busy, _)| busy).collect();
-        **any(random, &mut times)? = run.last_reading.checked_add(past as u64)?;
-        Some(())
     }),
     ("position of stop 41", |_, run, past| stopped(run, 41, LAST_POSITION + past as u64, 0)),
     ("node of stop 41", |_, run, past| stopped(run, 41, 0, MOST_NODES - 1 + past as u64)),

@@ -3,7 +3,7 @@ use Rattle.held.proofs.places.entry_of.Statement.{statement}
 use Rattle.held.proofs.places.entry_of.Tie as tie
 
 returns : tie.Need-returns
-returns c = simp c.before.before.before.phase-of.ensures
+returns c = simp c.before.before.phase-of.ensures
 
 pub entry-of-spec : {M : Type 1} → statement M
 entry-of-spec =

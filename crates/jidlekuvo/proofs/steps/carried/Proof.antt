@@ -6,12 +6,10 @@ use Prim.Native.Nat.{ℕ, ◌<◌}
 use lib.ListN.{set}
 use Rattle.times.specs.declared.Progress.{Progress}
 use Rattle.run_window.specs.declared.Entry.{Entry}
-use Rattle.run_window.specs.Window.{vacant}
 use Rattle.run_checks.specs.declared.Halt.{Halt}
 use Rattle.run_checks.specs.declared.Moment.{Moment}
 use Rattle.run.specs.declared.Reply.{Reply}
 use Rattle.run.specs.declared.Effect.{Effect}
-use Rattle.run.specs.Busy.{busy_after}
 use Rattle.run.specs.Inner.Effects.{rests_as}
 use Rattle.held.specs.Held.{entry_of, progress_of}
 use Rattle.held_checks.specs.Inner.Checks.{moment_at}
@@ -26,18 +24,12 @@ start c = c.before.before.before
 abbrev window : tie.Start → List Entry
 window s = map entry_of s.args.rest.window
 
--- the busy times of the numbers, at any moment
-abbrev busy : tie.Start → Moment → List ℕ
-busy s m = s.args.rest.busy
-
 -- a call that changes the run, by the parts that were read
-changed : (c : tie.After-progress-of) (b : Moment → List ℕ) (w : List Entry) (halt : Halt) (told : Reply)
-    → stepped_by c.before.before.moment-of.result (b c.before.before.moment-of.result) w c.progress-of.result halt told
-    ≡ stepped_by (moment_at (start c).args.rest (start c).args.c) (b (moment_at (start c).args.rest (start c).args.c)) w (progress_of (start c).args.rest.progress) halt told
-changed c b w halt told =
-    let m' = moment_at (start c).args.rest (start c).args.c in
-    ap (λ (m : Moment). stepped_by m (b m) w c.progress-of.result halt told) c.before.before.moment-of.ensures
-    ∙ ap (λ (g : Progress). stepped_by m' (b m') w g halt told) c.progress-of.ensures
+changed : (c : tie.After-progress-of) (w : List Entry) (halt : Halt) (told : Reply)
+    → stepped_by c.before.before.moment-of.result w c.progress-of.result halt told ≡ stepped_by (moment_at (start c).args.rest (start c).args.c) w (progress_of (start c).args.rest.progress) halt told
+changed c w halt told =
+    ap (λ (m : Moment). stepped_by m w c.progress-of.result halt told) c.before.before.moment-of.ensures
+    ∙ ap (λ (g : Progress). stepped_by (moment_at (start c).args.rest (start c).args.c) w g halt told) c.progress-of.ensures
 
 carries : (c : tie.After-progress-of) (x : Effect) → (start c).args.effect ≡ x → Carries (start c).args.rest x
 carries c x e = subst (Carries (start c).args.rest) e (start c).requires
@@ -50,7 +42,7 @@ returns-2 c =
     let p = c.before.before.before.before in
     let s = start p in
     let x = c.before.before.effect2.given in
-    c.stopped.ensures ∙ changed p (busy s) (window s) (Halt.Stopped x.0.0) (Reply.Stopped x.0.0) ∙ sym (ap (carried_by s.args.finals s.args.rest s.args.c) x.1)
+    c.stopped.ensures ∙ changed p (window s) (Halt.Stopped x.0.0) (Reply.Stopped x.0.0) ∙ sym (ap (carried_by s.args.finals s.args.rest s.args.c) x.1)
 
 state-same : (c : tie.After-progress-of) → c.progress-of.result.state ≡ (start c).args.rest.progress.state
 state-same c = ap (λ (g : Progress). g.state) c.progress-of.ensures
@@ -63,37 +55,25 @@ returns-3 c =
     let p = c.before.before.before.before in
     let s = start p in
     c.heard.ensures
-    ∙ ap (λ (r : Reply). stepped_by p.before.before.moment-of.result s.args.rest.busy (window s) p.progress-of.result Halt.Going r)
+    ∙ ap (λ (r : Reply). stepped_by p.before.before.moment-of.result (window s) p.progress-of.result Halt.Going r)
     (c.before.at_rest.ensures ∙ ap (λ (n : ℕ). rests_as s.args.finals n (window s)) (state-same p))
-    ∙ changed p (busy s) (window s) Halt.Going (rests_as s.args.finals s.args.rest.progress.state (window s))
+    ∙ changed p (window s) Halt.Going (rests_as s.args.finals s.args.rest.progress.state (window s))
     ∙ sym (ap (carried_by s.args.finals s.args.rest s.args.c) c.before.before.enum_told.given.1)
 
 stored-requires : tie.Need-stored-requires
-stored-requires c κs = carries c.before.before.before.before _ c.before.before.effect3.given.1
+stored-requires c κs = carries c.before.before.before _ c.before.effect3.given.1
 
 returns-4 : tie.Need-returns-4
 returns-4 c =
-    let p = c.before.before.before.before.before in
-    let s = start p in
-    let x = c.before.before.before.effect3.given in
-    c.stored.ensures
-    ∙ changed p (busy s) (set (window s) x.0.0 x.0.1.0) Halt.Going x.0.1.1.0
-    ∙ sym (ap (carried_by s.args.finals s.args.rest s.args.c) x.1)
-
-completed-requires : tie.Need-completed-requires
-completed-requires c κs = carries c.before.before.before _ c.before.effect4.given.1
-
-returns-5 : tie.Need-returns-5
-returns-5 c =
     let p = c.before.before.before.before in
     let s = start p in
-    let x = c.before.before.effect4.given in
-    c.completed.ensures
-    ∙ changed p (λ (m : Moment). busy_after s.args.rest.busy x.0.1.0 x.0.1.1.0 m.t) (set (window s) x.0.0 vacant) Halt.Going Reply.Taken
+    let x = c.before.before.effect3.given in
+    c.stored.ensures
+    ∙ changed p (set (window s) x.0.0 x.0.1.0) Halt.Going x.0.1.1.0
     ∙ sym (ap (carried_by s.args.finals s.args.rest s.args.c) x.1)
 
-returns-6 : tie.Need-returns-6
-returns-6 c = let s = start c.before.before.before in c.kept2.ensures ∙ sym (ap (carried_by s.args.finals s.args.rest s.args.c) c.before.enum-told2.given.1)
+returns-5 : tie.Need-returns-5
+returns-5 c = let s = start c.before.before.before in c.kept2.ensures ∙ sym (ap (carried_by s.args.finals s.args.rest s.args.c) c.before.enum-told2.given.1)
 
 pub carried-spec : {M : Type 1} → statement M
 carried-spec =
@@ -115,8 +95,5 @@ carried-spec =
     stored-requires
     returns-4
     (λ c. search rules)
-    completed-requires
-    returns-5
-    (λ c. search rules)
     (λ c κs. search rules)
-    returns-6)
+    returns-5)

@@ -58,14 +58,14 @@ moves_same s i l =
 
 load-requires : tie.Need-load-requires
 load-requires c κs =
-    let s = c.before.before.before.before.before in
+    let s = c.before.before.before.before in
     let a = s.args in
     subst (λ (p : Plan). Loads p a.progress × (a.e < p.events) × (a.o < outcomes_of p a.e)) (sym c.before.before.plan-upto.ensures)
     (room_loads (plan_of a.held) (read s) (gone s) s.requires.0.plan (nodes-same s) (moves_same s) a.progress s.requires.0, s.requires.2, s.requires.3)
 
-loaded : (c : tie.After-load) → let a = c.before.before.before.before.before.before.args in c.load.result ≡ further (plan_of a.held) most_pending (told_of a.progress a.e a.x a.o) (set (map entry_of a.rest.window) a.i vacant)
+loaded : (c : tie.After-load) → let a = c.before.before.before.before.before.args in c.load.result ≡ further (plan_of a.held) most_pending (told_of a.progress a.e a.x a.o) (set (map entry_of a.rest.window) a.i vacant)
 loaded c =
-    let s = c.before.before.before.before.before.before in
+    let s = c.before.before.before.before.before in
     let a = s.args in
     let g = told_of a.progress a.e a.x a.o in
     let w = c.before.window-of in
@@ -78,9 +78,9 @@ loaded c =
 
 returns : tie.Need-returns
 returns c =
-    let a = c.before.before.before.before.before.before.before.args in
+    let a = c.before.before.before.before.before.before.args in
     c.learnt.ensures
-    ∙ ap stepped_of (sym (loaded_as_lem (run_at (plan_of a.held) a.progress (map entry_of a.rest.window) a.rest.busy a.m Halt.Going) refl a.m.t a.i (told_of a.progress a.e a.x a.o) c.before.load.result (loaded c.before)))
+    ∙ ap stepped_of (sym (loaded_as_lem (run_at (plan_of a.held) a.progress (map entry_of a.rest.window) a.m Halt.Going) refl a.m.t a.i (told_of a.progress a.e a.x a.o) c.before.load.result (loaded c.before)))
 
 pub learns-spec : {M : Type 1} → statement M
 learns-spec =

@@ -15,7 +15,7 @@ use Rattle.jidlekuvo.proofs.steps.stored.Tie as tie
 
 -- with the window w
 abbrev stored_in : tie.Start → List HeldEntry → Stepped
-stored_in s w = let a = s.args in stepped_with a.m a.busy w a.progress Halt.Going a.told
+stored_in s w = let a = s.args in stepped_with a.m w a.progress Halt.Going a.told
 
 mul-window : tie.Need-overflow-mul-window
 mul-window c = let l = c.before.before.requires in omega arith

@@ -1,6 +1,5 @@
 -- `call` does to the run what its effect says.
 use mathlib.Core.Path.{◌≡◌, sym, ◌∙◌}
-use Prim.Native.Nat.{◌<◌}
 use native.Mathlib.Omega.{arith}
 use lib.ListN.{length}
 use Rattle.basis.specs.Laws.Lists.{unmapped}
@@ -9,7 +8,7 @@ use Rattle.run_outcomes.specs.Told.{told_of}
 use Rattle.run.specs.declared.Effect.{Effect}
 use Rattle.run.specs.Calls.{call_of}
 use Rattle.run.specs.Inner.Effects.{acted, Named}
-use Rattle.run.specs.Laws.Acting.{call_acted, call_named, rests_acted, stores_acted, completes_acted}
+use Rattle.run.specs.Laws.Acting.{call_acted, call_named, rests_acted, stores_acted}
 use Rattle.run.specs.Laws.Loaded.{storing, answer_by, learnt_parts}
 use borrow.Author.Rules.{rules}
 use Rattle.run.proofs.Run.call.Statement.{statement}
@@ -52,31 +51,8 @@ returns-4 c =
     let x = c.before.effect3.given in
     stores_acted e.before.before.args.t1 e.before.reading-of.result x.0.0 x.0.1.0 x.0.1.1.0 (known e _ x.1).2 ∙ answered e _ x.1
 
--- the peripheral and the place of a reported action
-below : (c : tie.After-u8-to-usize) → c.u8-to-usize.result < 64
-below c = let l = (known c.before.before.before.before _ c.before.before.effect4.given.1).1 in omega (arith, c.u8-to-usize.ensures)
-
-element-copy-out-spent : tie.Need-element-copy-out-spent
-element-copy-out-spent c = let l = below c in omega arith
-
-element-write-self : tie.Need-element-write-self
-element-write-self c = let l = below c.before.before in omega arith
-
-mul-t39 : tie.Need-overflow-mul-t39
-mul-t39 c = let l = (known c.before.before.before.before.before.before.before _ c.before.before.before.before.before.effect4.given.1).0 in omega arith
-
-element-set-from-self : tie.Need-element-set-from-self
-element-set-from-self c = let l = (known c.before.before.before.before.before.before.before _ c.before.before.before.before.before.effect4.given.1).0 in omega arith
-
-returns-5 : tie.Need-returns-5
-returns-5 c =
-    let e = c.before.before.before.before.before.before.before in
-    let x = c.before.before.before.before.before.effect4.given in
-    rw (c.vacant.ensures, c.before.spent.ensures, c.before.before.before.u8-to-usize.ensures)
-    (completes_acted e.before.before.args.t1 e.before.reading-of.result x.0.0 x.0.1.0 x.0.1.1.0 (known e _ x.1).2 ∙ answered e _ x.1)
-
 load-after-requires : tie.Need-load-after-requires
-load-after-requires c κs = let k = known c.before.before.before _ c.before.effect5.given.1 in (k.3, k.0, k.1, k.2)
+load-after-requires c κs = let k = known c.before.before.before _ c.before.effect4.given.1 in (k.3, k.0, k.1, k.2)
 
 -- the run with what was loaded is taken, or keeps a stop
 after : (c : tie.After-halt-after) (x : Halt) → c.halt-after.result ≡ x
@@ -84,17 +60,17 @@ after : (c : tie.After-halt-after) (x : Halt) → c.halt-after.result ≡ x
     ≡ call_of c.before.before.before.before.before.before.before.before.before.args.t1 c.before.before.before.before.before.before.before.before.before.args.c
 after c x r =
     let e = c.before.before.before.before.before.before.before in
-    let y = c.before.before.before.before.before.effect5.given in
+    let y = c.before.before.before.before.before.effect4.given in
     let run = e.before.before.args.t1 in
     let l = c.before.before.before.load_after in
     learnt_parts run (known e _ y.1).4 e.before.reading-of.result y.0.0 (told_of run.progress y.0.1.1.0 y.0.1.0 y.0.1.1.1.0) l.result l.ensures x (sym r ∙ c.halt-after.ensures)
     ∙ answered e _ y.1
 
-returns-6 : tie.Need-returns-6
-returns-6 c = after c.before.before _ c.enum-told2.given.1
+returns-5 : tie.Need-returns-5
+returns-5 c = after c.before.before _ c.enum-told2.given.1
 
-returns-7 : tie.Need-returns-7
-returns-7 c = c.stops2.ensures ∙ after c.before.before.before.before _ c.before.before.s.given.1
+returns-6 : tie.Need-returns-6
+returns-6 c = c.stops2.ensures ∙ after c.before.before.before.before _ c.before.before.s.given.1
 
 pub call-spec : {M : Type 1} → statement M
 call-spec =
@@ -115,21 +91,10 @@ call-spec =
     element-set-from-e
     returns-4
     (λ c. search rules)
-    (λ c κs. search rules)
-    (λ c. search rules)
-    element-copy-out-spent
-    (λ c κs. search rules)
-    (λ c. search rules)
-    element-write-self
-    (λ c κs. search rules)
-    mul-t39
-    element-set-from-self
-    returns-5
-    (λ c. search rules)
     load-after-requires
     (λ c κs. search rules)
     (λ c. search rules)
     (λ c. search rules)
-    returns-6
+    returns-5
     (λ c κs. search rules)
-    returns-7)
+    returns-6)

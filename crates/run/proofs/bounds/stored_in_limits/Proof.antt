@@ -12,15 +12,11 @@ returns c = rw (sym c.before.progress-in-limits.ensures ∙ not-true c.before.pr
 
 returns-2 : tie.Need-returns-2
 unfolding stored_in_limits
-returns-2 c = rw (sym c.before.before.before.before.before.before.progress-in-limits.ensures ∙ not-false c.before.before.before.before.before.before.progress-in-limits.result c.before.before.before.before.before.if1.false, sym c.before.window-in-limits.ensures ∙ not-true c.before.window-in-limits.result c.if2.true)
+returns-2 c = rw (sym c.before.before.before.before.before.progress-in-limits.ensures ∙ not-false c.before.before.before.before.before.progress-in-limits.result c.before.before.before.before.if1.false, sym c.before.window-in-limits.ensures ∙ not-true c.before.window-in-limits.result c.if2.true)
 
 returns-3 : tie.Need-returns-3
 unfolding stored_in_limits
-returns-3 c = rw (sym c.before.before.before.before.before.before.before.before.before.progress-in-limits.ensures ∙ not-false c.before.before.before.before.before.before.before.before.before.progress-in-limits.result c.before.before.before.before.before.before.before.before.if1.false, sym c.before.before.before.before.window-in-limits.ensures ∙ not-false c.before.before.before.before.window-in-limits.result c.before.before.before.if2.false, sym c.before.busy-in-limits.ensures ∙ not-true c.before.busy-in-limits.result c.if3.true)
-
-returns-4 : tie.Need-returns-4
-unfolding stored_in_limits
-returns-4 c = rw (sym c.before.before.before.before.before.before.before.before.before.before.progress-in-limits.ensures ∙ not-false c.before.before.before.before.before.before.before.before.before.before.progress-in-limits.result c.before.before.before.before.before.before.before.before.before.if1.false, sym c.before.before.before.before.before.window-in-limits.ensures ∙ not-false c.before.before.before.before.before.window-in-limits.result c.before.before.before.before.if2.false, sym c.before.before.busy-in-limits.ensures ∙ not-false c.before.before.busy-in-limits.result c.before.if3.false) c.halt-in-limits.ensures
+returns-3 c = rw (sym c.before.before.before.before.before.before.progress-in-limits.ensures ∙ not-false c.before.before.before.before.before.before.progress-in-limits.result c.before.before.before.before.before.if1.false, sym c.before.before.window-in-limits.ensures ∙ not-false c.before.before.window-in-limits.result c.before.if2.false) c.halt-in-limits.ensures
 
 pub stored-in-limits-spec : {M : Type 1} → statement M
 stored-in-limits-spec =
@@ -31,6 +27,4 @@ stored-in-limits-spec =
     (λ c κs. search rules)
     returns-2
     (λ c κs. search rules)
-    returns-3
-    (λ c κs. search rules)
-    returns-4)
+    returns-3)

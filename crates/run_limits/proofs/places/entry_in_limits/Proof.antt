@@ -24,13 +24,9 @@ returns-4 c = rw (sym c.before.before.before.before.before.before.before.is_free
 
 returns-5 : tie.Need-returns-5
 unfolding entry_in_limits
-returns-5 c = rw (sym c.before.before.before.before.before.before.before.before.before.is_free.ensures ∙ c.before.before.before.before.before.before.before.before.if1.false, le-leb _ _ c.before.before.before.before.before.before.if2.false, sym c.before.before.before.before.before.names-node.ensures ∙ not-false c.before.before.before.before.before.names-node.result c.before.before.before.before.if3.false, le-leb _ _ c.before.before.if4.false, lt-leb _ _ c.if5.true)
-
-returns-6 : tie.Need-returns-6
-unfolding entry_in_limits
-returns-6 c = rw (sym c.before.before.before.before.before.before.before.before.before.before.before.is_free.ensures ∙ c.before.before.before.before.before.before.before.before.before.before.if1.false, le-leb _ _ c.before.before.before.before.before.before.before.before.if2.false, sym c.before.before.before.before.before.before.before.names-node.ensures ∙ not-false c.before.before.before.before.before.before.before.names-node.result c.before.before.before.before.before.before.if3.false, le-leb _ _ c.before.before.before.before.if4.false, le-leb _ _ c.before.before.if5.false)
+returns-5 c = rw (sym c.before.before.before.before.before.before.before.before.is_free.ensures ∙ c.before.before.before.before.before.before.before.if1.false, le-leb _ _ c.before.before.before.before.before.if2.false, sym c.before.before.before.before.names-node.ensures ∙ not-false c.before.before.before.before.names-node.result c.before.before.before.if3.false, le-leb _ _ c.before.if4.false)
 
 pub entry-in-limits-spec : {M : Type 1} → statement M
 entry-in-limits-spec =
     tie.close
-    (tie.spec (λ c κs. search rules) returns returns-2 (λ c κs. search rules) returns-3 returns-4 returns-5 returns-6)
+    (tie.spec (λ c κs. search rules) returns returns-2 (λ c κs. search rules) returns-3 returns-4 returns-5)

@@ -12,18 +12,18 @@ use Rattle.run_limits.proofs.places.window_in_limits.Statement.{statement}
 use Rattle.run_limits.proofs.places.window_in_limits.Tie as tie
 
 abbrev invariant-loop : tie.invariant-loop
-invariant-loop activities sizes last window i₀ i = (i ≤ 512)
+invariant-loop activities sizes window i₀ i = (i ≤ 512)
     × (length window ≡ 512)
-    × (window_in_limits activities sizes last window ≡ window_in_limits activities sizes last (drop i window))
+    × (window_in_limits activities sizes window ≡ window_in_limits activities sizes (drop i window))
 
 abbrev decreases-loop : tie.decreases-loop
-decreases-loop activities sizes last window i₀ i = 512 - i
+decreases-loop activities sizes window i₀ i = 512 - i
 
 returns : tie.Need-returns invariant-loop decreases-loop
 returns c =
     let a = c.before.before.before.before.before.args in
     let l = c.before.before.before.before.loop in
-    sym (window_off a.activities a.sizes a.last a.t4 l.i (omega arith) l.invariant.2
+    sym (window_off a.activities a.sizes a.t3 l.i (omega arith) l.invariant.2
     (sym c.before.entry-in-limits.ensures ∙ not-true c.before.entry-in-limits.result c.if1.true))
 
 loop-again : tie.Need-loop-preserved invariant-loop decreases-loop
@@ -32,7 +32,7 @@ loop-again c =
     let l = c.before.before.before.before.loop in (
       omega arith,
       l.invariant.1,
-      window_on a.activities a.sizes a.last a.t4 l.i (omega arith) l.invariant.2
+      window_on a.activities a.sizes a.t3 l.i (omega arith) l.invariant.2
           (sym c.before.entry-in-limits.ensures ∙ not-false c.before.entry-in-limits.result c.if1.false),
     )
 
@@ -40,7 +40,7 @@ returns-2 : tie.Need-returns-2 invariant-loop decreases-loop
 returns-2 c =
     let a = c.before.before.args in
     let l = c.before.loop in
-    sym (window_end a.activities a.sizes a.last a.t4 l.i (omega arith) l.invariant.2)
+    sym (window_end a.activities a.sizes a.t3 l.i (omega arith) l.invariant.2)
 
 pub window-in-limits-spec : {M : Type 1} → statement M
 window-in-limits-spec =

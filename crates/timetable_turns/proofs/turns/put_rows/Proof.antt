@@ -23,7 +23,7 @@ loop-again c =
     let a = c.before.before.before.before.before.before.before.before.before.before.before.before.before.before.args in
     let f = fit c.before.before.before.before.before.before.before.before.before.before.before.before.before.before in
     let l = c.before.before.before.before.before.before.before.before.before.before.before.loop in
-    let e = c.before.before.before.before.loaded in (
+    let e = c.before.before.before.before.entry_of_lem in (
       omega arith,
       l.invariant.1,
       l.invariant.2,
