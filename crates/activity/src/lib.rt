@@ -1,5 +1,6 @@
 // What an activity must satisfy (Def. 1): the fault of an activity, and of a plan's first activity at fault.
 #![tactic(auto)]
+
 pub mod before;
 mod nodes;
 mod words;

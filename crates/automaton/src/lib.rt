@@ -1,5 +1,6 @@
 // What a state of the automaton does next. Document 01's rules on the automaton, and the verdict on it, are in specs/.
 #![tactic(auto)]
+
 ghost use Rattle.std.specs.Prelude.{◌≡◌, ◌≤◌};
 ghost use Rattle.automaton.specs.Next.{on_input, first_of, next_of, carries, chosen_of};
 

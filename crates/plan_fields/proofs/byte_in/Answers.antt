@@ -13,9 +13,8 @@ pub returns-then-x-low : goal.returns-then-x-low
 unfolding byte_at
 returns-then-x-low c = let p = byte_there c.args.bytes.now c.args.at _ (sym c.byte_at-f.ensures ∙ c.in-Value.is) in too_low Field.Value Field.Refused Fault.Ends 1 c.args.low c.args.below c.args.wrong c.args.bytes.now c.args.at _ p.is p.fits c.if-x-low.true
 
--- LOST overflow-add-t12
--- add-t12 : tie.Need-overflow-add-t12
--- add-t12 c = let p = byte_there c.before.before.before.before.before.before.before.before.args.bytes.now c.before.before.before.before.before.before.before.before.args.at _ (sym c.before.before.before.before.before.before.byte_at.ensures ∙ c.before.before.before.before.f.given.1) in omega (arith, p.fits)
+pub overflow_add-result : goal.overflow_add-result
+overflow_add-result c = let p = byte_there c.args.bytes.now c.args.at _ (sym c.byte_at-f.ensures ∙ c.in-Value.is) in omega (arith, p.fits)
 
 pub returns-then-u8_to_u16-below : goal.returns-then-u8_to_u16-below
 unfolding byte_at
@@ -28,6 +27,3 @@ returns-in-Ends c = short Field.Value Field.Refused Fault.Ends 1 c.args.low c.ar
 pub returns-else-u8_to_u16-below : goal.returns-else-u8_to_u16-below
 unfolding byte_at
 returns-else-u8_to_u16-below c = let p = byte_there c.args.bytes.now c.args.at _ (sym c.byte_at-f.ensures ∙ c.in-Value.is) in too_high Field.Value Field.Refused Fault.Ends 1 c.args.low c.args.below c.args.wrong c.args.bytes.now c.args.at _ p.is p.fits (omega arith) (omega arith)
-
-pub overflow_add-result : goal.overflow_add-result
-overflow_add-result c = add-t12 c

@@ -11,9 +11,8 @@ use Rattle.plan_fields.proofs.duration_in.Goals as goal
 pub returns-then-x-lt1 : goal.returns-then-x-lt1
 returns-then-x-lt1 c = let p = long_there c.args.bytes.now c.args.at _ (sym c.long_at-f.ensures ∙ c.in-Value.is) in too_low DurationField.Value DurationField.Refused Fault.Ends 4 1 60000001 Fault.Duration c.args.bytes.now c.args.at _ p.is p.fits (omega arith)
 
--- LOST overflow-add-t9
--- add-t9 : tie.Need-overflow-add-t9
--- add-t9 c = let p = long_there c.before.before.before.before.before.before.before.args.bytes.now c.before.before.before.before.before.before.before.args.at _ (sym c.before.before.before.before.before.long-at.ensures ∙ c.before.before.before.f.given.1) in omega (arith, p.fits)
+pub overflow_add-result : goal.overflow_add-result
+overflow_add-result c = let p = long_there c.args.bytes.now c.args.at _ (sym c.long_at-f.ensures ∙ c.in-Value.is) in omega (arith, p.fits)
 
 pub returns-then-x-le60000000 : goal.returns-then-x-le60000000
 returns-then-x-le60000000 c = let p = long_there c.args.bytes.now c.args.at _ (sym c.long_at-f.ensures ∙ c.in-Value.is) in in_range DurationField.Value DurationField.Refused Fault.Ends 4 1 60000001 Fault.Duration c.args.bytes.now c.args.at _ p.is p.fits (omega arith) (omega arith)
@@ -23,6 +22,3 @@ returns-in-Ends c = short DurationField.Value DurationField.Refused Fault.Ends 4
 
 pub returns-else-x-le60000000 : goal.returns-else-x-le60000000
 returns-else-x-le60000000 c = let p = long_there c.args.bytes.now c.args.at _ (sym c.long_at-f.ensures ∙ c.in-Value.is) in too_high DurationField.Value DurationField.Refused Fault.Ends 4 1 60000001 Fault.Duration c.args.bytes.now c.args.at _ p.is p.fits (omega arith) (omega arith)
-
-pub overflow_add-result : goal.overflow_add-result
-overflow_add-result c = add-t9 c

@@ -12,9 +12,8 @@ use borrow.Author.Tests.{ltb-false}
 use borrow.Author.Rules.{rules}
 use Rattle.plan_fields.proofs.finals_at.Goals as goal
 
--- LOST overflow-add-t9
--- add-t9 : tie.Need-overflow-add-t9
--- add-t9 c = let p = wide_there c.before.before.before.before.before.before.before.args.bytes.now c.before.before.before.before.before.before.before.args.at _ (sym c.before.before.before.before.before.wide_at.ensures ∙ c.before.before.before.f.given.1) in omega (arith, p.fits)
+pub overflow_add-result : goal.overflow_add-result
+overflow_add-result c = let p = wide_there c.args.bytes.now c.args.at _ (sym c.wide_at-f.ensures ∙ c.in-Value.is) in omega (arith, p.fits)
 
 pub returns-then-in_states : goal.returns-then-in_states
 unfolding finals_at
@@ -27,6 +26,3 @@ returns-in-Ends c = short FinalsField.Value FinalsField.Refused Fault.Ends 8 0 (
 pub returns-else-in_states : goal.returns-else-in_states
 unfolding finals_at
 returns-else-in_states c = let p = wide_there c.args.bytes.now c.args.at _ (sym c.wide_at-f.ensures ∙ c.in-Value.is) in too_high FinalsField.Value FinalsField.Refused Fault.Ends 8 0 (2 ^ c.args.states) Fault.Names c.args.bytes.now c.args.at _ p.is p.fits (omega arith) (ltb-false _ _ (sym c.in_states.ensures ∙ c.if-in_states.false))
-
-pub overflow_add-result : goal.overflow_add-result
-overflow_add-result c = add-t9 c

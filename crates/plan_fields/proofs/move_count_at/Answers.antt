@@ -9,9 +9,8 @@ use Rattle.plan.specs.Moves.{move_count_at}
 use borrow.Author.Rules.{rules}
 use Rattle.plan_fields.proofs.move_count_at.Goals as goal
 
--- LOST overflow-add-t8
--- add-t8 : tie.Need-overflow-add-t8
--- add-t8 c = let p = short_there c.before.before.before.before.before.before.args.bytes.now c.before.before.before.before.before.before.args.at _ (sym c.before.before.before.before.short-at.ensures ∙ c.before.before.f.given.1) in omega (arith, p.fits)
+pub overflow_add-result : goal.overflow_add-result
+overflow_add-result c = let p = short_there c.args.bytes.now c.args.at _ (sym c.short_at-f.ensures ∙ c.in-Value.is) in omega (arith, p.fits)
 
 pub returns-then-x-le256 : goal.returns-then-x-le256
 unfolding move_count_at
@@ -24,6 +23,3 @@ returns-in-Ends c = short MoveCount.Value MoveCount.Refused Fault.Ends 2 0 257 F
 pub returns-else-x-le256 : goal.returns-else-x-le256
 unfolding move_count_at
 returns-else-x-le256 c = let p = short_there c.args.bytes.now c.args.at _ (sym c.short_at-f.ensures ∙ c.in-Value.is) in too_high MoveCount.Value MoveCount.Refused Fault.Ends 2 0 257 Fault.Count c.args.bytes.now c.args.at _ p.is p.fits (omega arith) (omega arith)
-
-pub overflow_add-result : goal.overflow_add-result
-overflow_add-result c = add-t8 c

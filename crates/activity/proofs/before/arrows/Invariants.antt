@@ -1,0 +1,22 @@
+-- `before::arrows` meets its contract. The loop's invariant: the first n words are those of the nodes, the others 0. Assumes nothing.
+use Prim.Native.Nat.{ℕ, ◌<◌, ◌≤◌, ◌-◌}
+use mathlib.Core.Path.{◌≡◌, refl, subst}
+use mathlib.Core.Logic.{◌↔◌, ⊎_elim}
+use native.Mathlib.Omega.{arith}
+use borrow.Author.Count.{below_more}
+use lib.ListN.{length, get_or, length-set}
+use lib.Seq.{get_or-set_same, get_or-set_other}
+use Rattle.basis.specs.Lists.{Among}
+use Rattle.plan.specs.Plan.{past_node, predecessors}
+use Rattle.activity.specs.Inner.Bits.{Bit}
+use Rattle.activity.specs.Laws.Bits.{no_bit, lt-or-ge, zeros}
+use Rattle.activity.specs.Inner.Closure.{Rel}
+use Rattle.activity.proofs.Places.{count_of, arrow_of}
+use borrow.Author.Rules.{rules}
+use Rattle.activity.proofs.before.arrows.Given as goal
+
+abbrev pub invariant-loop-n : goal.invariant-loop-n
+invariant-loop-n l = (l.n ≤ l.count) × (length l.r ≡ 64) × ((j : ℕ) → j < l.n → (m : ℕ) → Rel l.r m j ↔ Among m (predecessors (get_or l.activity.nodes j past_node))) × ((j : ℕ) → l.n ≤ j → get_or l.r j 0 ≡ 0)
+
+abbrev pub decreases-loop-n : goal.decreases-loop-n
+decreases-loop-n l = l.count - l.n

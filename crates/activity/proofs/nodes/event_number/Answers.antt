@@ -1,0 +1,26 @@
+-- `nodes::event_number` meets its contract: at each return, what holds and the first thing that does not. Assumes nothing.
+use Prim.Native.Nat.{ℕ}
+use Rattle.basis.specs.Laws.Tells.{granted, refuted}
+use Rattle.activity.specs.Rules.{Before}
+use Rattle.activity.proofs.Numbering.{event_first, event_unordered, event_good}
+use borrow.Author.Rules.{rules}
+use mathlib.Core.Path.{ap}
+use mathlib.Core.Bool.{not}
+use Rattle.activity.proofs.nodes.event_number.Goals as goal
+
+pub returns-then-not-any : goal.returns-then-not-any
+returns-then-not-any c v belongs a i h free =
+    let no_bit = refuted c.any.ensures (ap not c.if-not-any.true) in
+    event_first belongs a c.args.n free v i (λ b. no_bit (b.0, (h.before b.0).1 b.1))
+
+pub returns-then-not-in_line : goal.returns-then-not-in_line
+returns-then-not-in_line c v belongs a i h free =
+    let w = granted c.any.ensures (ap not c.if-not-any.false) in
+    let b : (m : ℕ) × Before a m c.args.n = (w.0, (h.before w.0).0 w.1) in
+    event_unordered belongs a c.args.n free v i b (refuted (c.in_line.ensures belongs a h) (ap not c.if-not-in_line.true))
+
+pub returns : goal.returns
+returns c v belongs a i h free =
+    let w = granted c.any.ensures (ap not c.if-not-any.false) in
+    let b : (m : ℕ) × Before a m c.args.n = (w.0, (h.before w.0).0 w.1) in
+    event_good belongs a c.args.n free v i b (granted (c.in_line.ensures belongs a h) (ap not c.if-not-in_line.false))

@@ -1,0 +1,18 @@
+-- `nodes::labels` meets its contract. The loop's invariant: the labels below n are written. Assumes nothing.
+use Prim.Native.Nat.{ℕ, ◌<◌, ◌≤◌, ◌-◌}
+use mathlib.Core.Path.{◌≡◌, refl, ◌∙◌}
+use native.Mathlib.Omega.{arith}
+use borrow.Author.Count.{below_more}
+use lib.ListN.{length, get_or, length-set}
+use lib.Seq.{get_or-set_same, get_or-set_other}
+use Rattle.plan.specs.Plan.{past_node}
+use Rattle.activity.proofs.Places.{labels_of}
+use Rattle.activity.specs.Inner.Sight.{label_of}
+use borrow.Author.Rules.{rules}
+use Rattle.activity.proofs.nodes.labels.Given as goal
+
+abbrev pub invariant-loop-n : goal.invariant-loop-n
+invariant-loop-n l = (l.n ≤ l.count) × (length l.r ≡ 64) × ((j : ℕ) → j < l.n → get_or l.r j 0 ≡ label_of (get_or l.activity.nodes j past_node).kind)
+
+abbrev pub decreases-loop-n : goal.decreases-loop-n
+decreases-loop-n l = l.count - l.n

@@ -1,0 +1,38 @@
+-- `nodes::node_number` meets its contract: a node on a cycle, or what the function of its kind says. Assumes nothing.
+use mathlib.Core.Path.{subst}
+use mathlib.Core.List.{List}
+use Prim.Native.Nat.{ℕ}
+use Rattle.basis.specs.Laws.Tells.{told_true, told_false}
+use Rattle.plan.specs.declared.Node.{Node}
+use Rattle.activity.specs.Rules.{Is, Before}
+use Rattle.activity.specs.Inner.Sight.{Seen}
+use Rattle.activity.proofs.Numbering.{on_cycle}
+use borrow.Author.Rules.{rules}
+use Rattle.activity.proofs.nodes.node_number.Goals as goal
+
+-- past the first test the node is on no cycle
+free :
+    (c : tie.Else1) {belongs : ℕ → ℕ} {a : List Node} → Seen belongs a c.before.before.args.n c.before.before.args.s
+    → Before a c.before.before.args.n c.before.before.args.n → ⊥
+free c h b = told_false c.before.has.ensures c.if1.false ((h.before _).1 b)
+
+pub returns-then-has : goal.returns-then-has
+returns-then-has c belongs a i h =
+    let s = c.args in
+    on_cycle belongs a s.n ((h.before s.n).0 (told_true c.has.ensures c.if-has.true))
+
+pub returns-in-Action : goal.returns-in-Action
+returns-in-Action c belongs a i h =
+    c.action_number.ensures c.in-Action.field-0 c.in-Action.field-1 belongs a (subst (Is a _) c.in-Action.is i) h (free c.before.before.before h)
+
+pub returns-in-Claim : goal.returns-in-Claim
+returns-in-Claim c belongs a i h =
+    c.claim_number.ensures c.in-Claim.field-0 belongs a (subst (Is a _) c.in-Claim.is i) h (free c.before.before.before h)
+
+pub returns-in-Release : goal.returns-in-Release
+returns-in-Release c belongs a i h =
+    c.release_number.ensures c.in-Release.field-0 belongs a (subst (Is a _) c.in-Release.is i) h (free c.before.before.before h)
+
+pub returns-in-Event : goal.returns-in-Event
+returns-in-Event c belongs a i h =
+    c.event_number.ensures c.in-Event.field-0 belongs a (subst (Is a _) c.in-Event.is i) h (free c.before.before.before h)

@@ -1,0 +1,8 @@
+-- `words::has` meets its contract: the machine's shift and remainder read bit m. Assumes nothing.
+use borrow.Author.Rules.{rules}
+use Prim.Native.Nat.{◌/◌, ◌^◌, ◌%◌}
+use Rattle.basis.specs.Laws.Tells.{tells_eqb}
+use Rattle.activity.proofs.words.has.Goals as goal
+
+pub returns : goal.returns
+returns c = tells_eqb (c.args.w / 2 ^ c.args.m % 2) 1

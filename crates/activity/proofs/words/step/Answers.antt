@@ -1,0 +1,18 @@
+-- `words::step` meets its contract: one word of a pass through node k. Assumes nothing.
+use borrow.Author.Rules.{rules}
+use mathlib.Core.Logic.{inl, inr, ⊎_elim}
+use Rattle.basis.specs.Laws.Tells.{told_true, told_false}
+use Rattle.activity.specs.Laws.Bits.{or_iff}
+use Rattle.activity.proofs.words.step.Goals as goal
+
+pub returns-then-has : goal.returns-then-has
+returns-then-has c j =
+    let a = c.args in
+    let i = or_iff a.w a.row j in
+    let b = told_true c.has.ensures c.if-has.true in
+    (λ e. ⊎_elim inl (λ x. inr (b, x)) (i.0 e), λ s. i.1 (⊎_elim inl (λ q. inr q.1) s))
+
+pub returns-else-has : goal.returns-else-has
+returns-else-has c j =
+    let no_bit = told_false c.has.ensures c.if-has.false in
+    (inl, ⊎_elim (λ x. x) (λ q. absurd (no_bit q.0)))
