@@ -1,5 +1,6 @@
 // Reading the automaton: its states and its transitions.
 #![tactic(auto)]
+
 ghost use Rattle.std.specs.Prelude.{◌≡◌, ◌≤◌, replicate};
 ghost use Rattle.plan.specs.Plan.{past_move};
 ghost use Rattle.plan.specs.Moves.{zero_automaton, no_automaton, moves_loop, moves_at, automaton_at};

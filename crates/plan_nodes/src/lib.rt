@@ -1,5 +1,6 @@
 // Reading a node: a map byte, then only the fields whose bits stand.
 #![tactic(auto)]
+
 ghost use Rattle.std.specs.Prelude.{◌≡◌, ◌≤◌, replicate};
 ghost use Rattle.plan.specs.Nodes.{asks_of, action_at, claim_at, release_at, event_at, kind_by, no_preds, preds_loop, preds_at, zero_node, no_node, node_of, node_with, node_at};
 

@@ -10,12 +10,6 @@ use Rattle.activity.proofs.Numbering.{on_cycle}
 use borrow.Author.Rules.{rules}
 use Rattle.activity.proofs.nodes.node_number.Goals as goal
 
--- past the first test the node is on no cycle
-free :
-    (c : tie.Else1) {belongs : ℕ → ℕ} {a : List Node} → Seen belongs a c.before.before.args.n c.before.before.args.s
-    → Before a c.before.before.args.n c.before.before.args.n → ⊥
-free c h b = told_false c.before.has.ensures c.if1.false ((h.before _).1 b)
-
 pub returns-then-has : goal.returns-then-has
 returns-then-has c belongs a i h =
     let s = c.args in
@@ -23,16 +17,16 @@ returns-then-has c belongs a i h =
 
 pub returns-in-Action : goal.returns-in-Action
 returns-in-Action c belongs a i h =
-    c.action_number.ensures c.in-Action.field-0 c.in-Action.field-1 belongs a (subst (Is a _) c.in-Action.is i) h (free c.before.before.before h)
+    c.action_number.ensures c.in-Action.field-0 c.in-Action.field-1 belongs a (subst (Is a _) c.in-Action.is i) h (λ b. told_false c.has.ensures c.if-has.false ((h.before c.args.n).1 b))
 
 pub returns-in-Claim : goal.returns-in-Claim
 returns-in-Claim c belongs a i h =
-    c.claim_number.ensures c.in-Claim.field-0 belongs a (subst (Is a _) c.in-Claim.is i) h (free c.before.before.before h)
+    c.claim_number.ensures c.in-Claim.field-0 belongs a (subst (Is a _) c.in-Claim.is i) h (λ b. told_false c.has.ensures c.if-has.false ((h.before c.args.n).1 b))
 
 pub returns-in-Release : goal.returns-in-Release
 returns-in-Release c belongs a i h =
-    c.release_number.ensures c.in-Release.field-0 belongs a (subst (Is a _) c.in-Release.is i) h (free c.before.before.before h)
+    c.release_number.ensures c.in-Release.field-0 belongs a (subst (Is a _) c.in-Release.is i) h (λ b. told_false c.has.ensures c.if-has.false ((h.before c.args.n).1 b))
 
 pub returns-in-Event : goal.returns-in-Event
 returns-in-Event c belongs a i h =
-    c.event_number.ensures c.in-Event.field-0 belongs a (subst (Is a _) c.in-Event.is i) h (free c.before.before.before h)
+    c.event_number.ensures c.in-Event.field-0 belongs a (subst (Is a _) c.in-Event.is i) h (λ b. told_false c.has.ensures c.if-has.false ((h.before c.args.n).1 b))

@@ -8,8 +8,7 @@ use Rattle.plan.specs.declared.fields.Asks.{Asks}
 use mathlib.Core.Logic.{◌⊎◌, ⊎_elim}
 use borrow.Author.Tests.{le-ltb, eqb-true}
 use Rattle.plan.specs.Nodes.{asks_of}
-use Rattle.plan_nodes.proofs.asks_of.Statement.{statement}
-use Rattle.plan_nodes.proofs.asks_of.Tie as tie
+use Rattle.plan_nodes.proofs.asks_of.Goals as goal
 
 -- below 64 the map is one of the keys, or asks for nothing: a test that is computed at each
 abbrev Key : ℕ → Type 0
@@ -57,29 +56,26 @@ rest m h no_key =
     ⊎_elim (λ k. absurd (no_key k)) (λ e. e)
     (or (key m) (nothing (asks_of m)) (is_key m) (nothing_is (asks_of m)) (all-at right 64 checked m h))
 
-returns : tie.Need-returns
+pub returns-in-1 : goal.returns-in-1
 unfolding asks_of
-returns c = ⊎_elim (λ e. rw e) (⊎_elim (λ e. rw e) (⊎_elim (λ e. rw e) (λ e. rw e))) c.match.keys1
+returns-in-1 c = ⊎_elim (λ e. rw e) (⊎_elim (λ e. rw e) (⊎_elim (λ e. rw e) (λ e. rw e))) c.in-1.is
 
-returns-2 : tie.Need-returns-2
+pub returns-in-2 : goal.returns-in-2
 unfolding asks_of
-returns-2 c = ⊎_elim (λ e. rw e) (λ e. rw e) c.match.keys2
+returns-in-2 c = ⊎_elim (λ e. rw e) (λ e. rw e) c.in-2.is
 
-returns-3 : tie.Need-returns-3
+pub returns-in-4 : goal.returns-in-4
 unfolding asks_of
-returns-3 c = ⊎_elim (λ e. rw e) (λ e. rw e) c.match.keys3
+returns-in-4 c = ⊎_elim (λ e. rw e) (λ e. rw e) c.in-4.is
 
-returns-4 : tie.Need-returns-4
+pub returns-in-8 : goal.returns-in-8
 unfolding asks_of
-returns-4 c = ⊎_elim (λ e. rw e) (⊎_elim (λ e. rw e) (⊎_elim (λ e. rw e) (λ e. rw e))) c.match.keys4
+returns-in-8 c = ⊎_elim (λ e. rw e) (⊎_elim (λ e. rw e) (⊎_elim (λ e. rw e) (λ e. rw e))) c.in-8.is
 
-returns-5 : tie.Need-returns-5
-returns-5 c = let r = c.before.match.rest in
-    sym (rest c.before.before.args.m c.if1.true (⊎_elim r.0.0.0.1 (⊎_elim r.0.0.1 (⊎_elim r.0.1 r.1))))
+pub returns-in_default : goal.returns-in_default
+returns-in_default c = let r = c.in_default.in_default-own.rest in
+    sym (rest c.args.m c.in_default.if-map-lt64-own.true (⊎_elim r.0.0.0.1 (⊎_elim r.0.0.1 (⊎_elim r.0.1 r.1))))
 
-returns-6 : tie.Need-returns-6
+pub returns-in-64-to-255 : goal.returns-in-64-to-255
 unfolding asks_of
-returns-6 c = rw (le-ltb _ _ c.if1.false)
-
-pub asks-of-spec : {M : Type 1} → statement M
-asks-of-spec = tie.close (tie.spec returns returns-2 returns-3 returns-4 returns-5 returns-6)
+returns-in-64-to-255 c = rw (le-ltb _ _ c.in-64-to-255.if-map-lt64-own.false)

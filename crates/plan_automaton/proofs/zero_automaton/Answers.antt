@@ -1,0 +1,6 @@
+-- All zeros.
+use borrow.Author.Rules.{rules}
+use Rattle.plan_automaton.proofs.zero_automaton.Goals as goal
+
+pub returns : goal.returns
+returns c = rw c.zero_move-z.ensures

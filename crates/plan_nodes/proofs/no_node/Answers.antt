@@ -1,0 +1,6 @@
+-- A refused node is all zeros.
+use borrow.Author.Rules.{rules}
+use Rattle.plan_nodes.proofs.no_node.Goals as goal
+
+pub returns : goal.returns
+returns c = rw c.zero_node.ensures

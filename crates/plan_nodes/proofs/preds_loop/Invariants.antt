@@ -1,0 +1,18 @@
+-- The loop over the predecessors: the whole answer is the answer of what is left.
+use native.Mathlib.Omega.{arith}
+use mathlib.Core.Path.{◌≡◌, sym, ◌∙◌}
+use Prim.Native.Nat.{◌-◌, ◌≤◌}
+use lib.ListN.{length, replicate, length-set}
+use native.Mathlib.Nat.{sub-zero}
+use Rattle.plan_nodes.proofs.Loops.{preds_done, preds_refused, preds_fall, preds_next}
+use Rattle.plan.specs.Nodes.{preds_loop}
+use Rattle.plan_fields.specs.Laws.Read.{byte_most}
+use borrow.Author.Rules.{rules}
+use Rattle.plan_nodes.proofs.preds_loop.Given as goal
+
+abbrev pub invariant-loop-i : goal.invariant-loop-i
+invariant-loop-i l = (l.i ≤ l.n) × (l.n ≡ l.count) × (l.count ≤ 8) × (length l.preds ≡ 8)
+    × (preds_loop l.size l.bytes l.count l.count l.at 0 0 (replicate 8 0) ≡ preds_loop l.size l.bytes l.count (l.count - l.i) l.off l.i l.low l.preds)
+
+abbrev pub decreases-loop-i : goal.decreases-loop-i
+decreases-loop-i l = l.n - l.i
