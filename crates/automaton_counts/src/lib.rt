@@ -1,5 +1,6 @@
 // Numbers 24 to 26: every state has a path to a final one, and the events pending along every path from the initial state.
 #![tactic(auto)]
+
 ghost use Rattle.std.specs.Prelude.{◌≡◌, ℕ, ◌<◌, ◌≤◌};
 ghost use Rattle.basis.specs.Inner.Tells.{Tells};
 ghost use Rattle.automaton.specs.Tests.{at};

@@ -1,5 +1,6 @@
 // Messages of the host link: "A message is a map byte and the fields whose bits stand, in bit order, little-endian".
 #![tactic(auto)]
+
 mod lengths;
 mod puts;
 

@@ -1,6 +1,7 @@
 // The limits that "The plan file" sets on the counts, numbers and durations of a plan, and its rules for a plan that
 // the file can hold.
 #![tactic(auto)]
+
 ghost use Rattle.std.specs.Prelude.{◌≡◌, ◌≤◌};
 ghost use Rattle.format.specs.Format.{keeps};
 ghost use Rattle.plan_file.specs.PlanFile.{fault_order, plan_file};

@@ -1,5 +1,6 @@
 // Reading the sections of the plan file before the automaton.
 #![tactic(auto)]
+
 ghost use Rattle.std.specs.Prelude.{◌≡◌, ◌≤◌, replicate};
 ghost use Rattle.plan.specs.Nodes.{zero_node};
 ghost use Rattle.plan.specs.Sections.{no_peripherals, belongs_at, peripherals_at, no_events, outcomes_at, events_at, no_activities, activities_loop, activities_at};

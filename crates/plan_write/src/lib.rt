@@ -1,5 +1,6 @@
 // Writing a plan into a lent buffer.
 #![tactic(auto)]
+
 mod bytes;
 
 ghost use Rattle.std.specs.Prelude.{◌≡◌};

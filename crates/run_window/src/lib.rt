@@ -1,5 +1,6 @@
 // The window: "loaded action and event nodes not yet reported complete, at most 512".
 #![tactic(auto)]
+
 ghost use Rattle.std.specs.Prelude.{◌≡◌, ◌≤◌};
 ghost use Rattle.time.specs.Time.{horizon};
 ghost use Rattle.run_window.specs.Window.{vacant, is_free, started_of, is_overdue, is_late, is_due, is_node, node_place};

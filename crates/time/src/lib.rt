@@ -1,5 +1,6 @@
 // The two kinds of time, in whole microseconds. Adding the start time Ψ is the only way from one to the other.
 #![tactic(auto)]
+
 ghost use Rattle.std.specs.Prelude.{◌≡◌, ◌≤◌};
 ghost use Rattle.time.specs.Time.{to_clock, horizon};
 

@@ -1,5 +1,6 @@
 // Specified times: one transition at a time, as document 01's section "Specified times" describes it.
 #![tactic(auto)]
+
 use time::Specified;
 
 pub mod engine; // one transition

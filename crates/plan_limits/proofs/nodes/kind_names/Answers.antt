@@ -1,0 +1,15 @@
+-- `nodes::kind_names` is what it is defined to be. Assumes nothing.
+use borrow.Author.Rules.{rules}
+use Rattle.plan_limits.proofs.nodes.kind_names.Goals as goal
+
+pub returns-in-Action : goal.returns-in-Action
+returns-in-Action c = rw c.in-Action.is
+
+pub returns-in-Claim : goal.returns-in-Claim
+returns-in-Claim c = rw c.in-Claim.is
+
+pub returns-in-Release : goal.returns-in-Release
+returns-in-Release c = rw c.in-Release.is
+
+pub returns-in-Event : goal.returns-in-Event
+returns-in-Event c = rw c.in-Event.is

@@ -1,0 +1,21 @@
+-- `nodes::nodes_in_limits` is what it is defined to be. The loop's invariant: what is passed changes nothing.
+-- Assumes nothing.
+use mathlib.Core.Path.{◌≡◌, sym, ◌∙◌}
+use Prim.Native.Nat.{◌≤◌, ◌*◌, ◌/◌, ◌%◌}
+use native.Mathlib.Omega.{arith}
+use borrow.Author.Tests.{not-true, not-false}
+use borrow.Author.Rules.{rules}
+use lib.ListN.{get_or}
+use Rattle.basis.specs.Tests.{every}
+use Rattle.plan_limits.specs.Laws.Every.{every_on, every_off, every_end}
+use Rattle.plan_limits.specs.Limits.{slot_in_limits, nodes_in_limits}
+use Rattle.plan.specs.Plan.{past_node}
+use Rattle.plan_limits.proofs.nodes.nodes_in_limits.Given as goal
+
+abbrev pub invariant-loop-left : goal.invariant-loop-left
+invariant-loop-left l = (l.left ≤ 64 * l.activities)
+    × (every (64 * l.activities) (λ i. slot_in_limits l.resources l.peripherals l.events (get_or l.sizes (i / 64) 0) (i % 64) (get_or l.nodes i past_node))
+    ≡ every l.left (λ i. slot_in_limits l.resources l.peripherals l.events (get_or l.sizes (i / 64) 0) (i % 64) (get_or l.nodes i past_node)))
+
+abbrev pub decreases-loop-left : goal.decreases-loop-left
+decreases-loop-left l = l.left

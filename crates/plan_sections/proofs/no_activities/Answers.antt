@@ -1,0 +1,6 @@
+-- Refused activities are all zeros.
+use borrow.Author.Rules.{rules}
+use Rattle.plan_sections.proofs.no_activities.Goals as goal
+
+pub returns : goal.returns
+returns c = rw c.zero_node-z.ensures

@@ -1,0 +1,6 @@
+-- A refused part is all zeros.
+use borrow.Author.Rules.{rules}
+use Rattle.plan_sections.proofs.parts.no_part.Goals as goal
+
+pub returns : goal.returns
+returns c = rw c.zero_node.ensures

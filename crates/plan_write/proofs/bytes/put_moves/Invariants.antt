@@ -1,0 +1,21 @@
+-- The loop over the transitions: what is left is put after what was put.
+use native.Mathlib.Omega.{arith}
+use mathlib.Core.Path.{◌≡◌, refl, ◌∙◌}
+use Prim.Native.Nat.{◌+◌, ◌*◌, ◌-◌, ◌≤◌, ◌<◌}
+use Rattle.plan_write.specs.Laws.Left.{Left, left_begin, left_next, left_done, moves_turn, moves_end}
+use lib.ListN.{length, get_or}
+use native.Mathlib.Nat.{sub-zero}
+use Rattle.basis.specs.Parts.{part}
+use Rattle.plan.specs.Plan.{past_move, moves_of}
+use Rattle.format.specs.Laws.Format.{flat}
+use Rattle.plan_write.specs.Inner.Bytes.{move_bytes}
+use Rattle.plan_write.specs.Laws.Printed.{move_length}
+use borrow.Author.Rules.{rules}
+use Rattle.plan_write.proofs.bytes.put_moves.Given as goal
+
+abbrev pub invariant-loop-i : goal.invariant-loop-i
+invariant-loop-i l = (l.i ≤ l.n) × (l.n ≡ l.t.count) × (l.t.count ≤ 256) × (l.at < 120000) × (l.off ≤ l.at + 6 * l.i) × (length l.out ≡ length l.initial.out)
+    × Left l.initial.out l.at (flat move_bytes (moves_of l.t)) l.out l.off (flat move_bytes (part past_move l.t.moves l.i (l.t.count - l.i)))
+
+abbrev pub decreases-loop-i : goal.decreases-loop-i
+decreases-loop-i l = l.n - l.i

@@ -1,0 +1,19 @@
+-- `is_node` tells whether a place holds the node with an identity.
+use mathlib.Core.Path.{sym, ◌∙◌}
+use borrow.Author.Tests.{eq-eqb, ne_eqb}
+use Rattle.run_window.specs.Window.{is_node}
+use Rattle.run_window.specs.Laws.Tests.{free_unheld, unfree_held}
+use borrow.Author.Rules.{rules}
+use Rattle.run_window.proofs.is_node.Goals as goal
+
+pub returns-then-is_free : goal.returns-then-is_free
+unfolding is_node
+returns-then-is_free c = simp (free_unheld c.args.e.phase (sym c.is_free.ensures ∙ c.if-is_free.true))
+
+pub returns-then-e-position : goal.returns-then-e-position
+unfolding is_node
+returns-then-e-position c = simp (unfree_held c.args.e.phase (sym c.is_free.ensures ∙ c.if-is_free.false), eq-eqb _ _ c.if-e-position.true)
+
+pub returns : goal.returns
+unfolding is_node
+returns c = simp (unfree_held c.args.e.phase (sym c.is_free.ensures ∙ c.if-is_free.false), ne_eqb _ _ c.if-e-position.false)

@@ -1,0 +1,24 @@
+use mathlib.Core.Path.{◌≡◌, sym}
+use Prim.Native.Nat.{◌≤◌, ◌-◌}
+use native.Mathlib.Nat.{zero-add}
+use native.Mathlib.Omega.{arith}
+use lib.ListN.{length}
+use Rattle.basis.specs.Laws.Lists.{unmapped}
+use Rattle.run_window.specs.Laws.Scans.{FromOn, where_past, where_here, where_nowhere}
+use borrow.Author.Rules.{rules}
+use Rattle.run_window.proofs.places.place_of.Goals as goal
+
+long : (c : tie.Start invariant-loop decreases-loop) → length c.args.t1 ≡ 512
+long c = search unmapped
+
+pub loop-lowest-init : goal.loop-lowest-init
+loop-lowest-init c = (omega arith, sym (zero-add _))
+
+pub returns-then-is_node : goal.returns-then-is_node
+returns-then-is_node c = where_here c.args.position c.args.node c.args.window _ c.loop-lowest.lowest (omega (arith, long c.before.before.before.before.before)) c.loop-lowest.invariant.1 c.is_node.ensures c.if-is_node.true
+
+pub loop-lowest-preserved : goal.loop-lowest-preserved
+loop-lowest-preserved c = (omega arith, where_past c.args.position c.args.node c.args.window _ c.loop-lowest.lowest (omega (arith, long c.before.before.before.before.before)) c.loop-lowest.invariant.1 c.is_node.ensures c.if-is_node.false)
+
+pub returns : goal.returns
+returns c = where_nowhere c.args.position c.args.node c.args.window c.loop-lowest.lowest (omega (arith, long c.before.before)) c.loop-lowest.invariant.1

@@ -1,0 +1,16 @@
+-- `vacancies` counts the free places: from the back, the count so far is that of the places passed.
+use mathlib.Core.Path.{◌≡◌, ◌∙◌}
+use Prim.Native.Nat.{◌+◌, ◌≤◌}
+use native.Mathlib.Omega.{arith}
+use lib.ListN.{length, drop}
+use Rattle.run_window.specs.Window.{vacancies}
+use Rattle.basis.specs.Laws.Lists.{unmapped}
+use Rattle.run_window.specs.Laws.Scans.{vacancies_none, vacancies_here, vacancies_past}
+use borrow.Author.Rules.{rules}
+use Rattle.run_window.proofs.places.vacancies.Given as goal
+
+abbrev pub invariant-loop-i : goal.invariant-loop-i
+invariant-loop-i l = (l.i ≤ 512) × (l.n + l.i ≤ 512) × (l.n ≡ vacancies (drop l.i l.window))
+
+abbrev pub decreases-loop-i : goal.decreases-loop-i
+decreases-loop-i l = l.i

@@ -1,0 +1,21 @@
+use mathlib.Core.Path.{◌≡◌, sym, ◌∙◌}
+use Prim.Native.Nat.{◌≤◌, ◌-◌}
+use native.Mathlib.Nat.{sub-zero}
+use native.Mathlib.Omega.{arith}
+use borrow.Author.Rules.{rules}
+use Rattle.times.specs.Engine.{raised_of}
+use Rattle.times.specs.Laws.Loops.{raised_on, raised_end}
+use Rattle.times.proofs.engine.raised.Goals as goal
+
+pub loop-i-init : goal.loop-i-init
+loop-i-init c = (omega arith, omega arith, rw sub-zero)
+
+pub loop-i-preserved : goal.loop-i-preserved
+loop-i-preserved c = let a = c.args in
+    let l = c.loop-i in
+    (omega arith, omega arith, l.invariant.2 ∙ raised_on a.c.0 l.out l.i a.count (omega arith) ∙ rw c.later.ensures)
+
+pub returns : goal.returns
+returns c = let a = c.args in
+    let l = c.loop-i in
+    sym (l.invariant.2 ∙ raised_end a.c.0 l.out l.i a.count (omega arith))
