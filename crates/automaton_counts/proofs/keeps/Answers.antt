@@ -25,7 +25,7 @@ pub loop-i-preserved-then-not-reached-from : goal.loop-i-preserved-then-not-reac
 loop-i-preserved-then-not-reached-from c = (omega arith, below_more _ _ c.loop-i.invariant.1 (λ e n h. absurd (true-false (sym h ∙ moved c.args.reached.now c.u8_to_usize-from.ensures (not-true _ (ap not c.if-not-reached-from.true))))))
 
 pub kept-requires : goal.kept-requires
-kept-requires c = (move_ok _ c.requires.in_range c.loop-i.i (omega arith), (c.requires.by_index.0, c.requires.by_index.1))
+kept-requires c = record { move_ok = move_ok _ c.requires.in_range c.loop-i.i (omega arith); by_index = c.requires.by_index; few = c.requires.few }
 
 pub returns-then-not-kept : goal.returns-then-not-kept
 returns-then-not-kept c =

@@ -24,12 +24,12 @@ returns-then-counts-was c =
 pub overflow_add-counts : goal.overflow_add-counts
 overflow_add-counts c =
     let e = c.loop-e.e in
-    omega (arith, c.requires.by_index.0 (16 * c.u8_to_usize-to.result + e), c.requires.by_index.0 (16 * c.u8_to_usize-from.result + e), c.if-counts-was.false)
+    omega (arith, c.requires.by_index (16 * c.u8_to_usize-to.result + e), c.requires.by_index (16 * c.u8_to_usize-from.result + e), c.if-counts-was.false)
 
 pub overflow_add-counts-in-loop-e : goal.overflow_add-counts-in-loop-e
 overflow_add-counts-in-loop-e c =
     let e = c.loop-e.e in
-    omega (arith, c.requires.by_index.0 (16 * c.u8_to_usize-from.result + e), c.given-g.ensures, gives_few c.args.emits.now c.args.t.output e c.requires.by_index.1)
+    omega (arith, c.requires.by_index (16 * c.u8_to_usize-from.result + e), c.given-g.ensures, gives_few c.args.emits.now c.args.t.output e c.requires.few)
 
 pub returns-then-counts-place : goal.returns-then-counts-place
 returns-then-counts-place c =

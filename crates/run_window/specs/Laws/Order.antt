@@ -19,6 +19,8 @@ pub data AtMost : List ℕ → List ℕ → Type 0 where
   same : {x y : ℕ} {xs ys : List ℕ} → x ≡ y → AtMost xs ys → AtMost (x ∷ xs) (y ∷ ys)
 
 at_most_trans : (xs ys zs : List ℕ) → AtMost xs ys → AtMost ys zs → AtMost xs zs
+at_most_trans (x ∷ xs) [] zs p q = elim p [ ]
+at_most_trans (x ∷ xs) (y ∷ ys) [] p q = elim q [ ]
 at_most_trans [] ys zs p q = ends
 at_most_trans (x ∷ xs) (y ∷ ys) (z ∷ zs) (lower p) (lower q) = lower (let l : x < z = omega arith in l)
 at_most_trans (x ∷ xs) (y ∷ ys) (z ∷ zs) (lower p) (same e q) = lower (let l : x < z = omega arith in l)
@@ -35,6 +37,8 @@ at_most_number l = ⊎_elim (λ e. same e ends) lower (eq-or-lt_of_le l)
 
 -- each at or before the other
 at_most_both : (xs ys : List ℕ) → AtMost xs ys → AtMost ys xs → xs ≡ ys
+at_most_both [] (y ∷ ys) _ x5 = elim x5 [ ]
+at_most_both (x ∷ xs) [] x6 _ = elim x6 [ ]
 at_most_both [] [] ends ends = refl
 at_most_both (x ∷ xs) (y ∷ ys) (lower p) (lower q) = absurd (omega arith)
 at_most_both (x ∷ xs) (y ∷ ys) (lower p) (same e q) = absurd (omega arith)
@@ -58,6 +62,7 @@ not-before (x ∷ xs) (y ∷ ys) q =
 
 pub at_most_not : (xs ys : List ℕ) → AtMost ys xs → precedes xs ys ≡ false
 unfolding precedes
+at_most_not [] (y ∷ ys) p = elim p [ ]
 at_most_not [] [] p = refl
 at_most_not (x ∷ xs) [] p = refl
 at_most_not (x ∷ xs) (y ∷ ys) (lower p) = rw (ne_eqb x y (λ e. omega arith)) (le-ltb x y (omega arith))

@@ -9,7 +9,7 @@ use borrow.Author.Rules.{rules}
 use Rattle.automaton_counts.proofs.counting.advance.Goals as goal
 
 pub loop-e-init : goal.loop-e-init
-loop-e-init c = (omega arith, advance_starts _ _ _ _ _ _ c.requires.by_index.1.0.0)
+loop-e-init c = (omega arith, advance_starts _ _ _ _ _ _ c.requires.counts_len.0)
 
 pub given-g-requires : goal.given-g-requires
 given-g-requires c = record { output_ok = c.requires.from_bound.3; e_bound = omega arith }
@@ -17,20 +17,20 @@ given-g-requires c = record { output_ok = c.requires.from_bound.3; e_bound = ome
 pub overflow_sub-counts : goal.overflow_sub-counts
 overflow_sub-counts c =
     let l = c.loop-e in
-    omega (arith, c.taken-x.ensures, c.requires.by_index.0 l.e (omega arith), advance_from _ _ _ _ _ _ l.e l.counts c.requires.from_bound.2 (omega arith) l.invariant.1)
+    omega (arith, c.taken-x.ensures, c.requires.by_index l.e (omega arith), advance_from _ _ _ _ _ _ l.e l.counts c.requires.from_bound.2 (omega arith) l.invariant.1)
 
 pub overflow_add-counts : goal.overflow_add-counts
 overflow_add-counts c =
     let l = c.loop-e in
-    omega (arith, c.requires.by_index.1.0.1 (16 * c.args.from + l.e), c.given-g.ensures, gives_few c.args.emits.now c.args.output l.e c.requires.by_index.1.1, advance_from _ _ _ _ _ _ l.e l.counts c.requires.from_bound.2 (omega arith) l.invariant.1)
+    omega (arith, c.requires.counts_len.1 (16 * c.args.from + l.e), c.given-g.ensures, gives_few c.args.emits.now c.args.output l.e c.requires.few, advance_from _ _ _ _ _ _ l.e l.counts c.requires.from_bound.2 (omega arith) l.invariant.1)
 
 pub loop-e-preserved : goal.loop-e-preserved
 loop-e-preserved c =
     let l = c.loop-e in (
       omega arith,
       rw (advance_from _ _ _ _ _ _ l.e l.counts c.requires.from_bound.2 (omega arith) l.invariant.1)
-          (advance_steps _ _ _ _ _ _ l.e l.counts c.taken-x.result c.given-g.result (omega arith) c.requires.from_bound.1 c.taken-x.ensures c.given-g.ensures (c.requires.by_index.0 l.e (omega arith))
-          (omega (arith, c.given-g.ensures, gives_few c.args.emits.now c.args.output l.e c.requires.by_index.1.1)) l.invariant.1),
+          (advance_steps _ _ _ _ _ _ l.e l.counts c.taken-x.result c.given-g.result (omega arith) c.requires.from_bound.1 c.taken-x.ensures c.given-g.ensures (c.requires.by_index l.e (omega arith))
+          (omega (arith, c.given-g.ensures, gives_few c.args.emits.now c.args.output l.e c.requires.few)) l.invariant.1),
     )
 
 pub returns : goal.returns

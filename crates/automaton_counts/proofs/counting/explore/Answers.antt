@@ -18,7 +18,7 @@ pub loop-a-init : goal.loop-a-init
 loop-a-init c = rw c.u8_to_usize-first.ensures (going_starts _ _ c.requires.in_range c.blank-counts.result (search rules) c.blank-counts.ensures)
 
 pub pass-requires : goal.pass-requires
-pass-requires c = (c.requires.in_range, (c.requires.few, c.loop-a.invariant))
+pass-requires c = record { in_range = c.requires.in_range; few = c.requires.few; going = c.loop-a.invariant }
 
 pub returns-then-not-pass : goal.returns-then-not-pass
 returns-then-not-pass c =

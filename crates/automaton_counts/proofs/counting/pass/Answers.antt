@@ -16,7 +16,7 @@ use mathlib.Core.Bool.{not}
 use Rattle.automaton_counts.proofs.counting.pass.Goals as goal
 
 pub loop-i-init : goal.loop-i-init
-loop-i-init c = (omega arith, c.requires.few.1)
+loop-i-init c = (omega arith, c.requires.going)
 
 pub bounds-reached-from : goal.bounds-reached-from
 bounds-reached-from c = omega (arith, c.u8_to_usize-from.ensures, (move_ok _ c.requires.in_range c.loop-i.i (omega arith)).from)
@@ -52,13 +52,7 @@ advance-requires c =
     let l = c.loop-i in
     let from = c.u8_to_usize-from in
     let to = c.u8_to_usize-to in
-    let k = move_ok _ c.requires.in_range l.i (omega arith) in (
-      (omega (arith, from.ensures, k.from), omega (arith, to.ensures, k.to), flags_apart l.reached (not-false _ (ap not c.if-not-reached-from.false)) c.if-reached-to.false, k.output),
-      (
-        λ e n. ready_takes l.counts from.result (move c.args.a l.i).input e (told_true c.ready.ensures (not-false c.ready.result (ap not c.if-not-ready.false))),
-        ((l.invariant.1.cells, λ k. omega (arith, l.invariant.1.small k)), c.requires.few.0),
-      ),
-    )
+    let k = move_ok _ c.requires.in_range l.i (omega arith) in record { from_bound = (omega (arith, from.ensures, k.from), omega (arith, to.ensures, k.to), flags_apart l.reached (not-false _ (ap not c.if-not-reached-from.false)) c.if-reached-to.false, k.output); by_index = λ e n. ready_takes l.counts from.result (move c.args.a l.i).input e (told_true c.ready.ensures (not-false c.ready.result (ap not c.if-not-ready.false))); counts_len = (l.invariant.1.cells, λ k. omega (arith, l.invariant.1.small k)); few = c.requires.few }
 
 pub bounds-reached-to-in-loop-i : goal.bounds-reached-to-in-loop-i
 bounds-reached-to-in-loop-i c = omega (arith, c.u8_to_usize-to.ensures, (move_ok _ c.requires.in_range c.loop-i.i (omega arith)).to)

@@ -19,11 +19,11 @@ mark_back-r-requires c = record { in_range = c.requires; backing = c.loop-a.inva
 pub returns-then-not-r : goal.returns-then-not-r
 returns-then-not-r c =
     let ok = c.requires in
-    let f : c.mark_back-r.result.changed ≡ false = not-true _ (ap not c.if-not-r.true) in
+    let f : c.mark_back-r.result.changed ≡ false = not-true _ c.if-not-r.true in
     same_back _ _ _ (back_ends _ ok _ _ (rw f at c.mark_back-r.ensures)) (back_done _ ok)
 
 pub loop-a-smaller : goal.loop-a-smaller
-loop-a-smaller c = c.mark_back-r.ensures.fewer (not-false _ (ap not c.if-not-r.false))
+loop-a-smaller c = c.mark_back-r.ensures.fewer (not-false _ c.if-not-r.false)
 
 pub loop-a-preserved : goal.loop-a-preserved
 loop-a-preserved c = back_round _ c.requires _ _ _ _ c.mark_back-r.ensures

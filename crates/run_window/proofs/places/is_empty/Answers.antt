@@ -8,14 +8,17 @@ use Rattle.run_window.specs.Laws.Scans.{empty_past, empty_not, empty_all}
 use borrow.Author.Rules.{rules}
 use Rattle.run_window.proofs.places.is_empty.Goals as goal
 
-long : (c : tie.Start invariant-loop decreases-loop) → length c.args.t1 ≡ 512
-long c = search unmapped
-
 pub loop-i-preserved : goal.loop-i-preserved
-loop-i-preserved c = (omega arith, empty_past c.args.window _ c.loop-i.i (omega (arith, long c.before.before.before.before.before)) c.loop-i.invariant.1 c.is_free.ensures c.if-is_free.true)
+loop-i-preserved c =
+    let long : length c.args.window ≡ 512 = search unmapped in
+    (omega arith, empty_past c.args.window _ c.loop-i.i (omega (arith, long)) c.loop-i.invariant.1 c.is_free.ensures c.if-is_free.true)
 
 pub returns-else-is_free : goal.returns-else-is_free
-returns-else-is_free c = empty_not c.args.window _ c.loop-i.i (omega (arith, long c.before.before.before.before.before)) c.loop-i.invariant.1 c.is_free.ensures c.if-is_free.false
+returns-else-is_free c =
+    let long : length c.args.window ≡ 512 = search unmapped in
+    empty_not c.args.window _ c.loop-i.i (omega (arith, long)) c.loop-i.invariant.1 c.is_free.ensures c.if-is_free.false
 
 pub returns : goal.returns
-returns c = empty_all c.args.window c.loop-i.i (omega (arith, long c.before.before)) c.loop-i.invariant.1
+returns c =
+    let long : length c.args.window ≡ 512 = search unmapped in
+    empty_all c.args.window c.loop-i.i (omega (arith, long)) c.loop-i.invariant.1

@@ -8,17 +8,20 @@ use Rattle.run_window.specs.Laws.Scans.{FromOn, where_past, where_here, where_no
 use borrow.Author.Rules.{rules}
 use Rattle.run_window.proofs.places.place_of.Goals as goal
 
-long : (c : tie.Start invariant-loop decreases-loop) → length c.args.t1 ≡ 512
-long c = search unmapped
-
 pub loop-lowest-init : goal.loop-lowest-init
 loop-lowest-init c = (omega arith, sym (zero-add _))
 
 pub returns-then-is_node : goal.returns-then-is_node
-returns-then-is_node c = where_here c.args.position c.args.node c.args.window _ c.loop-lowest.lowest (omega (arith, long c.before.before.before.before.before)) c.loop-lowest.invariant.1 c.is_node.ensures c.if-is_node.true
+returns-then-is_node c =
+    let long : length c.args.window ≡ 512 = search unmapped in
+    where_here c.args.position c.args.node c.args.window _ c.loop-lowest.lowest (omega (arith, long)) c.loop-lowest.invariant.1 c.is_node.ensures c.if-is_node.true
 
 pub loop-lowest-preserved : goal.loop-lowest-preserved
-loop-lowest-preserved c = (omega arith, where_past c.args.position c.args.node c.args.window _ c.loop-lowest.lowest (omega (arith, long c.before.before.before.before.before)) c.loop-lowest.invariant.1 c.is_node.ensures c.if-is_node.false)
+loop-lowest-preserved c =
+    let long : length c.args.window ≡ 512 = search unmapped in
+    (omega arith, where_past c.args.position c.args.node c.args.window _ c.loop-lowest.lowest (omega (arith, long)) c.loop-lowest.invariant.1 c.is_node.ensures c.if-is_node.false)
 
 pub returns : goal.returns
-returns c = where_nowhere c.args.position c.args.node c.args.window c.loop-lowest.lowest (omega (arith, long c.before.before)) c.loop-lowest.invariant.1
+returns c =
+    let long : length c.args.window ≡ 512 = search unmapped in
+    where_nowhere c.args.position c.args.node c.args.window c.loop-lowest.lowest (omega (arith, long)) c.loop-lowest.invariant.1

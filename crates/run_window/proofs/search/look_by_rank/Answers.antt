@@ -16,25 +16,11 @@ use borrow.Author.Rules.{rules}
 use mathlib.Core.Bool.{not}
 use Rattle.run_window.proofs.search.look_by_rank.Goals as goal
 
-long : (c : tie.Start invariant-loop decreases-loop) → length c.args.t1 ≡ 512
-long c = search unmapped
-
-many : (c : tie.Start invariant-loop decreases-loop) → length c.args.t2 ≡ 2048
-many c = search unmapped
-
-none : (c : tie.Start invariant-loop decreases-loop) (s : Sought) → ranked Found.Nothing 0 ≡ ranked_from c.args.t2 s c.args.t1 512
-none c s = ranked_none c.args.t2 s c.args.t1 512 (omega (arith, long c))
-
--- the node of the entry is one of the plan's
-below : (c : tie.After-node-place invariant-loop decreases-loop) → c.node_place_lem.result < 2048
-below c =
-    let s = c.before.before.before.before.before.before in
-    let held = noticed_held s.args.psi s.args.slack s.args.t s.args.sought _ (sym c.before.before.is-noticed.ensures ∙ not-false _ c.before.if1.false) in
-    let n = s.requires.4 (c.before.before.before.before.before.loop.i - 1) held in
-    omega (arith, c.node_place_lem.ensures)
-
 pub loop-i-init : goal.loop-i-init
-loop-i-init c = let a = c.args in (omega arith, none c (Sought.Overdue a.psi a.t), none c (Sought.Late a.psi a.slack a.t), none c a.sought)
+loop-i-init c =
+    let long : length c.args.window ≡ 512 = search unmapped in
+    let none : (s : Sought) → ranked Found.Nothing 0 ≡ ranked_from c.args.nodes s c.args.window 512 = (λ s. ranked_none c.args.nodes s c.args.window 512 (omega (arith, long))) in
+    let a = c.args in (omega arith, none (Sought.Overdue a.psi a.t), none (Sought.Late a.psi a.slack a.t), none a.sought)
 
 pub is_noticed-requires : goal.is_noticed-requires
 is_noticed-requires c = let p = c.requires in (p.0, p.1, p.2, p.3 _)
@@ -42,8 +28,9 @@ is_noticed-requires c = let p = c.requires in (p.0, p.1, p.2, p.3 _)
 -- the entry is none of the three, so what was found behind it stays
 pub loop-i-preserved-then-not-is_noticed : goal.loop-i-preserved-then-not-is_noticed
 loop-i-preserved-then-not-is_noticed c =
+    let long : length c.args.window ≡ 512 = search unmapped in
     let l = c.loop-i in
-    let n = long c.before.before.before.before.before in
+    let n = long in
     let more = c.loop-i-test.true in
     let none = or-false _ _ (sym c.is_noticed.ensures ∙ not-true _ (ap not c.if-not-is_noticed.true)) in
     let rest = or-false _ _ none.1 in (
@@ -54,10 +41,19 @@ loop-i-preserved-then-not-is_noticed c =
     )
 
 pub offset_bounds-nodes-k : goal.offset_bounds-nodes-k
-offset_bounds-nodes-k c = let l = below c in omega arith
+offset_bounds-nodes-k c =
+    let below : c.node_place-k.result < 2048 = let held = noticed_held c.args.psi c.args.slack c.args.t c.args.sought _ (sym c.is_noticed.ensures ∙ not-false _ (ap not c.if-not-is_noticed.false)) in
+    let n = c.requires.4 (c.loop-i.i - 1) held in
+    omega (arith, c.node_place-k.ensures) in
+    let l = below in omega arith
 
 pub bounds-nodes-k : goal.bounds-nodes-k
-bounds-nodes-k c = let l = below c in let m = many c.before.before.before.before.before.before in omega arith
+bounds-nodes-k c =
+    let many : length c.args.nodes ≡ 2048 = search unmapped in
+    let below : c.node_place-k.result < 2048 = let held = noticed_held c.args.psi c.args.slack c.args.t c.args.sought _ (sym c.is_noticed.ensures ∙ not-false _ (ap not c.if-not-is_noticed.false)) in
+    let n = c.requires.4 (c.loop-i.i - 1) held in
+    omega (arith, c.node_place-k.ensures) in
+    let l = below in let m = many in omega arith
 
 pub kept-overdue-requires : goal.kept-overdue-requires
 kept-overdue-requires c = let p = c.requires in (p.0, p.3 _)
@@ -70,8 +66,9 @@ kept-best-requires c = let p = c.requires in (p.2, p.3 _)
 
 pub loop-i-preserved : goal.loop-i-preserved
 loop-i-preserved c =
+    let long : length c.args.window ≡ 512 = search unmapped in
     let l = c.loop-i in
-    let n = long c.before.before.before.before.before.before.before.before.before.before.before in
+    let n = long in
     let more = c.loop-i-test.true in
     let r = c.rank-r.ensures ∙ ap (λ (k : ℕ). rank (get_or c.args.nodes k past_node).kind) c.node_place-k.ensures in (
       omega arith,

@@ -12,12 +12,10 @@ use borrow.Author.Rules.{rules}
 use mathlib.Core.Bool.{not}
 use Rattle.run_window.proofs.search.scan.Goals as goal
 
-long : (c : tie.Start invariant-loop decreases-loop) → length c.args.t1 ≡ 512
-long c = search unmapped
-
 pub loop-i-init : goal.loop-i-init
 loop-i-init c =
-    let n = long c in (
+    let long : length c.args.window ≡ 512 = search unmapped in
+    let n = long in (
       omega arith,
       scan_none (Sought.Overdue c.args.psi c.args.t) c.args.window 512 (omega arith),
       scan_none (Sought.Late c.args.psi c.args.slack c.args.t) c.args.window 512 (omega arith),
@@ -30,8 +28,9 @@ is_noticed-requires c = let p = c.requires in (p.0, p.1, p.2, p.3 _)
 -- the entry is none of the three, so what was found behind it stays
 pub loop-i-preserved-then-not-is_noticed : goal.loop-i-preserved-then-not-is_noticed
 loop-i-preserved-then-not-is_noticed c =
+    let long : length c.args.window ≡ 512 = search unmapped in
     let l = c.loop-i in
-    let n = long c.before.before.before.before.before in
+    let n = long in
     let more = c.loop-i-test.true in
     let none = or-false _ _ (sym c.is_noticed.ensures ∙ not-true _ (ap not c.if-not-is_noticed.true)) in
     let rest = or-false _ _ none.1 in (
@@ -55,8 +54,9 @@ kept-best-requires c = let p = c.requires in (p.2, p.3 _)
 
 pub loop-i-preserved : goal.loop-i-preserved
 loop-i-preserved c =
+    let long : length c.args.window ≡ 512 = search unmapped in
     let l = c.loop-i in
-    let n = long c.before.before.before.before.before.before.before.before.before.before in
+    let n = long in
     let more = c.loop-i-test.true in
     let untied = or-false _ _ (sym c.ties_either.ensures ∙ c.if-ties_either.false) in (
       omega arith,
