@@ -15,48 +15,70 @@ use borrow.Author.Rules.{rules}
 use mathlib.Core.Bool.{not}
 use Rattle.link_calls.proofs.calls.read_call.Goals as goal
 
--- past the test the message has its map's length
-is-long : (k : tie.After-shared-slice-known2) → has_length k.before.before.before.before.args.bytes.now ≡ true
-is-long k = long k.before.before.before.before.args.bytes.now _ k.before.before.has-length.ensures k.before.if1.false
-
 pub returns-then-not-has_length : goal.returns-then-not-has_length
 returns-then-not-has_length c = sym (call_length c.args.bytes.now (short c.args.bytes.now _ c.has_length.ensures (ap not c.if-not-has_length.true)))
 
 pub bounds-bytes-0 : goal.bounds-bytes-0
-bounds-bytes-0 c = omega (arith, one_byte c.args.bytes.now (is-long c))
+bounds-bytes-0 c =
+    let is-long : has_length c.args.bytes.now ≡ true = long c.args.bytes.now _ c.has_length.ensures (ap not c.if-not-has_length.false) in
+    omega (arith, one_byte c.args.bytes.now (is-long))
 
 pub eight-requires : goal.eight-requires
-eight-requires c = let m = c in let k = m.before in omega (arith, ask_long k.before.before.before.before.args.bytes.now (is-long k) m.match.keys1)
+eight-requires c =
+    let is-long : has_length c.args.bytes.now ≡ true = long c.args.bytes.now _ c.has_length.ensures (ap not c.if-not-has_length.false) in
+    omega (arith, ask_long c.args.bytes.now (is-long) c.in-1.is)
 
 pub returns-in-1 : goal.returns-in-1
-returns-in-1 c = ap (λ (t : ℕ). CallRead.Call (Call.Ask (clock t))) c.eight.ensures ∙ sym (reads_ask c.args.bytes.now (is-long c.before.before) c.in-1.is)
+returns-in-1 c =
+    let is-long : has_length c.args.bytes.now ≡ true = long c.args.bytes.now _ c.has_length.ensures (ap not c.if-not-has_length.false) in
+    ap (λ (t : ℕ). CallRead.Call (Call.Ask (clock t))) c.eight.ensures ∙ sym (reads_ask c.args.bytes.now (is-long) c.in-1.is)
 
 pub eight-requires-in-7 : goal.eight-requires-in-7
-eight-requires-in-7 c = let m = c in let k = m.before in omega (arith, completion_long k.before.before.before.before.args.bytes.now (is-long k) m.match.keys2)
+eight-requires-in-7 c =
+    let is-long : has_length c.args.bytes.now ≡ true = long c.args.bytes.now _ c.has_length.ensures (ap not c.if-not-has_length.false) in
+    omega (arith, completion_long c.args.bytes.now (is-long) c.in-7.is)
 
 pub four-position-requires : goal.four-position-requires
-four-position-requires c = omega (arith, completion_long c.args.bytes.now (is-long c.before.before) c.in-7.is)
+four-position-requires c =
+    let is-long : has_length c.args.bytes.now ≡ true = long c.args.bytes.now _ c.has_length.ensures (ap not c.if-not-has_length.false) in
+    omega (arith, completion_long c.args.bytes.now (is-long) c.in-7.is)
 
 pub bounds-bytes-13 : goal.bounds-bytes-13
-bounds-bytes-13 c = omega (arith, completion_long c.args.bytes.now (is-long c.before.before.before.before) c.in-7.is)
+bounds-bytes-13 c =
+    let is-long : has_length c.args.bytes.now ≡ true = long c.args.bytes.now _ c.has_length.ensures (ap not c.if-not-has_length.false) in
+    omega (arith, completion_long c.args.bytes.now (is-long) c.in-7.is)
 
 pub returns-in-7 : goal.returns-in-7
-returns-in-7 c = ap₂ (λ (t p : ℕ). CallRead.Call (Call.Completion (clock t) p (get_or c.args.bytes.now 13 0))) c.eight-in-7.ensures c.four-position.ensures.0 ∙ sym (reads_completion c.args.bytes.now (is-long c.before.before.before.before) c.in-7.is)
+returns-in-7 c =
+    let is-long : has_length c.args.bytes.now ≡ true = long c.args.bytes.now _ c.has_length.ensures (ap not c.if-not-has_length.false) in
+    ap₂ (λ (t p : ℕ). CallRead.Call (Call.Completion (clock t) p (get_or c.args.bytes.now 13 0))) c.eight-in-7.ensures c.four-position.ensures.0 ∙ sym (reads_completion c.args.bytes.now (is-long) c.in-7.is)
 
 pub eight-requires-in-15 : goal.eight-requires-in-15
-eight-requires-in-15 c = let m = c in let k = m.before in omega (arith, outcome_long k.before.before.before.before.args.bytes.now (is-long k) m.match.keys3)
+eight-requires-in-15 c =
+    let is-long : has_length c.args.bytes.now ≡ true = long c.args.bytes.now _ c.has_length.ensures (ap not c.if-not-has_length.false) in
+    omega (arith, outcome_long c.args.bytes.now (is-long) c.in-15.is)
 
 pub four-position-requires-in-15 : goal.four-position-requires-in-15
-four-position-requires-in-15 c = omega (arith, outcome_long c.args.bytes.now (is-long c.before.before) c.in-15.is)
+four-position-requires-in-15 c =
+    let is-long : has_length c.args.bytes.now ≡ true = long c.args.bytes.now _ c.has_length.ensures (ap not c.if-not-has_length.false) in
+    omega (arith, outcome_long c.args.bytes.now (is-long) c.in-15.is)
 
 pub bounds-bytes-13-in-15 : goal.bounds-bytes-13-in-15
-bounds-bytes-13-in-15 c = omega (arith, outcome_long c.args.bytes.now (is-long c.before.before.before.before) c.in-15.is)
+bounds-bytes-13-in-15 c =
+    let is-long : has_length c.args.bytes.now ≡ true = long c.args.bytes.now _ c.has_length.ensures (ap not c.if-not-has_length.false) in
+    omega (arith, outcome_long c.args.bytes.now (is-long) c.in-15.is)
 
 pub bounds-bytes-14 : goal.bounds-bytes-14
-bounds-bytes-14 c = omega (arith, outcome_long c.args.bytes.now (is-long c.before.before.before.before.before) c.in-15.is)
+bounds-bytes-14 c =
+    let is-long : has_length c.args.bytes.now ≡ true = long c.args.bytes.now _ c.has_length.ensures (ap not c.if-not-has_length.false) in
+    omega (arith, outcome_long c.args.bytes.now (is-long) c.in-15.is)
 
 pub returns-in-15 : goal.returns-in-15
-returns-in-15 c = ap₂ (λ (t p : ℕ). CallRead.Call (Call.Outcome (clock t) p (get_or c.args.bytes.now 13 0) (get_or c.args.bytes.now 14 0))) c.eight-in-15.ensures c.four-position-in-15.ensures.0 ∙ sym (reads_outcome c.args.bytes.now (is-long c.before.before.before.before.before) c.in-15.is)
+returns-in-15 c =
+    let is-long : has_length c.args.bytes.now ≡ true = long c.args.bytes.now _ c.has_length.ensures (ap not c.if-not-has_length.false) in
+    ap₂ (λ (t p : ℕ). CallRead.Call (Call.Outcome (clock t) p (get_or c.args.bytes.now 13 0) (get_or c.args.bytes.now 14 0))) c.eight-in-15.ensures c.four-position-in-15.ensures.0 ∙ sym (reads_outcome c.args.bytes.now (is-long) c.in-15.is)
 
 pub returns-in_default : goal.returns-in_default
-returns-in_default c = let r = c.in_default.in_default-own.rest in sym (call_unlisted c.args.bytes.now (is-long c.before) (rw (ne_eqb _ 0x01 r.0.0.1, ne_eqb _ 0x07 r.0.1, ne_eqb _ 0x0F r.1)))
+returns-in_default c =
+    let is-long : has_length c.args.bytes.now ≡ true = long c.args.bytes.now _ c.has_length.ensures (ap not c.if-not-has_length.false) in
+    let r = c.in_default.in_default-own.rest in sym (call_unlisted c.args.bytes.now (is-long) (rw (ne_eqb _ 0x01 r.0.0.1, ne_eqb _ 0x07 r.0.1, ne_eqb _ 0x0F r.1)))
