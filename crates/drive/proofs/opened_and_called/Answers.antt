@@ -14,4 +14,4 @@ pub parts_from-requires : goal.parts_from-requires
 parts_from-requires c = let a = c.args in (whole_parts a.input.now a.head c.requires.0, omega (arith, c.requires.2, record_length c.opening_record-record.result, c.put_at-end.ensures.past, puts_length c.put_at-end.ensures))
 
 pub returns : goal.returns
-returns c = let a = c.args in opens a.input.now a.head c.requires.0 a.parts c.requires.1 _ c.before.before.before.before.before.before.before.before.before.before.«open».ensures _ c.opening_record-record.ensures c.put_at-end.ensures c.parts_from.ensures
+returns c = let a = c.args in opens a.input.now a.head c.requires.0 a.parts c.requires.1 _ c.open-opened.ensures _ c.opening_record-record.ensures c.put_at-end.ensures c.parts_from.ensures
