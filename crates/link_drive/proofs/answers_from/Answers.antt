@@ -20,17 +20,17 @@ returns-in_default c = let l = c.loop-left in
 pub slice_bounds-receive-count : goal.slice_bounds-receive-count
 slice_bounds-receive-count c =
     let here : Found c.args.input.now c.loop-left.at c.in-At.next = found _ _ _ (sym c.next_of.ensures ∙ c.in-At.is) in
-    (here).ahead
+    here.ahead
 
 pub slice_bounds-receive-start : goal.slice_bounds-receive-start
 slice_bounds-receive-start c =
     let here : Found c.args.input.now c.loop-left.at c.in-At.next = found _ _ _ (sym c.next_of.ensures ∙ c.in-At.is) in
-    let h = (here).ahead in search rules
+    let h = here.ahead in search rules
 
 pub slice_bounds-receive-end : goal.slice_bounds-receive-end
 slice_bounds-receive-end c =
     let here : Found c.args.input.now c.loop-left.at c.in-At.next = found _ _ _ (sym c.next_of.ensures ∙ c.in-At.is) in
-    let h = (here).ranges in search rules
+    let h = here.fits in search rules
 
 pub put_answer-end-requires : goal.put_answer-end-requires
 put_answer-end-requires c = let l = c.loop-left in

@@ -19,17 +19,17 @@ returns-in_default c = let l = c.loop-left in
 pub slice_bounds-receive-count : goal.slice_bounds-receive-count
 slice_bounds-receive-count c =
     let here : Found c.args.input.now c.loop-left.at c.in-At.next = found _ _ _ (sym c.next_of.ensures ∙ c.in-At.is) in
-    (here).ahead
+    here.ahead
 
 pub slice_bounds-receive-start : goal.slice_bounds-receive-start
 slice_bounds-receive-start c =
     let here : Found c.args.input.now c.loop-left.at c.in-At.next = found _ _ _ (sym c.next_of.ensures ∙ c.in-At.is) in
-    let h = (here).ahead in search rules
+    let h = here.ahead in search rules
 
 pub slice_bounds-receive-end : goal.slice_bounds-receive-end
 slice_bounds-receive-end c =
     let here : Found c.args.input.now c.loop-left.at c.in-At.next = found _ _ _ (sym c.next_of.ensures ∙ c.in-At.is) in
-    let h = (here).ranges in search rules
+    let h = here.fits in search rules
 
 pub returns-then-free-size : goal.returns-then-free-size
 returns-then-free-size c = let l = c.loop-left in
@@ -37,7 +37,7 @@ returns-then-free-size c = let l = c.loop-left in
     let v = c.receive-answer in
     let e = sym c.next_of.ensures ∙ c.in-At.is in
     let one = answers_length a.input.now l.at _ e l.left (l.left - 1) (omega (arith, c.loop-left-test.true)) l.run v.result v.ensures in
-    sym (lt-leb (length (answers_from a.messages a.first a.input.now a.from)) a.room (omega (arith, l.invariant.1, one, c.type_size.ensures, c.if-free-size.true)))
+    sym (lt-leb (length (answers_from a.messages a.first a.input.now a.from)) a.room (omega (arith, l.invariant.1, one, c.size_of-size.ensures, c.if-free-size.true)))
 
 pub loop-left-preserved : goal.loop-left-preserved
 loop-left-preserved c = let l = c.loop-left in
@@ -45,7 +45,7 @@ loop-left-preserved c = let l = c.loop-left in
     let v = c.receive-answer in
     let e = sym c.next_of.ensures ∙ c.in-At.is in
     let one = answers_length a.input.now l.at _ e l.left (l.left - 1) (omega (arith, c.loop-left-test.true)) l.run v.result v.ensures in
-    ((found a.input.now l.at _ e).fits, omega (arith, l.invariant.1, one, c.type_size.ensures, c.if-free-size.false))
+    ((found a.input.now l.at _ e).fits, omega (arith, l.invariant.1, one, c.size_of-size.ensures, c.if-free-size.false))
 
 pub returns : goal.returns
 returns c = let l = c.loop-left in
