@@ -35,13 +35,20 @@ use Rattle.demands.specs.Laws.ConditionsMet.{several_if}
 use Rattle.demands.specs.Laws.ByLogPlaces.{known, node_of, IsHeld, of_word, stands_at, at_stands, started_at, at_started, unstarted_at, at_unstarted, overdue_to, overdue_from, late_to, late_from, due_to, due_from, overdue_earliest, overdue_first, late_served, served_late, due_served, served_due, named_to, named_from, named_first, kind_same, kind_at}
 
 is_stop : (r : Reply) → Stops r → (s : Stop) × (r ≡ Reply.Stopped s)
+is_stop (Reply.Start _ _ _) h = elim h [ ]
+is_stop Reply.Wait h = elim h [ ]
+is_stop Reply.Done h = elim h [ ]
+is_stop Reply.Taken h = elim h [ ]
+is_stop (Reply.Refused _) h = elim h [ ]
 is_stop (Reply.Stopped s) h = (s, refl)
 
 pub stopped_by_lem : (log : Log) → StoppedIn log → (s : Stop) × StoppedBy log s
+stopped_by_lem mathlib.Core.List.[] x' = elim x' [ ]
 stopped_by_lem (y ∷ log) (inl q) = let r = is_stop y.reply q in (r.0, inl r.1)
 stopped_by_lem (y ∷ log) (inr q) = let r = stopped_by_lem log q in (r.0, inr r.1)
 
 pub stopped_in : (log : Log) (s : Stop) → StoppedBy log s → StoppedIn log
+stopped_in mathlib.Core.List.[] s x' = elim x' [ ]
 stopped_in (y ∷ log) s (inl q) = inl (subst Stops (sym q) tt)
 stopped_in (y ∷ log) s (inr q) = inr (stopped_in log s q)
 

@@ -44,9 +44,19 @@ stays run s c h = go (run_in_limits run) refl
     go false l = subst (Stays run) (sym (out_gets_50 run c l)) (record { same = refl; ended = λ q. q })
 
 halts : (run : Run) (c : Call) (r : Reply) → (call_of run c).reply ≡ r → Stops r → (s : Stop) × ((call_of run c).run.halt ≡ Halt.Stopped s)
+halts run c (Reply.Start _ _ _) e q = elim q [ ]
+halts run c Reply.Wait e q = elim q [ ]
+halts run c Reply.Done e q = elim q [ ]
+halts run c Reply.Taken e q = elim q [ ]
+halts run c (Reply.Refused _) e q = elim q [ ]
 halts run c (Reply.Stopped s) e q = (s, stops_stay run s c e)
 
 stops_ended : (r : Reply) → Stops r → GoesOn r → ⊥
+stops_ended (Reply.Start _ _ _) q g = elim q [ ]
+stops_ended Reply.Wait q g = elim q [ ]
+stops_ended Reply.Done q g = elim q [ ]
+stops_ended Reply.Taken q g = elim q [ ]
+stops_ended (Reply.Refused _) q g = elim q [ ]
 stops_ended (Reply.Stopped s) q g = g
 
 -- ---- a list

@@ -99,6 +99,11 @@ place_kept run c = by_reply run c (call_of run c).reply refl (met run c).conditi
 -- ---- a list of calls
 
 counted : (r : Reply) (log : Log) → (StoppedIn log → ⊥) → (r ≡ Reply.Taken) ⊎ Fails r → Accepts r log
+counted (Reply.Start _ _ _) log n (inr f) = elim f [ ]
+counted Reply.Wait log n (inr f) = elim f [ ]
+counted Reply.Done log n (inr f) = elim f [ ]
+counted Reply.Taken log n (inr f) = elim f [ ]
+counted (Reply.Refused _) log n (inr f) = elim f [ ]
 counted r log n (inl q) = subst (λ (x : Reply). Accepts x log) (sym q) tt
 counted (Reply.Stopped s) log n (inr f) = (f, n)
 

@@ -34,6 +34,7 @@ either x (y ∷ xs) ys (inl e) = inl (inl e)
 either x (y ∷ xs) ys (inr h) = elim (either x xs ys h) [ inl z ↦ inl (inr z) | inr z ↦ inr z ]
 
 in_front : (x : Row) (xs ys : List Row) → Among x xs → Among x (xs ++ ys)
+in_front x [] ys x'' = elim x'' [ ]
 in_front x (y ∷ xs) ys (inl e) = inl e
 in_front x (y ∷ xs) ys (inr h) = inr (in_front x xs ys h)
 
@@ -80,6 +81,7 @@ module _ (q a : ℕ) where
       record { number = suc h.number; within = (let u = h.within in omega arith); work = h.work; row = h.row ∙ ap (row_at q a) z }
 
   node_of_lem : (n : ℕ) (xs : List Node) (y : Row) → Among y (node_list q a n xs) → Of n xs y
+  node_of_lem n [] y h = elim h [ ]
   node_of_lem n (x ∷ xs) y h = by (is_work x.kind) refl h (λ k. node_of_lem (n + 1) xs y k)
     where
       by : (b : Bool) → is_work x.kind ≡ b → Among y (cond b (row_at q a n ∷ []) [] ++ node_list q a (n + 1) xs) → (Among y (node_list q a (n + 1) xs) → Of (n + 1) xs y) → Of n (x ∷ xs) y
@@ -125,6 +127,7 @@ lines p S E (t ∷ is) =
 
 -- positions are below the word's length
 low : (p : Plan) (is : List ℕ) (x : Row) → Among x (list_of p is) → x.id.position < size (word_of p is)
+low p [] x h = elim h [ ]
 low p (t ∷ is) x h =
     let q = size (word_of p is) in
     let a = activity_number (move p.automaton t).output in
@@ -153,6 +156,7 @@ output_is p (Output.Activity a) n h = refl
 
 module _ (p : Plan) where
   all : (is : List ℕ) (x : Row) → Among x (list_of p is) → Work (whole_of p is) x.id × EmitsAt p is x.id.position x.activity
+  all [] x h = elim h [ ]
   all (t ∷ is) x h = by (either x (list_of p is) _ h) (λ m. all is x m)
     where
       xs : List Node

@@ -45,11 +45,11 @@ served run t p a n q = go ((start run (Call.Ask t) p a n).0 q)
     go (Asks.starts {t} i h f) = (i, refl, refl, refl, first_served run h.not_overdue.rises.going.limits (DueAt run t) (λ j d. ap is_held d.unstarted) i f)
 
 pub served_late : StatementServedLate
-served_late run c p n going q = go ((late run c p n).0 q)
+served_late run c p n going q = go c ((late run c p n).0 q)
   where
-    go : {p n : ℕ} → Halts run c (Stop.Late p n) → (i : ℕ) × ((entry_at run i).position ≡ p) × ((entry_at run i).node ≡ n) × FirstServed run (LateAt run (reading_of c)) i
-    go (Halts.kept l h) = absurd (never (sym going ∙ h))
+    go : (c : Call) {p n : ℕ} → Halts run c (Stop.Late p n) → (i : ℕ) × ((entry_at run i).position ≡ p) × ((entry_at run i).node ≡ n) × FirstServed run (LateAt run (reading_of c)) i
+    go c (Halts.kept l h) = absurd (never (sym going ∙ h))
       where
         never : {s : Stop} → Halt.Going ≡ Halt.Stopped s → ⊥
         never r = let z : ◌≡◌ {A = ℕ} 0 1 = cc in omega arith
-    go (Halts.number41 i h f) = (i, refl, refl, first_served run h.rises.going.limits (LateAt run (reading_of c)) (λ j d. ap is_held d.unstarted) i f)
+    go c (Halts.number41 i h f) = (i, refl, refl, first_served run h.rises.going.limits (LateAt run (reading_of c)) (λ j d. ap is_held d.unstarted) i f)

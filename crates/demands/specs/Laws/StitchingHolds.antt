@@ -39,14 +39,17 @@ use Rattle.demands.specs.Laws.SameWord.{same_word}
 -- ---- what a log says
 
 started_in : (N : Id → Type 0) (log : Log) → Always (λ y older. (x : Id) → Starts y.reply x → N x) log → (x : Id) → Started log x → N x
+started_in N mathlib.Core.List.[] h x x4 = elim x4 [ ]
 started_in N (y ∷ log) h x (inl q) = h.0 x q
 started_in N (y ∷ log) h x (inr q) = started_in N log h.1 x q
 
 reported_started : (log : Log) → Always (λ y older. (x : Id) → Reports y.call y.reply older x → Started older x) log → (x : Id) → Reported log x → Started log x
+reported_started mathlib.Core.List.[] h x x4 = elim x4 [ ]
 reported_started (y ∷ log) h x (inl q) = inr (h.0 x q)
 reported_started (y ∷ log) h x (inr q) = inr (reported_started log h.1 x q)
 
 at_started : (P : Id → ℕ → Type 0) (log : Log) → Always (λ y older. (x : Id) → Starts y.reply x → P x (reading y.call)) log → (x : Id) (t : ℕ) → StartedAt log x t → P x t
+at_started P mathlib.Core.List.[] h x t x4 = elim x4 [ ]
 at_started P (y ∷ log) h x t (inl q) = subst (P x) q.1 (h.0 x q.0)
 at_started P (y ∷ log) h x t (inr q) = at_started P log h.1 x t q
 
@@ -54,14 +57,17 @@ pub start_reading : StatementStartReading
 start_reading log x = (there log, λ q. back log q.0 q.1)
   where
     there : (l : Log) → Started l x → (t : ℕ) × StartedAt l x t
+    there mathlib.Core.List.[] q = elim q [ ]
     there (y ∷ l) (inl q) = (reading y.call, inl (q, refl))
     there (y ∷ l) (inr q) = let r = there l q in (r.0, inr r.1)
 
     back : (l : Log) (t : ℕ) → StartedAt l x t → Started l x
+    back mathlib.Core.List.[] t q = elim q [ ]
     back (y ∷ l) t (inl q) = inl q.0
     back (y ∷ l) t (inr q) = inr (back l t q)
 
 named_in : (p : Plan) (is : List ℕ) (log : Log) → Always (λ y older. (q a n : ℕ) → y.reply ≡ Reply.Start q a n → EmitsAt p is q a) log → (x : Id) (a : ℕ) → NamedWith log x a → EmitsAt p is x.position a
+named_in p is mathlib.Core.List.[] h x a x4 = elim x4 [ ]
 named_in p is (y ∷ log) h x a (inl e) = h.0 x.position a x.node e
 named_in p is (y ∷ log) h x a (inr e) = named_in p is log h.1 x a e
 
@@ -75,16 +81,24 @@ record Whole (p : Plan) (psi slack : ℕ) (is : List ℕ) (S : Ident → ℕ) (l
   until : (x : Id) (t : ℕ) → StartedAt log x t → t ≤ psi + S (whose x) + slack
 
 at-end : (p : Plan) (is : List ℕ) (log : Log) → EndsInDone log → Ends p is log → is_final p.automaton (state_after p is) ≡ true
+at-end p is mathlib.Core.List.[] f e = elim f [ ]
 at-end p is (y ∷ older) f e = e.final f
 
 all_started : (p : Plan) (is : List ℕ) (log : Log) → EndsInDone log → Ends p is log → Always (λ y older. (x : Id) → Reports y.call y.reply older x → Started older x) log → (x : Id) → Work (whole_of p is) x → Started log x
+all_started p is mathlib.Core.List.[] f e h x n = elim f [ ]
 all_started p is (y ∷ older) f e h x n = inr (reported_started older h.1 x (e.all f x n))
 
 done_goes_on : (log : Log) → EndsInDone log → EndsGoing log
+done_goes_on mathlib.Core.List.[] f = elim f [ ]
 done_goes_on (y ∷ older) f = go y.reply f
   where
     go : (r : Reply) → Finishes r → GoesOn r
     go Reply.Done f = tt
+    go (Reply.Start _ _ _) f = elim f [ ]
+    go Reply.Wait f = elim f [ ]
+    go Reply.Taken f = elim f [ ]
+    go (Reply.Refused _) f = elim f [ ]
+    go (Reply.Stopped _) f = elim f [ ]
 
 module _ (bytes : List ℕ) (are : Bytes bytes) (psi : Clock) (slack : ℕ) (ts : List ℕ) (opened : (open_of bytes psi slack ts).opening ≡ Opening.Opened) (cs : List Call) (f : EndsInDone (log_after bytes psi slack ts cs)) (is : List ℕ) (w : TheWord (judge_of bytes).plan (log_after bytes psi slack ts cs) is) where
   abbrev plan : Plan
