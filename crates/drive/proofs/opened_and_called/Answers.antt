@@ -1,9 +1,9 @@
 -- The opening's record stands first, and the parts begin where the opening ends.
 use native.Mathlib.Omega.{arith}
-use Rattle.drive_input.specs.Laws.Whole.{whole_fits, whole_parts}
+use Rattle.drive_input.proofs.Laws.Whole.{whole_fits, whole_parts}
 use Rattle.drive.proofs.Turns.{opens}
-use Rattle.drive_records.specs.Laws.Records.{record_length}
-use Rattle.wire.specs.Laws.Puts.{puts_length}
+use Rattle.drive_records.proofs.Laws.Records.{record_length}
+use Rattle.wire.proofs.Laws.Puts.{puts_length}
 use borrow.Author.Rules.{rules}
 use Rattle.drive.proofs.opened_and_called.Goals as goal
 

@@ -2,7 +2,7 @@
 use borrow.Author.Rules.{rules}
 use mathlib.Core.Path.{◌≡◌, sym, ◌∙◌, subst}
 use lib.ListN.{length, length-map}
-use Rattle.basis.specs.Laws.Lists.{unmapped}
+use Rattle.basis.proofs.Laws.Lists.{unmapped}
 use Rattle.run.specs.Calls.{reading_of}
 use Rattle.run.specs.Inner.Effects.{sought_by, checked_of, effect_of}
 use Rattle.held.specs.Held.{entry_of, run_of}

@@ -1,8 +1,8 @@
 -- Measured first: a buffer that is too short stays as it was.
 use native.Mathlib.Omega.{arith}
-use Rattle.wire.specs.Laws.Puts.{puts_length}
-use Rattle.drive_input.specs.Laws.Whole.{whole_fits, whole_parts}
-use Rattle.drive_records.specs.Laws.Records.{record_length}
+use Rattle.wire.proofs.Laws.Puts.{puts_length}
+use Rattle.drive_input.proofs.Laws.Whole.{whole_fits, whole_parts}
+use Rattle.drive_records.proofs.Laws.Records.{record_length}
 use Rattle.link_drive.proofs.Fitting.{too_short, room, all_written}
 use borrow.Author.Rules.{rules}
 use mathlib.Core.Path.{ap}

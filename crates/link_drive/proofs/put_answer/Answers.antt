@@ -3,11 +3,11 @@ use mathlib.Core.Path.{◌≡◌, refl, sym, ◌∙◌, ap}
 use native.Mathlib.Omega.{arith}
 use Prim.Native.Nat.{◌+◌, ◌≤◌}
 use lib.ListN.{length}
-use Rattle.wire.specs.Laws.Puts.{puts_length}
+use Rattle.wire.proofs.Laws.Puts.{puts_length}
 use Rattle.link_messages.specs.declared.Message.{Message}
 use Rattle.link_messages.specs.Message.{length_of}
 use Rattle.link_calls.specs.Replies.{encode_reply}
-use Rattle.link_calls.specs.Laws.Lengths.{reply_length, reply_short}
+use Rattle.link_calls.proofs.Laws.Lengths.{reply_length, reply_short}
 use Rattle.link_drive.proofs.Putting.{answer_puts}
 use borrow.Author.Rules.{rules}
 use Rattle.link_drive.proofs.put_answer.Goals as goal

@@ -4,7 +4,7 @@ use native.Mathlib.Omega.{arith}
 use Rattle.link_messages.specs.declared.Message.{Message}
 use Rattle.link_messages.specs.Message.{length_of}
 use Rattle.link_calls.specs.Replies.{of_reply}
-use Rattle.link_calls.specs.Laws.Lengths.{reply_length, reply_short}
+use Rattle.link_calls.proofs.Laws.Lengths.{reply_length, reply_short}
 use borrow.Author.Rules.{rules}
 use Rattle.link_drive.proofs.size_of.Goals as goal
 

@@ -11,7 +11,7 @@ use Rattle.run.specs.Inner.Effects.{sought_by}
 use Rattle.held.specs.declared.Held.{Held}
 use Rattle.held.specs.Held.{progress_of, halt_of, run_of}
 use Rattle.held_checks.specs.Inner.Checks.{all_but_nodes, check_seen, check_nodes_last}
-use Rattle.held_checks.specs.Laws.Checks.{all_timed, all_sought, seen_checked}
+use Rattle.held_checks.proofs.Laws.Checks.{all_timed, all_sought, seen_checked}
 use Rattle.jidlekuvo.proofs.Stepping.{run_in, by_parts}
 use Rattle.jidlekuvo.proofs.steps.check_on.Goals as goal
 

@@ -5,7 +5,7 @@ use mathlib.Core.Path.{◌≡◌, refl, sym, ◌∙◌, ap, subst}
 use mathlib.Core.List.{List, map}
 use Prim.Native.Nat.{ℕ, ◌*◌, ◌<◌}
 use lib.ListN.{length, get_or, set, replicate, drop}
-use Rattle.basis.specs.Laws.Lists.{unmapped}
+use Rattle.basis.proofs.Laws.Lists.{unmapped}
 use Rattle.plan.specs.Plan.{past_node, past_move, move, outcomes_of}
 use Rattle.plan.specs.Nodes.{zero_node}
 use Rattle.plan.specs.declared.Node.{Node}
@@ -17,12 +17,12 @@ use Rattle.run_checks.specs.declared.Halt.{Halt}
 use Rattle.run_outcomes.specs.Told.{told_of}
 use Rattle.run_loading.specs.Loading.{further, most_pending}
 use Rattle.run_loading.specs.Inner.Loading.{Loads}
-use Rattle.run_loading.specs.Laws.SpareMoves.{room_loads, room_further}
+use Rattle.run_loading.proofs.Laws.SpareMoves.{room_loads, room_further}
 use Rattle.run.specs.Inner.Effects.{run_at}
-use Rattle.run.specs.Laws.Loaded.{loaded_as_lem}
+use Rattle.run.proofs.Laws.Loaded.{loaded_as_lem}
 use Rattle.held.specs.Held.{node_of, move_of, entry_of, plan_of}
 use Rattle.held.specs.Inner.Plans.{nodes_upto, moves_upto, plan_upto}
-use Rattle.held.specs.Laws.Upto.{upto_at}
+use Rattle.held.proofs.Laws.Upto.{upto_at}
 use Rattle.jidlekuvo.specs.Inner.Steps.{stepped_of}
 use Rattle.jidlekuvo.proofs.steps.learns.Goals as goal
 
