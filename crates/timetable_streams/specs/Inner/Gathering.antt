@@ -13,8 +13,9 @@ pub record Gathers (text out : List ℕ) (o : Output) : Type 0 where
   pub rest : take o.gathered out ≡ drop o.handed text
 
 -- where no output failed, a writer's bytes grew by those that are newly counted as handed on
-abbrev pub Went : Option (List ℕ) → Option (List ℕ) → List ℕ → Output → Output → Type 0
-Went before after out o r = r.lost ≡ false → Appends before after (take (r.handed - o.handed) out)
+pub record Went (before after : Option (List ℕ)) (out : List ℕ) (o r : Output) : Type 0 where
+  pub onward : o.handed ≤ r.handed
+  pub bytes : r.lost ≡ false → Appends before after (take (r.handed - o.handed) out)
 
 -- what a function does to the output is no more than to hand on
 pub record HandsOn (out : List ℕ) (o r : Output) : Type 0 where
