@@ -1,2 +1,3 @@
+pub mod Hearing
 pub mod Turning
 pub mod Printing

@@ -3,7 +3,7 @@
 
 ghost use Rattle.std.specs.Io.KnownBytes.{Consumes};
 ghost use Rattle.std.specs.Prelude.{take, [], ◌≡◌, cond, ◌+◌, ◌-◌, ◌≤◌, ◌<◌, length};
-ghost use Rattle.timetable_streams.specs.Inner.Gathering.{HandsOn, Rests, Keeps, Went};
+ghost use Rattle.timetable_streams.specs.Inner.Gathering.{HandsOn, Rests, Keeps, HandsTo};
 ghost use Rattle.timetable_streams.specs.Inner.Asking.{Held, Asks, Listens, heard_bytes};
 
 use std::io::{BufRead, Read, Write};
@@ -53,7 +53,7 @@ pub struct After {
 pub fn hand_on<W: Write>(to: &mut W, out: &[u8], o: Output) -> Output
     requires { (o.gathered ≤ length out.now) × (o.handed + o.gathered ≤ 5_000_000_000_000) }
     ensures hands { HandsOn out.now o result × (result.gathered ≡ 0) }
-    ensures went { Went (W.contents to.old) (W.contents to.new) out.now o result }
+    ensures went { HandsTo (W.contents to.old) (W.contents to.new) out.now o result }
 {
     let handed = o.handed + o.gathered as u64;
     let lost = to.write_all(&out[..o.gathered]).is_err();
@@ -68,7 +68,7 @@ pub fn hand_on<W: Write>(to: &mut W, out: &[u8], o: Output) -> Output
 pub fn hand_on_rest<W: Write>(to: &mut W, out: &[u8], o: Output) -> Output
     requires { (o.gathered ≤ length out.now) × (o.handed + o.gathered ≤ 5_000_000_000_000) }
     ensures rests { Rests out.now o result }
-    ensures went { Went (W.contents to.old) (W.contents to.new) out.now o result }
+    ensures went { HandsTo (W.contents to.old) (W.contents to.new) out.now o result }
 {
     if o.lost {
         return o;
@@ -80,7 +80,7 @@ pub fn hand_on_rest<W: Write>(to: &mut W, out: &[u8], o: Output) -> Output
 fn kept<W: Write>(to: &mut W, out: &[u8], o: Output) -> Output
     requires { (o.gathered ≤ length out.now) × (o.handed + o.gathered ≤ 5_000_000_000_000) }
     ensures hands { HandsOn out.now o result × (result.gathered ≤ 61_440) }
-    ensures went { Went (W.contents to.old) (W.contents to.new) out.now o result }
+    ensures went { HandsTo (W.contents to.old) (W.contents to.new) out.now o result }
 {
     if o.gathered <= 61440 {
         return o;
@@ -113,7 +113,7 @@ pub fn keep<W: Write>(
 ) -> After
     requires { (next ≤ length out.now) × (o.handed + next ≤ 5_000_000_000_000) × (0 < left) }
     ensures keeps { Keeps out.now o next closed left result }
-    ensures went { Went (W.contents to.old) (W.contents to.new) out.now o result.output }
+    ensures went { HandsTo (W.contents to.old) (W.contents to.new) out.now o result.output }
 {
     let put = Output {
         handed: o.handed,
@@ -215,7 +215,7 @@ fn listen<B: BufRead, W: Write>(
     requires gathered_in_bounds { (o.gathered ≤ length out.now) × (o.handed + o.gathered ≤ 5_000_000_000_000) }
     requires held { Held u }
     ensures listens { Listens out.now o result }
-    ensures went { Went (W.contents to.old) (W.contents to.new) out.now o result.output }
+    ensures went { HandsTo (W.contents to.old) (W.contents to.new) out.now o result.output }
     ensures taken { Consumes (B.remaining from.old) (B.remaining from.new) (heard_bytes result.heard) }
 {
     let at = u.at;
@@ -270,7 +270,7 @@ pub fn ask<B: BufRead, W: Write>(
     requires gathered_in_bounds { (o.gathered ≤ length out.now) × (o.handed + o.gathered ≤ 5_000_000_000_000) }
     requires held { Held u }
     ensures asks { Asks out.now o unheard result }
-    ensures went { Went (W.contents to.old) (W.contents to.new) out.now o result.output }
+    ensures went { HandsTo (W.contents to.old) (W.contents to.new) out.now o result.output }
     ensures taken { Consumes (B.remaining from.old) (B.remaining from.new) (heard_bytes result.heard) }
 {
     match unheard {

@@ -13,7 +13,7 @@ pub record Gathers (text out : List ℕ) (o : Output) : Type 0 where
   pub rest : take o.gathered out ≡ drop o.handed text
 
 -- where no output failed, a writer's bytes grew by those that are newly counted as handed on
-pub record Went (before after : Option (List ℕ)) (out : List ℕ) (o r : Output) : Type 0 where
+pub record HandsTo (before after : Option (List ℕ)) (out : List ℕ) (o r : Output) : Type 0 where
   pub onward : o.handed ≤ r.handed
   pub bytes : r.lost ≡ false → Appends before after (take (r.handed - o.handed) out)
 
