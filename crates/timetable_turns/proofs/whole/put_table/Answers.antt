@@ -17,7 +17,7 @@ pub put_turns-requires : goal.put_turns-requires
 put_turns-requires c =
     let f = size_few _ c.args.input.now c.args.n _ _ c.begin-begun.result c.begin-begun.ensures _ c.past-size.ensures (omega arith) in
     let k = c.copy-at in
-    let u = length-take c.past-size.result c.begin-begun.new.0 in
+    let u = length-take c.past-size.result c.begin-begun.new.out in
     record { start_bound = omega (arith, c.requires.0); standing = stands_first _ c.args.input.now c.args.n _ _ c.begin-begun.result c.begin-begun.ensures _ c.past-size.ensures (omega arith) _ c.turns_of-left.ensures _ (omega (arith, k.ensures.past)) }
 
 pub returns : goal.returns

@@ -21,7 +21,7 @@ returns c =
     let r = c.counted-read.ensures in
     let l = c.left_after-left.ensures in
     let f = next_few a.plan a.start a.input.now a.w c.requires.standing.0 c.requires.standing.1 _ _ _ c.turn_by-drafted.result c.turn_by-drafted.ensures in
-    let z = length-take-le c.turn_by-drafted.result.next c.turn_by-drafted.new.0 (omega (arith, c.turn_by-drafted.auto.out)) in (
+    let z = length-take-le c.turn_by-drafted.result.next c.turn_by-drafted.new.out (omega (arith, c.turn_by-drafted.auto.out)) in (
       stands_on a.plan a.start a.input.now a.w c.requires.standing.0 c.requires.standing.1 _ _ _ c.turn_by-drafted.result c.turn_by-drafted.ensures _ _ _ r l (omega (arith, k.ensures.past)),
       fewer_left a.plan a.start a.input.now a.w c.requires.standing.0 c.requires.standing.1 _ _ _ c.turn_by-drafted.result c.turn_by-drafted.ensures k.result _ _ r l,
       remains_on a.plan a.start a.input.now a.w c.requires.standing.0 c.requires.standing.1 _ _ _ c.turn_by-drafted.result c.turn_by-drafted.ensures _ _ _ r l c.heard_at-heard.ensures (omega arith) _ _ k.ensures,
