@@ -1,5 +1,5 @@
 -- Several turns: their texts in a row, and the turns that are left.
-use Rattle.std.specs.Prelude.{◌≡◌, refl, Bool, true, false, cond, Option, List, [], ◌∷◌, ◌++◌, ℕ, suc, ◌-◌, ◌≤◌, ◌<◌, length, take}
+use Rattle.std.specs.Prelude.{◌≡◌, refl, Bool, true, false, cond, Option, List, [], ◌++◌, ℕ, suc, ◌-◌, ◌≤◌, ◌<◌, length, take}
 use Rattle.std.specs.Io.KnownBytes.{Appends, Consumes}
 use Rattle.std.proofs.Common.{sym, ap, ◌∙◌, subst, arith, append-nil, append_assoc}
 use Rattle.std.proofs.KnownBytes.{Appends-nil, Consumes-nil, Consumes-trans}
@@ -131,6 +131,19 @@ gathers_first own line own' r gathered lost h l e =
     let q = p.past in
     record { whole = omega arith; rest = ap (λ (n : ℕ). take n own') e ∙ put_front own line own' (past_of 0 r) h p }
 
+-- and handed on, before any other
+pub first_went : (own line own' : List ℕ) (put : Put) (gathered : ℕ) (written writes : Option (List ℕ)) (r : Output) → length line ≤ length own → Lends own 0 line own' put → gathered ≡ past_of 0 put → HandsOn own' (output 0 gathered false) r → r.gathered ≡ 0 → HandsTo written writes own' (output 0 gathered false) r → (r.handed ≡ length line) × (r.lost ≡ false → Appends written writes line)
+first_went own line own' put gathered written writes r h l e on z s = (
+  handed,
+  λ k. subst (Appends written writes) (ap (λ (n : ℕ). take n line) handed ∙ take-length line) (went_on line own' (output 0 gathered false) r written writes first on s k written (Appends-nil written)),
+)
+  where
+    first : Gathers line own' (output 0 gathered false)
+    first = gathers_first own line own' put gathered false h l e
+
+    handed : r.handed ≡ length line
+    handed = let w = first.whole in let c = on.count in omega arith
+
 text_is : (bytes os : List ℕ) (b : Bool) → is_refused (judge_of bytes).verdict ≡ b → text_of_plan bytes os ≡ first_text (judge_of bytes).verdict ++ cond b [] (turns_from (judge_of bytes).plan most_turns 0 os (first_progress (judge_of bytes).plan))
 text_is bytes os b e = sym (plan_by_turns bytes os) ∙ ap (λ (y : Bool). first_text (judge_of bytes).verdict ++ cond y [] (turns_from (judge_of bytes).plan most_turns 0 os (first_progress (judge_of bytes).plan))) e
 
@@ -146,7 +159,7 @@ pub delivers_all : (bytes out : List ℕ) (p : Plan) (b : Between) (input rest w
 delivers_all bytes out p b input rest written writes r e i j m z y g h = record {
   all = λ k.
       let f = h.all first g k in
-      (f.0, f.1.0, subst (Appends written writes) (text f.0) (f.1.1.went written none), f.1.1.handed ∙ ap length (text f.0));
+      (f.0, f.1, subst (Appends written writes) (text f.0) (f.2.went written none), f.2.handed ∙ ap length (text f.0));
 }
   where
     first : List ℕ
@@ -165,4 +178,4 @@ delivers_all bytes out p b input rest written writes r e i j m z y g h = record 
 
 -- what was printed, without where it went
 pub printed_of : (bytes : List ℕ) (input rest written writes : Option (List ℕ)) (r : Output) → Delivers (text_of_plan bytes) input rest written writes r → Printed bytes r
-printed_of bytes input rest written writes r h = record { all = λ k. let f = h.all k in (f.0, f.1.1.1) }
+printed_of bytes input rest written writes r h = record { all = λ k. let f = h.all k in (f.0, f.3) }

@@ -1,29 +1,27 @@
 -- One turn of the program: what the table's turn leaves is what holds between two turns.
-use mathlib.Core.Path.{◌≡◌, refl, sym, ap, ◌∙◌, subst}
-use mathlib.Core.Bool.{Bool, true, false, cond}
-use mathlib.Core.List.{List, ◌++◌}
-use Prim.Native.Nat.{ℕ, ◌+◌, ◌-◌, ◌≤◌, ◌<◌}
-use native.Mathlib.Omega.{arith}
-use lib.ListN.{length, length-append, take, drop}
-use lib.Seq.{sets-eq, take_at, take-add, take-take, take-append-le, drop-append-le, length-take-le}
-use Rattle.std.specs.Prelude.{Option}
+use Rattle.std.specs.Prelude.{◌≡◌, refl, Bool, true, false, cond, Option, List, ◌++◌, ℕ, ◌+◌, ◌-◌, ◌*◌, ◌≤◌, ◌<◌, length, take, drop, get_or}
 use Rattle.std.specs.Io.KnownBytes.{Appends}
+use Rattle.std.proofs.Common.{sym, ap, ◌∙◌, subst, arith, length-append, length-take-le, take-take}
 use Rattle.std.proofs.KnownBytes.{Appends-trans}
+use lib.Seq.{sets-eq, take_at, take-add, take-append-le, drop-append-le}
 use Rattle.wire.specs.Puts.{Puts}
 use Rattle.plan.specs.declared.Activity.{Activity}
 use Rattle.plan.specs.declared.Plan.{Plan}
+use Rattle.plan.specs.Limits.{InLimits}
 use Rattle.times.specs.declared.Progress.{Progress}
 use Rattle.automaton.specs.Next.{next_of}
 use Rattle.automaton.specs.declared.Next.{Next}
 use Rattle.run_path.specs.Inner.Path.{emitted_of}
 use Rattle.timetable_steps.specs.declared.Heard.{Heard}
 use Rattle.timetable_steps.specs.declared.Step.{Step}
-use Rattle.timetable_steps.specs.Inner.Steps.{next_step, step_of, output_of}
+use Rattle.timetable_steps.specs.declared.Way.{Way}
+use Rattle.timetable_steps.specs.Inner.Steps.{Looks, Emits, next_step, step_of, output_of, place_of, column_of, past_way, past_activity}
 use Rattle.timetable_streams.specs.Inner.Asking.{asks}
 use Rattle.timetable_turns.specs.Inner.Turn.{OneTurn, turn_of, is_waiting, waits_of, Open}
 use Rattle.timetable_turns.specs.Inner.Answers.{Drafts}
 use Rattle.timetable_turns.specs.Laws.InLimits.{turn_open}
 use Rattle.timetable_turns.specs.Laws.Short.{turn_short}
+use Rattle.timetable_turns.specs.Laws.Stepping.{step_output}
 use Rattle.timetable_turns.specs.declared.Drafted.{Drafted}
 use Rattle.timetable_streams.specs.declared.Output.{Output}
 use Rattle.timetable_streams.specs.Inner.Gathering.{output, Gathers, HandsOn, HandsTo}
@@ -151,6 +149,16 @@ goes_less p b heard before after written writes r more g = go (turn_of p b.progr
 pub record Looked (p : Plan) (g : Progress) (heard : Heard) (x : Step) (a : Activity) : Type 0 where
   pub step : x ≡ step_of p.automaton p.outcomes g.state heard
   pub activity : a ≡ emitted_of p (output_of x)
+
+-- as they stand in the tables
+pub looked : (p : Plan) (ways : List Way) (activities : List Activity) → InLimits p → Looks p ways → Emits p activities → (g : Progress) → g.state < p.automaton.states → (heard : Heard) (j k : ℕ) → j ≡ 10 * g.state + column_of heard → k ≡ place_of (output_of (get_or ways j past_way).step) → Looked p g heard (get_or ways j past_way).step (get_or activities k past_activity)
+looked p ways activities limits l m g within heard j k e f = record {
+  step = step;
+  activity = ap (λ (i : ℕ). get_or activities i past_activity) f ∙ m.emitted _ (step_output p limits g.state heard _ step);
+}
+  where
+    step : (get_or ways j past_way).step ≡ step_of p.automaton p.outcomes g.state heard
+    step = ap (λ (i : ℕ). (get_or ways i past_way).step) e ∙ l.looked g.state heard within
 
 -- the byte is asked for where the state waits for one
 pub step_asks : (p : Plan) (g : Progress) → asks (step_of p.automaton p.outcomes g.state Heard.Nothing) ≡ waits_of p g
