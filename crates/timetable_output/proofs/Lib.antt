@@ -1,3 +1,4 @@
 pub mod Hearing
 pub mod Turning
 pub mod Printing
+pub mod Input

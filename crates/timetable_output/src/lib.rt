@@ -7,7 +7,7 @@ ghost use Rattle.plan.specs.Fault.{number_of};
 ghost use Rattle.plan.specs.Limits.{InLimits};
 ghost use Rattle.plan.specs.declared.Fault.{Fault};
 ghost use Rattle.timetable_lines.specs.Lines.{refused};
-ghost use Rattle.timetable_turns.specs.Timetable.{text_of_plan};
+ghost use Rattle.timetable_turns.specs.Timetable.{text_of_plan, timetable_of};
 ghost use Rattle.timetable_streams.specs.Inner.Asking.{Held};
 ghost use Rattle.timetable_output.specs.Inner.Between.{Stands, Ends, Printed, Delivers};
 
@@ -15,8 +15,11 @@ use plan::Plan;
 use std::io::{BufRead, Write};
 use times::Progress;
 use timetable_steps::{Heard, activities_of, index_of, output_of, place_of, steps_of};
-use timetable_streams::{Outcomes, Output, ask, give_back, hand_on, hand_on_rest, keep, untaken};
+use timetable_streams::{
+    Outcomes, Output, ask, give_back, hand_on, hand_on_rest, keep, read_full, untaken,
+};
 use timetable_text::lent::past;
+use timetable_text::plan_length;
 use timetable_turns::turns::{counted, put_step};
 
 // Between two turns of the table.
@@ -133,4 +136,22 @@ pub fn print_cut<W: Write>(to: &mut W, present: usize) -> Output
         lost: false,
     };
     hand_on(to, &out, output)
+}
+
+// The program: the bytes that it reads, and the text that is printed for them.
+pub fn print_timetable<B: BufRead, W: Write>(from: &mut B, to: &mut W) -> Output
+    ensures { Delivers timetable_of (B.remaining from.old) (B.remaining from.new) (W.contents to.old) (W.contents to.new) result }
+{
+    let mut size = [0u8; 2];
+    let given = read_full(from, &mut size);
+    if given < 2 {
+        return print_cut(to, 0);
+    }
+    let n = plan_length(size[0], size[1]);
+    let mut file = [0u8; 65536];
+    let present = read_full(from, &mut file[..n]);
+    if present < n {
+        return print_cut(to, present);
+    }
+    print_table(from, to, &file[..n])
 }
