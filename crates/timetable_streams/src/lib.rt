@@ -3,6 +3,7 @@
 
 ghost use Rattle.std.specs.Io.KnownBytes.{Consumes};
 ghost use Rattle.std.specs.Prelude.{take, [], ◌≡◌, cond, ◌+◌, ◌-◌, ◌≤◌, ◌<◌, length};
+ghost use Rattle.timetable_steps.specs.declared.Heard.{Heard};
 ghost use Rattle.timetable_streams.specs.Inner.Gathering.{HandsOn, Rests, Keeps, HandsTo};
 ghost use Rattle.timetable_streams.specs.Inner.Asking.{Held, Asks, Listens, heard_bytes};
 
@@ -204,6 +205,19 @@ fn take_one<B: BufRead>(from: &mut B) -> Heard
     Heard::Outcome(byte)
 }
 
+// No outcome byte is heard.
+fn none_heard(output: Output, outcomes: Outcomes) -> Asked
+    ensures output { result.output ≡ output }
+    ensures outcomes { result.outcomes ≡ outcomes }
+    ensures heard { result.heard ≡ Heard.Nothing }
+{
+    Asked {
+        output,
+        outcomes,
+        heard: Heard::Nothing,
+    }
+}
+
 // The next outcome byte, if there is one; the text is handed on before a read, which may wait.
 fn listen<B: BufRead, W: Write>(
     from: &mut B,
@@ -219,11 +233,12 @@ fn listen<B: BufRead, W: Write>(
     ensures taken { Consumes (B.remaining from.old) (B.remaining from.new) (heard_bytes result.heard) }
 {
     let at = u.at;
+    let most = u.most;
     if at < u.end {
         let outcomes = Outcomes {
             at: at + 1,
             end: u.end,
-            most: u.most,
+            most,
         };
         let heard = take_one(from);
         return Asked {
@@ -234,20 +249,11 @@ fn listen<B: BufRead, W: Write>(
     }
     let output = hand_on(to, out, o);
     if output.lost {
-        return Asked {
-            output,
-            outcomes: u,
-            heard: Heard::Nothing,
-        };
+        return none_heard(output, u);
     }
-    let most = u.most;
     let end = at_hand(from, most);
     if end == 0 {
-        return Asked {
-            output,
-            outcomes: u,
-            heard: Heard::Nothing,
-        };
+        return none_heard(output, u);
     }
     let outcomes = Outcomes { at: 1, end, most };
     let heard = take_one(from);
@@ -275,10 +281,6 @@ pub fn ask<B: BufRead, W: Write>(
 {
     match unheard {
         Step::Waits(_) => listen(from, to, out, o, u),
-        Step::Ends | Step::Lacks | Step::Takes(_, _) => Asked {
-            output: o,
-            outcomes: u,
-            heard: Heard::Nothing,
-        },
+        Step::Ends | Step::Lacks | Step::Takes(_, _) => none_heard(o, u),
     }
 }
