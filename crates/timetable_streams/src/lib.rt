@@ -157,7 +157,9 @@ fn read_some<R: Read>(from: &mut R, buffer: &mut [u8]) -> usize
 
 // No outcome byte is at hand yet.
 pub fn untaken() -> Outcomes
-    ensures { Held result }
+    ensures held { Held result }
+    ensures none { result.at ≡ result.end }
+    ensures most { result.most ≡ 65_536 }
 {
     Outcomes {
         at: 0,

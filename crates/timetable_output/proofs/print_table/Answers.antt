@@ -45,7 +45,7 @@ all_turns-last-requires-clause-in_limits g c =
         turns = omega arith;
         few = omega arith;
       },
-      c.untaken-unread.ensures,
+      c.untaken-unread.ensures.held,
     )
 
 pub returns-clause-delivers : goal.returns-clause-delivers
