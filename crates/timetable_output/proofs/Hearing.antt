@@ -5,8 +5,8 @@ use Rattle.plan.specs.declared.Plan.{Plan}
 use Rattle.times.specs.declared.Progress.{Progress}
 use Rattle.timetable_steps.specs.declared.Heard.{Heard}
 use Rattle.timetable_turns.specs.Inner.Turn.{OneTurn, turn_of, waits_of, head_of, read_after, rest_of, left_after, turns_from}
-use Rattle.timetable_turns.specs.Laws.ByTurns.{unheard}
-use Rattle.timetable_turns.specs.Laws.Hearing.{turn_heard, nothing_closes}
+use Rattle.timetable_turns.proofs.Laws.ByTurns.{unheard}
+use Rattle.timetable_turns.proofs.Laws.Hearing.{turn_heard, nothing_closes}
 use Rattle.timetable_streams.specs.Inner.Asking.{heard_bytes}
 
 -- the rest of the table after a turn, the bytes `os` left

@@ -19,9 +19,9 @@ use Rattle.timetable_steps.specs.Inner.Steps.{Looks, Emits, next_step, step_of, 
 use Rattle.timetable_streams.specs.Inner.Asking.{asks}
 use Rattle.timetable_turns.specs.Inner.Turn.{OneTurn, turn_of, is_waiting, waits_of, Open}
 use Rattle.timetable_turns.specs.Inner.Answers.{Drafts}
-use Rattle.timetable_turns.specs.Laws.InLimits.{turn_open}
-use Rattle.timetable_turns.specs.Laws.Short.{turn_short}
-use Rattle.timetable_turns.specs.Laws.Stepping.{step_output}
+use Rattle.timetable_turns.proofs.Laws.InLimits.{turn_open}
+use Rattle.timetable_turns.proofs.Laws.Short.{turn_short}
+use Rattle.timetable_turns.proofs.Laws.Stepping.{step_output}
 use Rattle.timetable_turns.specs.declared.Drafted.{Drafted}
 use Rattle.timetable_streams.specs.declared.Output.{Output}
 use Rattle.timetable_streams.specs.Inner.Gathering.{output, Gathers, HandsOn, HandsTo}

@@ -5,7 +5,7 @@ use Rattle.timetable_steps.specs.declared.Heard.{Heard}
 use Rattle.timetable_steps.specs.Inner.Steps.{place_of, past_way}
 use Rattle.timetable_streams.specs.Inner.Asking.{asks}
 use Rattle.timetable_turns.specs.Inner.Turn.{waits_of}
-use Rattle.timetable_turns.specs.Laws.Stepping.{turn_parts, step_fitting}
+use Rattle.timetable_turns.proofs.Laws.Stepping.{turn_parts, step_fitting}
 use Rattle.timetable_output.proofs.Turning.{between, looked, put_few, put_count, drafts_as, goes, stands_asked, step_asks}
 use Rattle.timetable_output.proofs.Printing.{prints_same, prints_none, prints_turn, prints_join, ends_rest}
 use Rattle.timetable_output.proofs.all_turns.Goals as goal

@@ -1,7 +1,7 @@
 -- The line fits the buffer, and all of it is handed on.
 use Rattle.std.proofs.Common.{arith}
-use Rattle.timetable_lines.specs.Laws.Lines.{refused_length}
-use Rattle.timetable_text.specs.Laws.Lent.{lent_puts}
+use Rattle.timetable_lines.proofs.Laws.Lines.{refused_length}
+use Rattle.timetable_text.proofs.Laws.Lent.{lent_puts}
 use Rattle.timetable_output.proofs.Printing.{first_went}
 use Rattle.timetable_output.proofs.print_cut.Goals as goal
 

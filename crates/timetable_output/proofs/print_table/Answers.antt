@@ -3,7 +3,7 @@ use Rattle.std.specs.Prelude.{refl, false, None}
 use Rattle.std.proofs.Common.{sym, ◌∙◌, arith}
 use Rattle.judge.specs.Judge.{judge_of}
 use Rattle.timetable_turns.specs.Inner.Turn.{first_text}
-use Rattle.timetable_turns.specs.Laws.Short.{first_short}
+use Rattle.timetable_turns.proofs.Laws.Short.{first_short}
 use Rattle.timetable_output.proofs.Printing.{gathers_first, first_went, delivers_refused, delivers_all, printed_of}
 use Rattle.timetable_output.proofs.print_table.Goals as goal
 

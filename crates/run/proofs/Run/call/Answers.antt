@@ -2,14 +2,14 @@
 use mathlib.Core.Path.{◌≡◌, sym, ◌∙◌}
 use native.Mathlib.Omega.{arith}
 use lib.ListN.{length}
-use Rattle.basis.specs.Laws.Lists.{unmapped}
+use Rattle.basis.proofs.Laws.Lists.{unmapped}
 use Rattle.run_checks.specs.declared.Halt.{Halt}
 use Rattle.run_outcomes.specs.Told.{told_of}
 use Rattle.run.specs.declared.Effect.{Effect}
 use Rattle.run.specs.Calls.{call_of}
 use Rattle.run.specs.Inner.Effects.{acted, Named}
-use Rattle.run.specs.Laws.Acting.{call_acted, call_named, rests_acted, stores_acted}
-use Rattle.run.specs.Laws.Loaded.{storing, answer_by, learnt_parts}
+use Rattle.run.proofs.Laws.Acting.{call_acted, call_named, rests_acted, stores_acted}
+use Rattle.run.proofs.Laws.Loaded.{storing, answer_by, learnt_parts}
 use borrow.Author.Rules.{rules}
 use Rattle.run.proofs.Run.call.Goals as goal
 
@@ -65,7 +65,7 @@ load_after-loading-requires c =
 pub returns-in_default : goal.returns-in_default
 returns-in_default c =
     let answered : (x : Effect) → c.effect_at-effect.result ≡ x → acted c.args.self c.reading_of-t.result x ≡ call_of c.args.self c.args.c = (λ x r. call_acted _ c.args.c _ _ c.reading_of-t.ensures c.effect_at-effect.ensures x r) in
-    let long : length c.args.self.window ≡ 512 = search unmapped in
+    let long : length c.args.self.window ≡ 512 = search (unmapped, c.well_formed) in
     let known : (x : Effect) → c.effect_at-effect.result ≡ x → Named c.args.self x = (λ x r. call_named _ c.args.c _ _ c.reading_of-t.ensures c.effect_at-effect.ensures (long) x r) in
     let after : (x : Halt) → c.halt_after.result ≡ x → answer_by c.reading_of-t.result x (storing c.args.self c.reading_of-t.result c.load_after-loading.result) ≡ call_of c.args.self c.args.c = (λ x r. let run = c.args.self in
     let l = c.load_after-loading in
@@ -76,7 +76,7 @@ returns-in_default c =
 pub returns-in-Learns : goal.returns-in-Learns
 returns-in-Learns c =
     let answered : (x : Effect) → c.effect_at-effect.result ≡ x → acted c.args.self c.reading_of-t.result x ≡ call_of c.args.self c.args.c = (λ x r. call_acted _ c.args.c _ _ c.reading_of-t.ensures c.effect_at-effect.ensures x r) in
-    let long : length c.args.self.window ≡ 512 = search unmapped in
+    let long : length c.args.self.window ≡ 512 = search (unmapped, c.well_formed) in
     let known : (x : Effect) → c.effect_at-effect.result ≡ x → Named c.args.self x = (λ x r. call_named _ c.args.c _ _ c.reading_of-t.ensures c.effect_at-effect.ensures (long) x r) in
     let after : (x : Halt) → c.halt_after.result ≡ x → answer_by c.reading_of-t.result x (storing c.args.self c.reading_of-t.result c.load_after-loading.result) ≡ call_of c.args.self c.args.c = (λ x r. let run = c.args.self in
     let l = c.load_after-loading in
