@@ -1,21 +1,11 @@
 // "The program timetable reads the plan's length (two bytes), the plan and outcome bytes".
 #![tactic(auto)]
 
-use timetable_output::{print_cut, print_table};
-use timetable_text::plan_length;
+use timetable_output::print_timetable;
 
-fn main() {
-    let mut size = [0u8; 2];
-    if io::read_full(libc::STDIN_FILENO, &mut size) < 2 {
-        print_cut(0);
-        return;
-    }
-    let n = plan_length(size[0], size[1]);
-    let mut file = io::large_buffer();
-    let present = io::read_full(libc::STDIN_FILENO, &mut file[..n]);
-    if present < n {
-        print_cut(present);
-        return;
-    }
-    print_table(&file[..n]);
+// A failed write ends it, and leaves the table unfinished: its last line says whether it is whole.
+fn main(rt: HostRuntime) {
+    let mut input = rt.reader();
+    let mut output = rt.stdout();
+    print_timetable(&mut input, &mut output);
 }

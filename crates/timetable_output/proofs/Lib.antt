@@ -1,2 +1,4 @@
+pub mod Hearing
 pub mod Turning
 pub mod Printing
+pub mod Input

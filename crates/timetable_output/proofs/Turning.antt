@@ -1,31 +1,32 @@
 -- One turn of the program: what the table's turn leaves is what holds between two turns.
-use mathlib.Core.Path.{◌≡◌, refl, sym, ap, ◌∙◌, subst}
-use mathlib.Core.Bool.{Bool, true, false, cond}
-use mathlib.Core.List.{List, ◌++◌}
-use Prim.Native.Nat.{ℕ, ◌+◌, ◌-◌, ◌≤◌, ◌<◌}
-use native.Mathlib.Omega.{arith}
-use lib.ListN.{length, length-append, take, drop}
-use lib.Seq.{sets-eq, take_at, drop-append-le, length-take-le}
+use Rattle.std.specs.Prelude.{◌≡◌, refl, Bool, true, false, cond, Option, List, ◌++◌, ℕ, ◌+◌, ◌-◌, ◌*◌, ◌≤◌, ◌<◌, length, take, drop, get_or}
+use Rattle.std.specs.Io.KnownBytes.{Appends}
+use Rattle.std.proofs.Common.{sym, ap, ◌∙◌, subst, arith, length-append, length-take-le, take-take}
+use Rattle.std.proofs.KnownBytes.{Appends-trans}
+use lib.Seq.{sets-eq, take_at, take-add, take-append-le, drop-append-le}
 use Rattle.wire.specs.Puts.{Puts}
 use Rattle.plan.specs.declared.Activity.{Activity}
 use Rattle.plan.specs.declared.Plan.{Plan}
+use Rattle.plan.specs.Limits.{InLimits}
 use Rattle.times.specs.declared.Progress.{Progress}
 use Rattle.automaton.specs.Next.{next_of}
 use Rattle.automaton.specs.declared.Next.{Next}
 use Rattle.run_path.specs.Inner.Path.{emitted_of}
 use Rattle.timetable_steps.specs.declared.Heard.{Heard}
 use Rattle.timetable_steps.specs.declared.Step.{Step}
-use Rattle.timetable_steps.specs.Inner.Steps.{next_step, step_of, output_of}
+use Rattle.timetable_steps.specs.declared.Way.{Way}
+use Rattle.timetable_steps.specs.Inner.Steps.{Looks, Emits, next_step, step_of, output_of, place_of, column_of, past_way, past_activity}
 use Rattle.timetable_streams.specs.Inner.Asking.{asks}
 use Rattle.timetable_turns.specs.Inner.Turn.{OneTurn, turn_of, is_waiting, waits_of, Open}
 use Rattle.timetable_turns.specs.Inner.Answers.{Drafts}
 use Rattle.timetable_turns.proofs.Laws.InLimits.{turn_open}
 use Rattle.timetable_turns.proofs.Laws.Short.{turn_short}
+use Rattle.timetable_turns.proofs.Laws.Stepping.{step_output}
 use Rattle.timetable_turns.specs.declared.Drafted.{Drafted}
 use Rattle.timetable_streams.specs.declared.Output.{Output}
-use Rattle.timetable_streams.specs.Inner.Gathering.{output, Gathers, HandsOn}
+use Rattle.timetable_streams.specs.Inner.Gathering.{output, Gathers, HandsOn, HandsTo}
 use Rattle.timetable_output.specs.declared.Between.{Between}
-use Rattle.timetable_output.specs.Inner.Between.{Stands, Goes}
+use Rattle.timetable_output.specs.Inner.Between.{Stands, Went, Goes}
 
 abbrev pub between : Output → ℕ → ℕ → Progress → Between
 between o taken left g = record { output = o; taken = taken; left = left; progress = g }
@@ -46,6 +47,23 @@ gathers_put text more before after o next lost h p g = record {
     lengths : length (take o.gathered before ++ more) ≡ next
     lengths = length-append (take o.gathered before) more ∙ ap (λ (n : ℕ). n + length more) (length-take-le o.gathered before (omega arith)) ∙ sym p.past
 
+-- what was handed on of the text so far stays so when more text joins it
+front_stays : (text more out : List ℕ) (o : Output) → Gathers text out o → take o.handed (text ++ more) ≡ take o.handed text
+front_stays text more out o g = take-append-le o.handed text more (let w = g.whole in omega arith)
+
+handed_front : (text out : List ℕ) (o r : Output) → Gathers text out o → r.handed + r.gathered ≡ o.handed + o.gathered → o.handed ≤ r.handed → take o.handed text ++ take (r.handed - o.handed) out ≡ take r.handed text
+handed_front text out o r g c h =
+    let k = r.handed - o.handed in
+    let few : k ≤ o.gathered = omega arith in
+    let sum : o.handed + k ≡ r.handed = omega arith in
+    let front : take k out ≡ take k (drop o.handed text) = sym (take-take k o.gathered out few) ∙ ap (take k) g.rest in
+    ap (λ (l : List ℕ). take o.handed text ++ l) front ∙ sym (take-add o.handed k text) ∙ ap (λ (n : ℕ). take n text) sum
+
+-- what is handed on goes on where what was handed on before ended
+pub went_on : (text out : List ℕ) (o r : Output) (written writes : Option (List ℕ)) → Gathers text out o → HandsOn out o r → HandsTo written writes out o r → r.lost ≡ false → (start : Option (List ℕ)) → Went start written text o → Went start writes text r
+went_on text out o r written writes g h w k start a =
+    subst (Appends start writes) (handed_front text out o r g h.count w.onward) (Appends-trans start written writes _ _ a (w.bytes k))
+
 -- ---- one turn
 
 pub drafts_as : (before : List ℕ) (at : ℕ) (after : List ℕ) (x y : OneTurn) (r : Drafted) → x ≡ y → Drafts before at x after r → Drafts before at y after r
@@ -64,7 +82,7 @@ module _ (p : Plan) (b : Between) (heard : Heard) (before after : List ℕ) (d :
   pub put_count : b.output.handed + d.next ≤ 5_000_000_000_000
   put_count = let u = short in let v = s.few in let w = h.text.past in omega arith
 
-  module _ (o : Output) (on : HandsOn after (output b.output.handed d.next false) o) (few : o.gathered ≤ 61_440) (taken : ℕ) (t : taken ≡ cond d.heard (b.taken + 1) b.taken) (left : ℕ) (l : left ≡ cond d.closed 0 (cond o.lost 0 (b.left - 1))) where
+  module _ (o : Output) (written writes : Option (List ℕ)) (on : HandsOn after (output b.output.handed d.next false) o) (sent : HandsTo written writes after (output b.output.handed d.next false) o) (few : o.gathered ≤ 61_440) (taken : ℕ) (t : taken ≡ cond d.heard (b.taken + 1) b.taken) (left : ℕ) (l : left ≡ cond d.closed 0 (cond o.lost 0 (b.left - 1))) where
     taken_few : taken ≤ b.taken + 1
     taken_few = go d.heard t
       where
@@ -94,7 +112,10 @@ module _ (p : Plan) (b : Between) (heard : Heard) (before after : List ℕ) (d :
         go true k = absurd (let z : left ≡ 0 = l ∙ ap (λ (v : Bool). cond v 0 (cond o.lost 0 (b.left - 1))) (on_open m) ∙ ap (λ (v : Bool). cond v 0 (b.left - 1)) k in omega arith)
         go false k = k
 
-    pub goes : Goes p b heard before after (between o taken left d.progress)
+    put : (text : List ℕ) → Gathers text before b.output → Gathers (text ++ (turn_of p b.progress b.taken heard).text) after (output b.output.handed d.next false)
+    put text g = gathers_put text (turn_of p b.progress b.taken heard).text before after b.output d.next false room h.text g
+
+    pub goes : Goes p b heard before after written writes (between o taken left d.progress)
     goes = record {
       stands = record {
         fits = omega arith;
@@ -104,15 +125,18 @@ module _ (p : Plan) (b : Between) (heard : Heard) (before after : List ℕ) (d :
         turns = let u = taken_few in let v = s.turns in let w = left_few in omega arith;
         few = let u = on.count in let v = s.few in let w = left_few in let y = short in let z = h.text.past in omega arith;
       };
-      gathers = λ text g. on.gathers (text ++ (turn_of p b.progress b.taken heard).text) (gathers_put text (turn_of p b.progress b.taken heard).text before after b.output d.next false room h.text g);
+      gathers = λ text g. on.gathers (text ++ (turn_of p b.progress b.taken heard).text) (put text g);
       progress = h.progress;
       taken = t ∙ ap (λ (y : Bool). cond y (b.taken + 1) b.taken) h.heard;
       left = l ∙ ap (λ (y : Bool). cond y 0 (cond o.lost 0 (b.left - 1))) h.closed;
+      went = λ k text g start a.
+          went_on _ after (output b.output.handed d.next false) o written writes (put text g) on sent k start
+          (subst (Appends start written) (sym (front_stays text (turn_of p b.progress b.taken heard).text before b.output g)) a);
     }
 
 -- each turn leaves fewer
-pub goes_less : (p : Plan) (b : Between) (heard : Heard) (before after : List ℕ) (r : Between) → 0 < b.left → Goes p b heard before after r → r.left < b.left
-goes_less p b heard before after r more g = go (turn_of p b.progress b.taken heard).closed r.output.lost g.left
+pub goes_less : (p : Plan) (b : Between) (heard : Heard) (before after : List ℕ) (written writes : Option (List ℕ)) (r : Between) → 0 < b.left → Goes p b heard before after written writes r → r.left < b.left
+goes_less p b heard before after written writes r more g = go (turn_of p b.progress b.taken heard).closed r.output.lost g.left
   where
     go : (y z : Bool) → r.left ≡ cond y 0 (cond z 0 (b.left - 1)) → r.left < b.left
     go true z e = omega arith
@@ -125,6 +149,16 @@ goes_less p b heard before after r more g = go (turn_of p b.progress b.taken hea
 pub record Looked (p : Plan) (g : Progress) (heard : Heard) (x : Step) (a : Activity) : Type 0 where
   pub step : x ≡ step_of p.automaton p.outcomes g.state heard
   pub activity : a ≡ emitted_of p (output_of x)
+
+-- as they stand in the tables
+pub looked : (p : Plan) (ways : List Way) (activities : List Activity) → InLimits p → Looks p ways → Emits p activities → (g : Progress) → g.state < p.automaton.states → (heard : Heard) (j k : ℕ) → j ≡ 10 * g.state + column_of heard → k ≡ place_of (output_of (get_or ways j past_way).step) → Looked p g heard (get_or ways j past_way).step (get_or activities k past_activity)
+looked p ways activities limits l m g within heard j k e f = record {
+  step = step;
+  activity = ap (λ (i : ℕ). get_or activities i past_activity) f ∙ m.emitted _ (step_output p limits g.state heard _ step);
+}
+  where
+    step : (get_or ways j past_way).step ≡ step_of p.automaton p.outcomes g.state heard
+    step = ap (λ (i : ℕ). (get_or ways i past_way).step) e ∙ l.looked g.state heard within
 
 -- the byte is asked for where the state waits for one
 pub step_asks : (p : Plan) (g : Progress) → asks (step_of p.automaton p.outcomes g.state Heard.Nothing) ≡ waits_of p g

@@ -1,10 +1,13 @@
 // Text on its way out, and outcome bytes on their way in.
 #![tactic(auto)]
 
-ghost use Rattle.std.specs.Prelude.{◌≡◌, cond, ◌+◌, ◌-◌, ◌≤◌, ◌<◌, length};
-ghost use Rattle.timetable_streams.specs.Inner.Gathering.{HandsOn, Rests, Keeps};
-ghost use Rattle.timetable_streams.specs.Inner.Asking.{Held, Asks, Listens};
+ghost use Rattle.std.specs.Io.KnownBytes.{Consumes};
+ghost use Rattle.std.specs.Prelude.{take, [], ◌≡◌, cond, ◌+◌, ◌-◌, ◌≤◌, ◌<◌, length};
+ghost use Rattle.timetable_steps.specs.declared.Heard.{Heard};
+ghost use Rattle.timetable_streams.specs.Inner.Gathering.{HandsOn, Rests, Keeps, HandsTo};
+ghost use Rattle.timetable_streams.specs.Inner.Asking.{Held, Asks, Listens, heard_bytes};
 
+use std::io::{BufRead, Read, Write};
 use timetable_steps::{Heard, Step};
 
 // What the output was given of the text so far.
@@ -18,14 +21,14 @@ pub struct Output {
     pub lost: bool,
 }
 
-// The outcome bytes of a block that are not yet taken.
+// The outcome bytes that the reader has at hand, as a block, and that are not yet taken.
 #[derive(Clone, Copy)]
 pub struct Outcomes {
     // they stand in the block from here
     pub at: usize,
     // to here
     pub end: usize,
-    // so many are read at a time
+    // so many are counted at a time, where the reader has more at hand
     pub most: usize,
 }
 
@@ -48,46 +51,42 @@ pub struct After {
 // ---- text on its way out
 
 // All that is gathered goes to the output.
-pub fn hand_on(out: &[u8], o: Output) -> Output
+pub fn hand_on<W: Write>(to: &mut W, out: &[u8], o: Output) -> Output
     requires { (o.gathered ≤ length out.now) × (o.handed + o.gathered ≤ 5_000_000_000_000) }
-    ensures { HandsOn out.now o result × (result.gathered ≡ 0) }
+    ensures hands { HandsOn out.now o result × (result.gathered ≡ 0) }
+    ensures went { HandsTo (W.contents to.old) (W.contents to.new) out.now o result }
 {
     let handed = o.handed + o.gathered as u64;
-    let taken = io::write_all(libc::STDOUT_FILENO, &out[..o.gathered]);
-    if taken {
-        return Output {
-            handed,
-            gathered: 0,
-            lost: false,
-        };
-    }
+    let lost = to.write_all(&out[..o.gathered]).is_err();
     Output {
         handed,
         gathered: 0,
-        lost: true,
+        lost,
     }
 }
 
 // What is gathered at the end goes to the output, unless an earlier write failed.
-pub fn hand_on_rest(out: &[u8], o: Output) -> Output
+pub fn hand_on_rest<W: Write>(to: &mut W, out: &[u8], o: Output) -> Output
     requires { (o.gathered ≤ length out.now) × (o.handed + o.gathered ≤ 5_000_000_000_000) }
-    ensures { Rests out.now o result }
+    ensures rests { Rests out.now o result }
+    ensures went { HandsTo (W.contents to.old) (W.contents to.new) out.now o result }
 {
     if o.lost {
         return o;
     }
-    hand_on(out, o)
+    hand_on(to, out, o)
 }
 
 // Room for the next turn: text past 61,440 bytes is handed on.
-fn kept(out: &[u8], o: Output) -> Output
+fn kept<W: Write>(to: &mut W, out: &[u8], o: Output) -> Output
     requires { (o.gathered ≤ length out.now) × (o.handed + o.gathered ≤ 5_000_000_000_000) }
-    ensures { HandsOn out.now o result × (result.gathered ≤ 61_440) }
+    ensures hands { HandsOn out.now o result × (result.gathered ≤ 61_440) }
+    ensures went { HandsTo (W.contents to.old) (W.contents to.new) out.now o result }
 {
     if o.gathered <= 61440 {
         return o;
     }
-    hand_on(out, o)
+    hand_on(to, out, o)
 }
 
 // How many turns are left after one; none where it closed the table or output failed.
@@ -105,127 +104,185 @@ fn left_after(left: u32, closed: bool, lost: bool) -> u32
 }
 
 // A turn put its text, up to the offset `next`.
-pub fn keep(out: &[u8], o: Output, next: usize, closed: bool, left: u32) -> After
+pub fn keep<W: Write>(
+    to: &mut W,
+    out: &[u8],
+    o: Output,
+    next: usize,
+    closed: bool,
+    left: u32,
+) -> After
     requires { (next ≤ length out.now) × (o.handed + next ≤ 5_000_000_000_000) × (0 < left) }
-    ensures { Keeps out.now o next closed left result }
+    ensures keeps { Keeps out.now o next closed left result }
+    ensures went { HandsTo (W.contents to.old) (W.contents to.new) out.now o result.output }
 {
     let put = Output {
         handed: o.handed,
         gathered: next,
         lost: false,
     };
-    let output = kept(out, put);
+    let output = kept(to, out, put);
     let left = left_after(left, closed, output.lost);
     After { output, left }
 }
 
 // ---- outcome bytes on their way in
 
-// Nothing is read yet: blocks where an input can give back what is not taken, elsewhere one byte at a time.
-pub fn untaken() -> Outcomes
-    ensures { Held result }
+// Reads until `buffer` is full, the input ends or a read fails; so many bytes stand at the front of `buffer`.
+pub fn read_full<R: Read>(from: &mut R, buffer: &mut [u8]) -> usize
+    ensures bound { result ≤ length buffer.new }
+    ensures taken { Consumes (R.remaining from.old) (R.remaining from.new) (take result buffer.new) }
 {
-    if libc::lseek(libc::STDIN_FILENO, 0, libc::SEEK_CUR) >= 0 {
-        return Outcomes {
-            at: 0,
-            end: 0,
-            most: 65536,
-        };
+    let mut done = 0;
+    while done < buffer.len() {
+        let n = read_some(from, &mut buffer[done..]);
+        if n == 0 {
+            return done;
+        }
+        done += n;
     }
-    Outcomes {
-        at: 0,
-        end: 0,
-        most: 1,
+    done
+}
+
+// One read, of no byte where it fails.
+fn read_some<R: Read>(from: &mut R, buffer: &mut [u8]) -> usize
+    ensures bound { result ≤ length buffer.new }
+    ensures taken { Consumes (R.remaining from.old) (R.remaining from.new) (take result buffer.new) }
+{
+    match from.read(buffer) {
+        Ok(n) => n,
+        Err(_) => 0,
     }
 }
 
-// "Spare outcomes are not read": those of a block that were not taken are given back, so many bytes.
+// No outcome byte is at hand yet.
+pub fn untaken() -> Outcomes
+    ensures held { Held result }
+    ensures none { result.at ≡ result.end }
+    ensures most { result.most ≡ 65_536 }
+{
+    Outcomes {
+        at: 0,
+        end: 0,
+        most: 65536,
+    }
+}
+
+// "Spare outcomes are not read": those of a block that were not taken, so many, are still in the reader. The standard input's,
+// `LockedStdin`, has more than one at hand only where the input can seek, and seeks back over them where it is dropped.
 pub fn give_back(u: Outcomes) -> usize
     requires { Held u }
     ensures { result ≡ u.end - u.at }
 {
-    let spare = u.end - u.at;
-    let back = spare as i64;
-    if 0 < spare {
-        libc::lseek(libc::STDIN_FILENO, -back, libc::SEEK_CUR);
+    u.end - u.at
+}
+
+// How many bytes the reader has at hand, but at most `most`. Where it has none it reads, which may wait; it has none after that
+// at the end of the input, or where the read fails.
+fn at_hand<B: BufRead>(from: &mut B, most: usize) -> usize
+    ensures bound { result ≤ most }
+    ensures kept { Consumes (B.remaining from.old) (B.remaining from.new) [] }
+{
+    match from.fill_buf() {
+        Ok(bytes) => bytes.len().min(most),
+        Err(_) => 0,
     }
-    spare
+}
+
+// The first byte at hand is taken.
+fn take_one<B: BufRead>(from: &mut B) -> Heard
+    ensures taken { Consumes (B.remaining from.old) (B.remaining from.new) (heard_bytes result) }
+{
+    let bytes = match from.fill_buf() {
+        Ok(bytes) => bytes,
+        Err(_) => {
+            return Heard::Nothing;
+        }
+    };
+    if bytes.len() == 0 {
+        return Heard::Nothing;
+    }
+    let byte = bytes[0];
+    from.consume(1);
+    Heard::Outcome(byte)
+}
+
+// No outcome byte is heard.
+fn none_heard(output: Output, outcomes: Outcomes) -> Asked
+    ensures output { result.output ≡ output }
+    ensures outcomes { result.outcomes ≡ outcomes }
+    ensures heard { result.heard ≡ Heard.Nothing }
+{
+    Asked {
+        output,
+        outcomes,
+        heard: Heard::Nothing,
+    }
 }
 
 // The next outcome byte, if there is one; the text is handed on before a read, which may wait.
-fn listen(out: &[u8], block: &mut [u8], o: Output, u: Outcomes) -> Asked
+fn listen<B: BufRead, W: Write>(
+    from: &mut B,
+    to: &mut W,
+    out: &[u8],
+    o: Output,
+    u: Outcomes,
+) -> Asked
     requires gathered_in_bounds { (o.gathered ≤ length out.now) × (o.handed + o.gathered ≤ 5_000_000_000_000) }
-    requires held { Held u × (length block.old ≡ 65_536) }
-    ensures { Listens out.now o result }
+    requires held { Held u }
+    ensures listens { Listens out.now o result }
+    ensures went { HandsTo (W.contents to.old) (W.contents to.new) out.now o result.output }
+    ensures taken { Consumes (B.remaining from.old) (B.remaining from.new) (heard_bytes result.heard) }
 {
     let at = u.at;
+    let most = u.most;
     if at < u.end {
         let outcomes = Outcomes {
             at: at + 1,
             end: u.end,
-            most: u.most,
+            most,
         };
+        let heard = take_one(from);
         return Asked {
             output: o,
             outcomes,
-            heard: Heard::Outcome(block[at]),
+            heard,
         };
     }
-    let output = hand_on(out, o);
+    let output = hand_on(to, out, o);
     if output.lost {
-        return Asked {
-            output,
-            outcomes: u,
-            heard: Heard::Nothing,
-        };
+        return none_heard(output, u);
     }
-    let most = u.most;
-    let end = io::read_full(libc::STDIN_FILENO, &mut block[..most]);
+    let end = at_hand(from, most);
     if end == 0 {
-        return Asked {
-            output,
-            outcomes: u,
-            heard: Heard::Nothing,
-        };
+        return none_heard(output, u);
     }
     let outcomes = Outcomes { at: 1, end, most };
+    let heard = take_one(from);
     Asked {
         output,
         outcomes,
-        heard: Heard::Outcome(block[0]),
+        heard,
     }
 }
 
 // An outcome byte is heard where the turn waits for one.
-pub fn ask(out: &[u8], block: &mut [u8], o: Output, u: Outcomes, unheard: Step) -> Asked
+pub fn ask<B: BufRead, W: Write>(
+    from: &mut B,
+    to: &mut W,
+    out: &[u8],
+    o: Output,
+    u: Outcomes,
+    unheard: Step,
+) -> Asked
     requires gathered_in_bounds { (o.gathered ≤ length out.now) × (o.handed + o.gathered ≤ 5_000_000_000_000) }
-    requires held { Held u × (length block.old ≡ 65_536) }
-    ensures { Asks out.now o unheard result }
+    requires held { Held u }
+    ensures asks { Asks out.now o unheard result }
+    ensures went { HandsTo (W.contents to.old) (W.contents to.new) out.now o result.output }
+    ensures taken { Consumes (B.remaining from.old) (B.remaining from.new) (heard_bytes result.heard) }
 {
     match unheard {
-        Step::Waits(_) => {
-            return listen(out, block, o, u);
-        }
-        Step::Ends => {
-            return Asked {
-                output: o,
-                outcomes: u,
-                heard: Heard::Nothing,
-            };
-        }
-        Step::Lacks => {
-            return Asked {
-                output: o,
-                outcomes: u,
-                heard: Heard::Nothing,
-            };
-        }
-        Step::Takes(_, _) => {
-            return Asked {
-                output: o,
-                outcomes: u,
-                heard: Heard::Nothing,
-            };
-        }
+        Step::Waits(_) => listen(from, to, out, o, u),
+        Step::Ends | Step::Lacks | Step::Takes(_, _) => none_heard(o, u),
     }
 }

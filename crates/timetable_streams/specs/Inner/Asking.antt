@@ -1,11 +1,16 @@
 -- An outcome byte, read where a turn waits for one.
-use Rattle.std.specs.Prelude.{◌≡◌, Bool, true, false, List, ℕ, ◌≤◌}
+use Rattle.std.specs.Prelude.{◌≡◌, Bool, true, false, List, [], ◌∷◌, ℕ, ◌≤◌}
 use Rattle.timetable_steps.specs.declared.Heard.{Heard}
 use Rattle.timetable_steps.specs.declared.Step.{Step}
 use Rattle.timetable_streams.specs.declared.Output.{Output}
 use Rattle.timetable_streams.specs.declared.Outcomes.{Outcomes}
 use Rattle.timetable_streams.specs.declared.Asked.{Asked}
 use Rattle.timetable_streams.specs.Inner.Gathering.{HandsOn}
+
+-- the byte that was heard, if one was
+abbrev pub heard_bytes : Heard → List ℕ
+heard_bytes Heard.Nothing = []
+heard_bytes (Heard.Outcome byte) = byte ∷ []
 
 -- whether the turn waits for an outcome byte
 abbrev pub asks : Step → Bool
@@ -14,7 +19,7 @@ asks (Step.Waits e) = true
 asks Step.Lacks = false
 asks (Step.Takes m heard) = false
 
--- the outcome bytes that are not yet taken stand in a block of 65,536
+-- the outcome bytes that are not yet taken stand in a block of at most 65,536
 pub record Held (u : Outcomes) : Type 0 where
   pub order : u.at ≤ u.end
   pub within : u.end ≤ 65_536

@@ -1,5 +1,6 @@
 -- What was handed on and what is gathered are together the text so far.
-use Rattle.std.specs.Prelude.{◌≡◌, Bool, false, cond, List, ℕ, ◌+◌, ◌-◌, ◌≤◌, length, take, drop}
+use Rattle.std.specs.Prelude.{◌≡◌, Bool, false, cond, Option, List, ℕ, ◌+◌, ◌-◌, ◌≤◌, length, take, drop}
+use Rattle.std.specs.Io.KnownBytes.{Appends}
 use Rattle.timetable_streams.specs.declared.Output.{Output}
 use Rattle.timetable_streams.specs.declared.After.{After}
 
@@ -10,6 +11,11 @@ output handed gathered lost = record { handed = handed; gathered = gathered; los
 pub record Gathers (text out : List ℕ) (o : Output) : Type 0 where
   pub whole : o.handed + o.gathered ≡ length text
   pub rest : take o.gathered out ≡ drop o.handed text
+
+-- where no output failed, a writer's bytes grew by those that are newly counted as handed on
+pub record HandsTo (before after : Option (List ℕ)) (out : List ℕ) (o r : Output) : Type 0 where
+  pub onward : o.handed ≤ r.handed
+  pub bytes : r.lost ≡ false → Appends before after (take (r.handed - o.handed) out)
 
 -- what a function does to the output is no more than to hand on
 pub record HandsOn (out : List ℕ) (o r : Output) : Type 0 where
