@@ -60,6 +60,17 @@ pub fn close(reader: ChildStdout) {
     }
 }
 
+/// What is said of crates, with no seconds: those are the machine's.
+fn without_seconds(text: String) -> String {
+    let mut parts = text.split(" proved (");
+    let first = parts.next().unwrap_or_default().to_string();
+    parts.fold(first, |before, part| {
+        let said = part.trim_start_matches(|c: char| c.is_ascii_digit());
+        let number = if said.len() < part.len() && said.starts_with(" s)") { "S" } else { &part[..part.len() - said.len()] };
+        format!("{before} proved ({number}{said}")
+    })
+}
+
 fn read_all(mut from: impl Read + Send + 'static) -> JoinHandle<String> {
     thread::spawn(move || {
         let mut bytes = Vec::new();
@@ -80,7 +91,7 @@ pub fn ask_within(most: Duration, mut command: Command, input: &[u8]) -> Said {
     let status = ended(&mut child, most).and_then(|status| status.code());
     // what was started below it may hold the pipes open
     match status {
-        Some(_) => Said { status, out: out.join().unwrap(), err: err.join().unwrap() },
+        Some(_) => Said { status, out: out.join().unwrap(), err: without_seconds(err.join().unwrap()) },
         None => Said { status, out: String::new(), err: String::new() },
     }
 }
