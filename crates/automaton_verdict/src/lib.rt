@@ -1,5 +1,6 @@
 // Numbers 21 to 23, which look at one state at a time, and the whole verdict on the automaton.
 #![tactic(auto)]
+
 ghost use Rattle.std.specs.Prelude.{◌≡◌, ◌+◌, ◌<◌, ◌≤◌};
 ghost use Rattle.plan.specs.Limits.{InLimits};
 ghost use Rattle.automaton.specs.Tests.{at, all};

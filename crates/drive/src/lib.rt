@@ -1,6 +1,7 @@
 // A whole list of calls, and of questions for a node's place, as bytes, driven through a run: for tests from another
 // language. The form of the input is in drive_input, that of the records in drive_records.
 #![tactic(auto)]
+
 ghost use Rattle.std.specs.Prelude.{◌≡◌, ◌+◌, ◌*◌, ◌≤◌, ◌<◌, length};
 ghost use Rattle.wire.specs.Puts.{Puts};
 ghost use Rattle.drive_input.specs.Input.{head_of};

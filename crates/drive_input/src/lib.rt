@@ -1,5 +1,6 @@
 // The parts of an input: an opening, then calls and questions for a node's place. Their form is in specs/Input.antt.
 #![tactic(auto)]
+
 ghost use Rattle.std.specs.Prelude.{◌≡◌, ◌+◌, ◌*◌, ◌≤◌, ◌<◌, length, take};
 ghost use Rattle.wire.specs.Number.{little};
 ghost use Rattle.drive_input.specs.Input.{availabilities_from, head_of, ask_at, completion_at, outcome_at, place_at, part_at};

@@ -1,5 +1,6 @@
 // A record of 16 bytes for the opening, for each call and for each node's place. Its form is in specs/Records.antt.
 #![tactic(auto)]
+
 ghost use Rattle.std.specs.Prelude.{◌≡◌, ◌+◌, ◌≤◌, length};
 ghost use Rattle.wire.specs.Puts.{Puts};
 ghost use Rattle.drive_records.specs.Records.{bare, stop_record, opening_record, reply_record, place_record, record_bytes};

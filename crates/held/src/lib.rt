@@ -2,6 +2,7 @@
 // number that no case has is read as case 0, so that all bytes are a run. The meaning of each number is in specs/Held.antt.
 // Fields stand by falling alignment and spare bytes are named: there is no padding.
 #![tactic(auto)]
+
 ghost use Rattle.std.specs.Prelude.{◌≡◌};
 ghost use Rattle.held.specs.Held.{held_plan, held_of};
 ghost use Rattle.held.specs.Inner.Plans.{plan_upto};

@@ -1,6 +1,7 @@
 // The checks of a call on a run that is given as numbers: what run::checks does to a run, without making one. Plan and rest are handed on
 // whole: a function that indexes an array copies it, and one that only hands it on does not.
 #![tactic(auto)]
+
 ghost use Rattle.std.specs.Prelude.{true, map, ◌≡◌};
 ghost use Rattle.run_window.specs.Inner.Search.{SoughtInTime, seen_of};
 ghost use Rattle.run_checks.specs.Order.{Timed, is_below, reading_then};

@@ -1,6 +1,7 @@
 // What a host in C or Rust links: a run that it keeps between two calls. The run crosses as numbers (crate held), and so do the
 // replies; the header is host/include/jidlekuvo.h.
 #![tactic(auto)]
+
 ghost use Rattle.std.specs.Prelude.{◌≡◌};
 ghost use Rattle.judge.specs.Judge.{judge_of};
 ghost use Rattle.numbers.specs.Codes.{code_of};

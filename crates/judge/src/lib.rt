@@ -1,5 +1,6 @@
 // The whole verdict on bytes: reading, then the activities in order, then the automaton.
 #![tactic(auto)]
+
 ghost use Rattle.std.specs.Prelude.{◌≡◌};
 ghost use Rattle.plan.specs.Limits.{InLimits};
 ghost use Rattle.judge.specs.Judge.{judge_of};

@@ -1,5 +1,6 @@
 // Calls and replies as messages of the host link.
 #![tactic(auto)]
+
 use run::{Call, Refusal, Reply};
 
 mod calls;

@@ -1,6 +1,7 @@
 // The parts of a made-up run, read from bytes at fixed offsets: for tests with runs that no opening made. Any bytes are
 // such a run. What stands where is in specs/Layout.antt.
 #![tactic(auto)]
+
 pub mod automata;
 pub mod entries;
 pub mod layout;

@@ -1,6 +1,7 @@
 // A made-up run as bytes, and two calls of it: for tests from another language. The form of the bytes is in
 // made/specs/Layout.antt and specs/Made.antt, that of the answer in specs/Answers.antt.
 #![tactic(auto)]
+
 ghost use Rattle.std.specs.Prelude.{◌≡◌, ◌≤◌};
 ghost use Rattle.made_up.specs.Made.{stop_of, halt_of, halt_at, made_of, call_of_kind, call_at};
 ghost use Rattle.made_up.specs.Answers.{made_code, made_buffer};

@@ -1,5 +1,6 @@
 // Document 01's number of each refusal, stop and refused opening, and an opening's place, as code.
 #![tactic(auto)]
+
 ghost use Rattle.std.specs.Prelude.{◌≡◌};
 ghost use Rattle.run.specs.Numbers.{refusal_number, stop_number, open_number, open_place};
 

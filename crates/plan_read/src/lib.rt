@@ -1,5 +1,6 @@
 // Reading the plan file: the plan, or the first faulty field from the front with its fault and byte offset.
 #![tactic(auto)]
+
 ghost use Rattle.std.specs.Prelude.{◌≡◌, ◌≤◌};
 ghost use Rattle.plan.specs.Reading.{zero_plan, no_plan, sections_at, ended_at, plan_of, with_automaton, with_events, with_peripherals, plan_at, read_plan};
 

@@ -1,5 +1,6 @@
 // A run of a plan against the host's clock. Document 01, sections "A run" and "Who can cause which number".
 #![tactic(auto)]
+
 ghost use Rattle.std.specs.Prelude.{◌≡◌};
 ghost use Rattle.run.specs.Calls.{ask_of, completion_of, outcome_of, call_of};
 ghost use Rattle.run.specs.Opening.{open_of};

@@ -1,5 +1,6 @@
 // The checks of a call: "Order at a call: 50, kept stop, 51, 42, 41, 52 to 55." Each takes the parts of a run that it needs.
 #![tactic(auto)]
+
 ghost use Rattle.std.specs.Prelude.{true, ◌≡◌};
 ghost use Rattle.run_window.specs.Window.{is_started};
 ghost use Rattle.run_window.specs.Inner.Search.{SoughtInTime, first_of};

@@ -1,5 +1,6 @@
 // The limits of what a run stores beside its plan (number 50): where its behaviour stands, and its window.
 #![tactic(auto)]
+
 ghost use Rattle.std.specs.Prelude.{◌≡◌};
 ghost use Rattle.run_limits.specs.Progress.{progress_in_limits};
 

@@ -1,6 +1,7 @@
 // "Paths are loaded up to a waiting or final state; the next is loaded in the call that reports the awaited outcome, and further
 // ones while their outcomes are already reported."
 #![tactic(auto)]
+
 ghost use Rattle.std.specs.Prelude.{◌≡◌, replicate};
 ghost use Rattle.automaton.specs.Next.{next_of};
 ghost use Rattle.run_window.specs.Window.{vacant};

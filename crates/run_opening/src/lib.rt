@@ -1,5 +1,6 @@
 // What an opening gives beside the plan and Ψ: availabilities and a slack. Document 01, section "A run".
 #![tactic(auto)]
+
 ghost use Rattle.std.specs.Prelude.{◌≡◌, ◌≤◌, length};
 ghost use Rattle.plan.specs.Limits.{InLimits};
 ghost use Rattle.run_opening.specs.Given.{at_first, availabilities, any_above};

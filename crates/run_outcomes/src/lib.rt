@@ -1,5 +1,6 @@
 // The outcomes that were reported of pending instances, and the way on from a waiting state. Document 01, section "A run".
 #![tactic(auto)]
+
 ghost use Rattle.std.specs.Prelude.{◌≡◌, ◌+◌, ◌*◌, ◌≤◌, ◌<◌};
 ghost use Rattle.automaton.specs.Next.{next_of};
 ghost use Rattle.times.specs.Queues.{pending_of};

@@ -1,5 +1,6 @@
 // One path: "Paths are loaded up to a waiting or final state".
 #![tactic(auto)]
+
 ghost use Rattle.std.specs.Prelude.{◌≡◌, ◌≤◌};
 ghost use Rattle.plan.specs.Limits.{InLimits, OutputNames};
 ghost use Rattle.run_path.specs.Path.{is_work, activity_number, path_from, longest_path};

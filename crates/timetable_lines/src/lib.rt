@@ -1,5 +1,6 @@
 // The lines that the program timetable prints, put into a lent buffer: each function answers the offset past what it puts.
 #![tactic(auto)]
+
 ghost use Rattle.std.specs.Prelude.{◌≤◌, ◌<◌};
 ghost use Rattle.basis.specs.Parts.{part};
 ghost use Rattle.times.specs.Times.{specified};

@@ -1,5 +1,6 @@
 // What a turn of the table does, looked up once for each state and outcome.
 #![tactic(auto)]
+
 ghost use Rattle.std.specs.Prelude.{◌≡◌, ◌+◌, ◌*◌, ◌≤◌, ◌<◌};
 ghost use Rattle.plan.specs.Limits.{InLimits};
 ghost use Rattle.timetable_steps.specs.Inner.Steps.{Named, Below, chosen_step, heard_step, step_of, column_of, heard_as, Looks, output_of, place_of, Emits};

@@ -1,5 +1,6 @@
 // The timetable, one turn at a time.
 #![tactic(auto)]
+
 ghost use Rattle.std.specs.Prelude.{◌≡◌};
 ghost use Rattle.plan.specs.Fault.{number_of};
 ghost use Rattle.plan.specs.declared.Fault.{Fault};

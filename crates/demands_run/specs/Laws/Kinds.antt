@@ -29,6 +29,7 @@ module _ (p : Plan) where
       ap (λ (x : Node). x.kind) (sym (get_d_part past_node p.nodes (64 * a) (size_of p a) n (omega arith))) ∙ s.1
 
   pub kind_is : (is : List ℕ) → GoodWord p.resources (resource_of p) (word_of p is) → (q a : ℕ) → EmitsAt p is q a → (n : ℕ) (k : Kind) (d : ℕ) → (whole_of p is).Holds (identity q n) k d → (node_at p a n).kind ≡ k
+  kind_is mathlib.Core.List.[] ok q a x3 n k d _ = elim x3 [ ]
   kind_is (i ∷ is) ok q a (here e o) n k d (Joined.left h nr) =
       absurd (let u = (shape_of p.resources (resource_of p) (word_of p is) ok.0).places (identity q n) k d h in let v = size_is p is in omega arith)
   kind_is (i ∷ is) ok q a (here e o) n k d (Joined.right h nc) = own_kind q n k d (suc (size (word_of p is))) a (move p.automaton i).output o h

@@ -51,6 +51,7 @@ size_is p (i ∷ is) = let u = size_is p is in omega arith
 -- ---- queues
 
 rest_among : (x : Instance) (q : List Instance) → Among x (rest q) → Among x q
+rest_among x [] h = elim h [ ]
 rest_among x (y ∷ q) h = inr h
 
 -- the oldest is taken

@@ -49,6 +49,7 @@ Ready Input.Nothing q = Unit {0}
 Ready (Input.Outcome e o) q = 0 < length (q e)
 
 rest_among : (x : Pending) (q : List Pending) → Among x (rest q) → Among x q
+rest_among x [] h = elim h [ ]
 rest_among x (y ∷ q) h = inr h
 
 left_among : (i : Input) (q : ℕ → List Pending) (e : ℕ) (x : Pending) → Among x (left i q e) → Among x (q e)

@@ -22,14 +22,19 @@ whose_same x y e =
     λ i. record { position = p i; node = n i }
 
 pub not_claim : (k : Kind) → Working k → NotClaim k
+not_claim (Kind.Claim _) h = elim h [ ]
+not_claim (Kind.Release _) h = elim h [ ]
 not_claim (Kind.Action a p) h = tt
 not_claim (Kind.Event e) h = tt
 
 pub not_release : (k : Kind) → Working k → NotRelease k
+not_release (Kind.Claim _) h = elim h [ ]
+not_release (Kind.Release _) h = elim h [ ]
 not_release (Kind.Action a p) h = tt
 not_release (Kind.Event e) h = tt
 
 pub emits_below_lem : (p : Plan) (is : List ℕ) (q a : ℕ) → EmitsAt p is q a → q < length_of is
+emits_below_lem p mathlib.Core.List.[] q a x' = elim x' [ ]
 emits_below_lem p (i ∷ is) q a (here e o) = omega arith
 emits_below_lem p (i ∷ is) q a (earlier h) = let u = emits_below_lem p is q a h in omega arith
 
@@ -37,6 +42,7 @@ activity_same : {a b : ℕ} → Output.Activity a ≡ Output.Activity b → a �
 activity_same e = cc
 
 pub one_activity : (p : Plan) (is : List ℕ) (q a b : ℕ) → EmitsAt p is q a → EmitsAt p is q b → a ≡ b
+one_activity p mathlib.Core.List.[] q a b x'' _ = elim x'' [ ]
 one_activity p (i ∷ is) q a b (here e o) (here f n) = activity_same (sym o ∙ n)
 one_activity p (i ∷ is) q a b (here e o) (earlier h) = absurd (let u = emits_below_lem p is q b h in omega arith)
 one_activity p (i ∷ is) q a b (earlier g) (here f n) = absurd (let u = emits_below_lem p is q a g in omega arith)

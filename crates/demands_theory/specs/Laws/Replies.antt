@@ -22,6 +22,7 @@ pub not_going : (s : Stop) → Halt.Stopped s ≡ Halt.Going → ⊥
 not_going s e = subst Goes (sym e) tt
 
 pub failed_stopped : (log : Log) → FailedIn log → StoppedIn log
+failed_stopped [] x' = elim x' [ ]
 failed_stopped (y ∷ log) (inl p) = inl (go y.reply p)
   where
     go : (r : Reply) → Fails r → Stops r
@@ -77,6 +78,10 @@ pub record Quiet (r : Reply) (log : Log) : Type 0 where
   pub other : Other r
 
 pub quiet : (r : Reply) (log : Log) → Idle r → Quiet r log
+quiet (Reply.Start _ _ _) log h = elim h [ ]
+quiet Reply.Taken log h = elim h [ ]
+quiet (Reply.Refused _) log h = elim h [ ]
+quiet (Reply.Stopped _) log h = elim h [ ]
 quiet Reply.Wait log h = record { starts = λ x p. p; accepts = λ p. p; stops = λ p. p; counts = refl; mild = tt; other = tt }
 quiet Reply.Done log h = record { starts = λ x p. p; accepts = λ p. p; stops = λ p. p; counts = refl; mild = tt; other = tt }
 

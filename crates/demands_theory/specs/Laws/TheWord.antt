@@ -37,10 +37,12 @@ tells_same (Call.Completion t m n) r log x o p q s = absurd q
 tells_same (Call.Outcome t m n k) r log x o p q s = sym q.1 ∙ s.1
 
 told_reported : (log : Log) (x : Id) (o : ℕ) → Told log x o → Reported log x
+told_reported [] x o x3 = elim x3 [ ]
 told_reported (y ∷ log) x o (inl p) = inl (tells_reports y.call y.reply log x o p)
 told_reported (y ∷ log) x o (inr p) = inr (told_reported log x o p)
 
 pub told_once : (log : Log) → Always (λ y older. (x : Id) → Reports y.call y.reply older x → Reported older x → ⊥) log → (x : Id) (o p : ℕ) → Told log x o → Told log x p → o ≡ p
+told_once [] h x o p x5 _ = elim x5 [ ]
 told_once (y ∷ log) h x o p (inl a) (inl b) = tells_same y.call y.reply log x o p a b
 told_once (y ∷ log) h x o p (inl a) (inr b) = absurd (h.0 x (tells_reports y.call y.reply log x o a) (told_reported log x p b))
 told_once (y ∷ log) h x o p (inr a) (inl b) = absurd (h.0 x (tells_reports y.call y.reply log x p b) (told_reported log x o a))

@@ -42,9 +42,15 @@ none_at u e = subst IsNone e tt
 
 -- an answer done reports nothing
 finish_reports : (c : Call) (r : Reply) (older : Log) (x : Id) → Finishes r → Reports c r older x → ⊥
+finish_reports c (Reply.Start _ _ _) older x p q = elim p [ ]
+finish_reports c Reply.Wait older x p q = elim p [ ]
+finish_reports c Reply.Taken older x p q = elim p [ ]
+finish_reports c (Reply.Refused _) older x p q = elim p [ ]
+finish_reports c (Reply.Stopped _) older x p q = elim p [ ]
 finish_reports c Reply.Done older x p q = no_report c Reply.Done older x (λ z. z) q
 
 finished_before : (log : Log) → Finished log → (x : Id) → Reported log x → Reported (before log) x
+finished_before [] p x _ = elim p [ ]
 finished_before (y ∷ older) p x (inl q) = absurd (finish_reports y.call y.reply older x p q)
 finished_before (y ∷ older) p x (inr q) = q
 

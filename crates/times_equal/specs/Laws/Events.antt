@@ -110,11 +110,11 @@ module _ (a : List Node) (e : ℕ) where
           λ m j. subst (Among m) (sym c.2) (among_left m c.0 (k ∷ c.1) j),
         )
 
-    before_cut : (ms : List ℕ) (n : ℕ) (os : List ℕ) → order ≡ ms ++ (n ∷ os) → (m : ℕ) → Before a m n → Among m ms
-    before_cut ms n os f m (one h) = sorted ms n os f m h.from
-    before_cut ms n os f m (more {k} c h) =
+    before_cut : (m : ℕ) (ms : List ℕ) (n : ℕ) (os : List ℕ) → order ≡ ms ++ (n ∷ os) → Before a m n → Among m ms
+    before_cut m ms n os f (one h) = sorted ms n os f m h.from
+    before_cut m ms n os f (more {k} c h) =
         let r = recut ms n os f k (sorted ms n os f k h.from) in
-        r.3 m (before_cut r.0 k r.1 r.2 m c)
+        r.3 m (before_cut m r.0 k r.1 r.2 c)
 
     module _ (distinct : Distinct order) (within : (n : ℕ) → Among n order → n < length a) (all : (n : ℕ) → n < length a → Among n order) (rule_XI : (m n e : ℕ) → Is a m (Kind.Event e) → Is a n (Kind.Event e) → (m ≡ n → ⊥) → Before a m n ⊎ Before a n m) where
       is : (n : ℕ) → Among n (of_event a e order) → Is a n (Kind.Event e)
@@ -131,7 +131,7 @@ module _ (a : List Node) (e : ℕ) where
           n_in = subst (Among n) (sym f) (among_right n ms (n ∷ os) (inl refl))
 
           there : Before a m n → Among m ms
-          there b = c.out_of m (before_cut c.front n c.back c.whole m b) (of_all order m i).1
+          there b = c.out_of m (before_cut m c.front n c.back c.whole b) (of_all order m i).1
 
           back : Among m ms → Before a m n
           back j =
@@ -139,7 +139,7 @@ module _ (a : List Node) (e : ℕ) where
                 | inl b ↦ b
                 | inr b ↦
                     (let r = recut c.front n c.back c.whole m (c.into m j) in
-                    absurd (cut_apart c.front n c.back (subst Distinct c.whole distinct) (r.3 n (before_cut r.0 m r.1 r.2 n b))))
+                    absurd (cut_apart c.front n c.back (subst Distinct c.whole distinct) (r.3 n (before_cut n r.0 m r.1 r.2 b))))
               ]
 
       pub emits : Emits a e (of_event a e order)

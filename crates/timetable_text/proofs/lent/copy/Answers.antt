@@ -19,7 +19,7 @@ loop-i-preserved c =
       l.invariant.1,
       l.invariant.2,
       omega arith,
-      p.auto.0 ∙ l.invariant.4,
+      p.auto.out ∙ l.invariant.4,
       l.invariant.5 ∙ copy_next a.text.now a.n l.i l.invariant.2 l.out _ l.off (omega arith) p.ensures,
     )
 

@@ -1,0 +1,13 @@
+-- `emissions` fills the table node by node.
+use mathlib.Core.Path.{◌≡◌}
+use Prim.Native.Nat.{◌+◌, ◌-◌, ◌*◌, ◌/◌, ◌≤◌}
+use native.Mathlib.Omega.{arith}
+use Rattle.automaton_verdict.proofs.Counting.{Counting, counting_starts, counting_past, counting_none, counting_one, counting_ends}
+use borrow.Author.Rules.{rules}
+use Rattle.automaton_verdict.proofs.emissions.Given as goal
+
+abbrev pub invariant-loop-i : goal.invariant-loop-i
+invariant-loop-i l = (l.i ≤ l.end) × (l.end ≡ 64 * l.plan.activities) × (l.end ≤ 2048) × Counting l.plan l.i l.em
+
+abbrev pub decreases-loop-i : goal.decreases-loop-i
+decreases-loop-i l = l.end - l.i

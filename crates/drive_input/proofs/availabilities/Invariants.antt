@@ -1,0 +1,15 @@
+-- The loop over the availabilities. Its invariant: the first i stand in the array, and the next begins at `off`.
+use mathlib.Core.List.{[]}
+use mathlib.Core.Path.{◌≡◌}
+use native.Mathlib.Omega.{arith}
+use Prim.Native.Nat.{◌+◌, ◌*◌, ◌-◌, ◌≤◌}
+use lib.ListN.{length, length-set}
+use Rattle.drive_input.proofs.Filled.{Fills, fills_none, fills_more, fills_all}
+use borrow.Author.Rules.{rules}
+use Rattle.drive_input.proofs.availabilities.Given as goal
+
+abbrev pub invariant-loop-i : goal.invariant-loop-i
+invariant-loop-i l = (l.i ≤ l.n) × (l.off ≡ l.at + 8 * l.i) × (length l.times ≡ 255) × Fills l.input l.at l.n l.times l.i l.off
+
+abbrev pub decreases-loop-i : goal.decreases-loop-i
+decreases-loop-i l = l.n - l.i

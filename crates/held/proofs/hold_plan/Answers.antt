@@ -1,0 +1,5 @@
+use borrow.Author.Rules.{rules}
+use Rattle.held.proofs.hold_plan.Goals as goal
+
+pub returns : goal.returns
+returns c = simp (c.hold_moves-moves.ensures, c.hold_nodes-nodes.ensures)

@@ -1,0 +1,5 @@
+use borrow.Author.Rules.{rules}
+use Rattle.held.proofs.moves.move_of.Goals as goal
+
+pub returns : goal.returns
+returns c = simp (c.input_of-input.ensures, c.output_of-output.ensures)

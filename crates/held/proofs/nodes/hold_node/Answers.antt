@@ -1,0 +1,5 @@
+use borrow.Author.Rules.{rules}
+use Rattle.held.proofs.nodes.hold_node.Goals as goal
+
+pub returns : goal.returns
+returns c = simp (c.peripheral_in.ensures, c.number_in.ensures, c.kind_number.ensures)

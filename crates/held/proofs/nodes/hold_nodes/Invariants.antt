@@ -1,0 +1,16 @@
+use borrow.Author.Rules.{rules}
+use native.Mathlib.Omega.{arith}
+use mathlib.Core.Path.{◌≡◌, refl, ◌∙◌}
+use Prim.Native.Nat.{◌≤◌, ◌-◌}
+use lib.ListN.{length}
+use Rattle.plan.specs.declared.Node.{Node}
+use Rattle.held.specs.declared.HeldNode.{HeldNode}
+use Rattle.held.specs.Held.{held_node}
+use Rattle.held.proofs.Filled.{filled, fill_turn, fill_end}
+use Rattle.held.proofs.nodes.hold_nodes.Given as goal
+
+abbrev pub invariant-loop-i : goal.invariant-loop-i
+invariant-loop-i l = (l.i ≤ 2048) × (length l.initial.held ≡ 2048) × (l.held ≡ filled Node HeldNode held_node l.nodes l.initial.held l.i)
+
+abbrev pub decreases-loop-i : goal.decreases-loop-i
+decreases-loop-i l = 2048 - l.i

@@ -1,0 +1,5 @@
+use borrow.Author.Rules.{rules}
+use Rattle.held.proofs.nodes.node_of.Goals as goal
+
+pub returns : goal.returns
+returns c = simp c.kind_of-kind.ensures

@@ -1,0 +1,32 @@
+-- `plan_upto` has all but the nodes, and fills in the first of them, one after the other.
+use borrow.Author.Rules.{rules}
+use native.Mathlib.Omega.{arith}
+use mathlib.Core.Path.{◌≡◌, refl, ◌∙◌, ap}
+use mathlib.Core.List.{List}
+use Prim.Native.Nat.{ℕ, ◌≤◌, ◌-◌, ◌*◌}
+use lib.ListN.{length, replicate}
+use Rattle.basis.specs.Laws.Lists.{unmapped}
+use Rattle.plan.specs.Nodes.{zero_node}
+use Rattle.plan.specs.declared.Node.{Node}
+use Rattle.plan.specs.declared.Plan.{Plan}
+use Rattle.plan.specs.declared.Transition.{Transition}
+use Rattle.held.specs.declared.HeldNode.{HeldNode}
+use Rattle.held.specs.declared.HeldPlan.{HeldPlan}
+use Rattle.held.specs.Held.{node_of}
+use Rattle.held.specs.Inner.Plans.{nodes_upto, moves_upto, plan_with}
+use Rattle.held.proofs.Filled.{fill_turn, fill_past}
+use Rattle.held.proofs.plan_upto.Given as goal
+
+-- with its transitions and these nodes
+abbrev pub having : HeldPlan → List Node → Plan
+having h nodes = plan_with h nodes (moves_upto h.count h.moves)
+
+-- no node yet
+pub none : (h : HeldPlan) (moves : List Transition) (z : Node) → moves ≡ moves_upto h.count h.moves → z ≡ zero_node → plan_with h (replicate 2048 z) moves ≡ having h (nodes_upto 0 h.nodes)
+none h moves z m e = rw (m, e)
+
+abbrev pub invariant-loop-i : goal.invariant-loop-i
+invariant-loop-i l = (l.i ≤ 2048) × (l.i ≤ l.most) × (l.most ≡ 64 * l.h.activities) × (l.plan ≡ having l.h (nodes_upto l.i l.h.nodes))
+
+abbrev pub decreases-loop-i : goal.decreases-loop-i
+decreases-loop-i l = 2048 - l.i

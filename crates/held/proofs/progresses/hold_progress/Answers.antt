@@ -1,0 +1,5 @@
+use borrow.Author.Rules.{rules}
+use Rattle.held.proofs.progresses.hold_progress.Goals as goal
+
+pub returns : goal.returns
+returns c = simp c.hold_pending-pending.ensures

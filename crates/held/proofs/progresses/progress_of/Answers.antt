@@ -1,0 +1,5 @@
+use borrow.Author.Rules.{rules}
+use Rattle.held.proofs.progresses.progress_of.Goals as goal
+
+pub returns : goal.returns
+returns c = simp c.pending_of-pending.ensures

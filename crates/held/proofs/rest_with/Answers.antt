@@ -1,0 +1,5 @@
+use borrow.Author.Rules.{rules}
+use Rattle.held.proofs.rest_with.Goals as goal
+
+pub returns : goal.returns
+returns c = simp (c.hold_halt-halt.ensures, c.hold_progress-progress.ensures)

@@ -1,0 +1,28 @@
+-- `plans::nodes_in_limits` is what it is defined to be. The loop's invariant: what is passed changes nothing.
+-- Assumes nothing.
+use mathlib.Core.List.{map}
+use mathlib.Core.Path.{◌≡◌, sym, ap, ◌∙◌}
+use Prim.Native.Nat.{◌-◌, ◌≤◌, ◌*◌, ◌/◌, ◌%◌}
+use native.Mathlib.Omega.{arith}
+use borrow.Author.Tests.{le-leb, lt-leb, not-true, not-false}
+use borrow.Author.Rules.{rules}
+use lib.ListN.{get_or, length}
+use Rattle.basis.specs.Tests.{every}
+use Rattle.basis.specs.Laws.Lists.{unmapped}
+use Rattle.plan.specs.declared.Node.{Node}
+use Rattle.plan.specs.Plan.{past_node}
+use Rattle.plan_limits.specs.Laws.Every.{every_on, every_off, every_end}
+use Rattle.plan_limits.specs.Limits.{slot_in_limits, nodes_in_limits}
+use Rattle.held.specs.declared.HeldNode.{HeldNode}
+use Rattle.held.specs.Held.{node_of}
+use Rattle.held_checks.specs.Inner.Limits.{nodes_good}
+use Rattle.held_checks.proofs.Mapped.{mapped_at}
+use Rattle.held_checks.proofs.plans.nodes_in_limits.Given as goal
+
+abbrev pub invariant-loop-left : goal.invariant-loop-left
+invariant-loop-left l = (l.left ≤ 64 * l.plan.activities)
+    × (every (64 * l.plan.activities) (λ i. slot_in_limits l.plan.resources l.plan.peripherals l.plan.events (get_or l.plan.sizes (i / 64) 0) (i % 64) (get_or (map node_of l.plan.nodes) i past_node))
+    ≡ every l.left (λ i. slot_in_limits l.plan.resources l.plan.peripherals l.plan.events (get_or l.plan.sizes (i / 64) 0) (i % 64) (get_or (map node_of l.plan.nodes) i past_node)))
+
+abbrev pub decreases-loop-left : goal.decreases-loop-left
+decreases-loop-left l = l.left

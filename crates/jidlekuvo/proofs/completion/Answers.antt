@@ -1,0 +1,7 @@
+use borrow.Author.Rules.{rules}
+use Rattle.run.specs.Calls.{call_of}
+use Rattle.jidlekuvo.proofs.completion.Goals as goal
+
+pub returns : goal.returns
+unfolding call_of
+returns c = c.step.ensures

@@ -1,0 +1,5 @@
+use borrow.Author.Rules.{rules}
+use Rattle.jidlekuvo.proofs.steps.kept.Goals as goal
+
+pub returns : goal.returns
+returns c = rw c.told-reply.ensures

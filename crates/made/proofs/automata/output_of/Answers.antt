@@ -1,0 +1,12 @@
+-- Each tag gives its output.
+use borrow.Author.Tests.{eq-eqb, ne_eqb}
+use Rattle.made.specs.Values.{output_of}
+use Rattle.made.proofs.automata.output_of.Goals as goal
+
+pub returns-then-tag-eq0 : goal.returns-then-tag-eq0
+unfolding output_of
+returns-then-tag-eq0 c = rw (eq-eqb _ _ c.if-tag-eq0.true)
+
+pub returns : goal.returns
+unfolding output_of
+returns c = rw (ne_eqb _ _ c.if-tag-eq0.false)

@@ -1,0 +1,8 @@
+-- A number of four bytes is made of two numbers of two.
+use native.Mathlib.Omega.{arith}
+use Rattle.wire.specs.Laws.Fields.{little_four}
+use borrow.Author.Rules.{rules}
+use Rattle.made.proofs.numbers.four.Goals as goal
+
+pub returns : goal.returns
+returns c = let a = c.args in (omega (arith, little_four a.bytes.now a.at), omega arith)

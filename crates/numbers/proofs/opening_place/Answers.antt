@@ -1,0 +1,6 @@
+-- The place of each refused opening.
+use borrow.Author.Rules.{rules}
+use Rattle.numbers.proofs.opening_place.Goals as goal
+
+pub returns-in-Plan : goal.returns-in-Plan
+returns-in-Plan c = rw c.in-Plan.is

@@ -1,0 +1,6 @@
+-- All zeros.
+use borrow.Author.Rules.{rules}
+use Rattle.plan_read.proofs.zero_plan.Goals as goal
+
+pub returns : goal.returns
+returns c = rw (c.zero_node-z.ensures, c.zero_automaton-automaton.ensures)

@@ -1,0 +1,8 @@
+-- `outcome` is a call.
+use Rattle.run.specs.Calls.{call_of}
+use borrow.Author.Rules.{rules}
+use Rattle.run.proofs.Run.outcome.Goals as goal
+
+pub returns : goal.returns
+unfolding call_of
+returns c = c.call.ensures

@@ -1,0 +1,5 @@
+use borrow.Author.Rules.{rules}
+use Rattle.run_outcomes.proofs.told_of.Goals as goal
+
+pub returns : goal.returns
+returns c = simp c.told_from-told.ensures

@@ -1,0 +1,21 @@
+-- What is free, then the word, the state and the newline.
+use Rattle.timetable_lines.specs.Laws.Lines.{free_length}
+use Rattle.timetable_text.specs.Laws.Digits.{decimal_length}
+use Rattle.timetable_text.specs.Text.{line}
+use Rattle.wire.specs.Laws.Puts.{puts_join}
+use native.Mathlib.Omega.{arith}
+use borrow.Author.Rules.{rules}
+use Rattle.timetable_lines.proofs.put_ended.Goals as goal
+
+pub put_list-b-requires : goal.put_list-b-requires
+put_list-b-requires c = (omega (arith, free_length c.args.resources c.args.progress c.requires.1), search rules)
+
+pub put_after_space-c-requires : goal.put_after_space-c-requires
+put_after_space-c-requires c = omega (arith, free_length c.args.resources c.args.progress c.requires.1)
+
+pub put_newline-requires : goal.put_newline-requires
+put_newline-requires c = omega (arith, free_length c.args.resources c.args.progress c.requires.1, decimal_length c.args.progress.state)
+
+pub returns : goal.returns
+unfolding line
+returns c = puts_join c.put_free-a.ensures (puts_join c.put_list-b.ensures (puts_join c.put_after_space-c.ensures c.put_newline.ensures))

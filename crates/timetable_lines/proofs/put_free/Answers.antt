@@ -1,0 +1,8 @@
+-- The word, then the times and the newline.
+use Rattle.timetable_lines.specs.Laws.Lines.{free_is}
+use Rattle.wire.specs.Laws.Puts.{puts_join}
+use borrow.Author.Rules.{rules}
+use Rattle.timetable_lines.proofs.put_free.Goals as goal
+
+pub returns : goal.returns
+returns c = rw (free_is c.args.resources c.args.progress) (puts_join c.put_list-next.ensures c.put_times.ensures)

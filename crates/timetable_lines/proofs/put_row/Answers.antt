@@ -1,0 +1,26 @@
+-- Five numbers and the newline.
+use Rattle.timetable_text.specs.Laws.Digits.{decimal_length}
+use Rattle.timetable_text.specs.Text.{line}
+use Rattle.wire.specs.Laws.Puts.{puts_join}
+use native.Mathlib.Omega.{arith}
+use borrow.Author.Rules.{rules}
+use Rattle.timetable_lines.proofs.put_row.Goals as goal
+
+pub put_after_space-b-requires : goal.put_after_space-b-requires
+put_after_space-b-requires c = omega (arith, decimal_length c.args.e.position)
+
+pub put_after_space-c-requires : goal.put_after_space-c-requires
+put_after_space-c-requires c = omega (arith, decimal_length c.args.e.position, decimal_length c.args.e.activity)
+
+pub put_after_space-d-requires : goal.put_after_space-d-requires
+put_after_space-d-requires c = omega (arith, decimal_length c.args.e.position, decimal_length c.args.e.activity, decimal_length c.args.e.node)
+
+pub put_after_space-f-requires : goal.put_after_space-f-requires
+put_after_space-f-requires c = omega (arith, decimal_length c.args.e.position, decimal_length c.args.e.activity, decimal_length c.args.e.node, decimal_length c.args.e.start.0)
+
+pub put_newline-requires : goal.put_newline-requires
+put_newline-requires c = omega (arith, decimal_length c.args.e.position, decimal_length c.args.e.activity, decimal_length c.args.e.node, decimal_length c.args.e.start.0, decimal_length c.args.e.end.0)
+
+pub returns : goal.returns
+unfolding line
+returns c = puts_join c.put_decimal-a.ensures (puts_join c.put_after_space-b.ensures (puts_join c.put_after_space-c.ensures (puts_join c.put_after_space-d.ensures (puts_join c.put_after_space-f.ensures c.put_newline.ensures))))

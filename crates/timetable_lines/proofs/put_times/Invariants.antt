@@ -1,0 +1,19 @@
+-- The loop over the times: what is left is put after what was put.
+use Rattle.timetable_lines.specs.Laws.Lines.{spaced, spaced_turn, spaced_end, Remains, remains_all, remains_less}
+use Rattle.timetable_text.specs.Laws.Digits.{decimal_length}
+use Rattle.times.specs.Times.{specified}
+use Rattle.basis.specs.Parts.{part}
+use lib.ListN.{length, get_or}
+use Prim.Native.Nat.{◌+◌, ◌*◌, ◌-◌, ◌≤◌, ◌<◌}
+use mathlib.Core.Path.{◌≡◌, refl, ◌∙◌}
+use native.Mathlib.Nat.{sub-zero}
+use native.Mathlib.Omega.{arith}
+use borrow.Author.Rules.{rules}
+use Rattle.timetable_lines.proofs.put_times.Given as goal
+
+abbrev pub invariant-loop-i : goal.invariant-loop-i
+invariant-loop-i l = (l.i ≤ l.n) × (l.n ≡ l.count) × (l.count ≤ 16) × (l.at < 130100) × (l.off ≤ l.at + 21 * l.i) × (length l.out ≡ length l.initial.out)
+    × Remains l.initial.out l.at (spaced (part (specified 0) l.times 0 l.count)) l.out l.off (spaced (part (specified 0) l.times l.i (l.count - l.i)))
+
+abbrev pub decreases-loop-i : goal.decreases-loop-i
+decreases-loop-i l = l.n - l.i

@@ -1,0 +1,13 @@
+-- `activities_of` meets its contract. The loop's invariant: the first a activities are copied. Assumes nothing.
+use mathlib.Core.Path.{refl}
+use Prim.Native.Nat.{◌-◌, ◌≤◌}
+use native.Mathlib.Omega.{arith}
+use Rattle.timetable_steps.specs.Laws.Steps.{Copies, copies-more, emits}
+use borrow.Author.Rules.{rules}
+use Rattle.timetable_steps.proofs.activities_of.Given as goal
+
+abbrev pub invariant-loop-a : goal.invariant-loop-a
+invariant-loop-a l = (l.a ≤ l.plan.activities) × Copies l.plan l.all l.a
+
+abbrev pub decreases-loop-a : goal.decreases-loop-a
+decreases-loop-a l = l.plan.activities - l.a

@@ -1,0 +1,23 @@
+-- `heard_step` meets its contract. Assumes nothing.
+use mathlib.Core.Path.{ap, ◌∙◌, subst}
+use Prim.Native.Nat.{ℕ, ◌≤◌, ◌<◌}
+use lib.ListN.{get_or}
+use Rattle.timetable_steps.specs.Inner.Steps.{chosen_step}
+use Rattle.timetable_steps.specs.Laws.Steps.{below, heard_had, heard_lacked}
+use borrow.Author.Rules.{rules}
+use Rattle.timetable_steps.proofs.heard_step.Goals as goal
+
+pub returns-in-Nothing : goal.returns-in-Nothing
+returns-in-Nothing c = simp c.in-Nothing.is
+
+pub chosen_step-requires : goal.chosen_step-requires
+chosen_step-requires c = below c.args.a c.requires.0 c.args.s c.args.e _ _ c.chosen_of-chosen.ensures
+
+pub returns-then-o-outcomes : goal.returns-then-o-outcomes
+returns-then-o-outcomes c =
+    c.chosen_step.ensures ∙ ap (chosen_step c.args.a c.args.e) c.chosen_of-chosen.ensures
+    ∙ heard_had c.args.a c.args.outcomes c.args.s c.args.e c.in-Outcome.o c.args.heard c.in-Outcome.is (subst (λ (k : ℕ). c.in-Outcome.o < get_or c.args.outcomes k 0) c.u8_to_usize-i.ensures c.if-o-outcomes.true)
+
+pub returns-in-Outcome : goal.returns-in-Outcome
+returns-in-Outcome c =
+    heard_lacked c.args.a c.args.outcomes c.args.s c.args.e c.in-Outcome.o c.args.heard c.in-Outcome.is (subst (λ (k : ℕ). get_or c.args.outcomes k 0 ≤ c.in-Outcome.o) c.u8_to_usize-i.ensures c.if-o-outcomes.false)

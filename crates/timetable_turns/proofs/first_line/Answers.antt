@@ -1,0 +1,13 @@
+-- `first_line` meets its contract: by the verdict. Assumes nothing.
+use mathlib.Core.Path.{sym, ap}
+use Rattle.timetable_turns.specs.Inner.Turn.{first_text}
+use Rattle.timetable_text.specs.Laws.Lent.{lends_as}
+use Rattle.timetable_turns.proofs.Begins.{lends_refused}
+use borrow.Author.Rules.{rules}
+use Rattle.timetable_turns.proofs.first_line.Goals as goal
+
+pub returns-in-Accepted : goal.returns-in-Accepted
+returns-in-Accepted c = lends_as _ _ _ _ _ _ (ap first_text (sym c.in-Accepted.is)) c.header_line.ensures
+
+pub returns-in-Refused : goal.returns-in-Refused
+returns-in-Refused c = lends_refused _ _ _ _ _ _ _ c.number_of-number.ensures c.in-Refused.is c.refused_line.ensures

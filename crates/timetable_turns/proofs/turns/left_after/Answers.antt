@@ -1,0 +1,6 @@
+-- `left_after` meets its contract. Assumes nothing.
+use borrow.Author.Rules.{rules}
+use Rattle.timetable_turns.proofs.turns.left_after.Goals as goal
+
+pub returns : goal.returns
+returns c = rw c.if-last.false
