@@ -62,13 +62,14 @@ pub fn close(reader: ChildStdout) {
 
 /// What is said of crates, with no seconds: those are the machine's.
 fn without_seconds(text: String) -> String {
-    let mut parts = text.split(" proved (");
-    let first = parts.next().unwrap_or_default().to_string();
-    parts.fold(first, |before, part| {
-        let said = part.trim_start_matches(|c: char| c.is_ascii_digit());
-        let number = if said.len() < part.len() && said.starts_with(" s)") { "S" } else { &part[..part.len() - said.len()] };
-        format!("{before} proved ({number}{said}")
-    })
+    let is_number = |word: &str| word.bytes().all(|byte| byte.is_ascii_digit());
+    let line = |line: &str| match line.split_once(" proved (") {
+        Some((crates, seconds)) if seconds.strip_suffix(" s)\n").is_some_and(is_number) => {
+            format!("{crates} proved (S s)\n")
+        }
+        _ => line.to_string(),
+    };
+    text.split_inclusive('\n').map(line).collect()
 }
 
 fn read_all(mut from: impl Read + Send + 'static) -> JoinHandle<String> {
