@@ -125,7 +125,7 @@ pub const ROWS: &[Row] = &[
     Row(
         "with no proof",
         set_up::with_no_proof,
-        &[edit("crates/plan/src/lib.rt", "pub mod numbers;", "pub mod wire;\npub mod numbers;")],
+        &[edit("crates/judge/src/lib.rt", "use plan::{", "mod plan_read;\n\nuse plan::{")],
     ),
     Row(
         "versions",

@@ -172,14 +172,14 @@ pub fn quick(mutation: Mutation) -> Answer {
     is("what quick builds", repository.asked() == format!("{BUILD} --features quick --bin quick\n"))
 }
 
-/// `rt try` runs the program with no proof: no module bears the name of a crate.
+/// `rt try` runs the program with no proof: no module bears the name of a crate that is called beside it.
 pub fn with_no_proof(mutation: Mutation) -> Answer {
     let folder = Folder::new();
     let mut cp = Command::new("bash");
     cp.args(["-c", "cp -r --parents crates.txt crates/*/src \"$0\""]).arg(&folder.0).current_dir(root());
     same("the code", ask(cp), said(0, "", ""))?;
     if let Mutation::Edit { .. } = mutation {
-        folder.write("crates/plan/src/wire.rt", "// nothing\n");
+        folder.write("crates/judge/src/plan_read.rt", "// nothing\n");
     }
     folder.apply(mutation);
     let mut rt = Command::new("rt");
