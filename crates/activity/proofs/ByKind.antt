@@ -10,9 +10,9 @@ use Rattle.plan.specs.declared.Node.{Node}
 use Rattle.plan.specs.declared.Fault.{Fault}
 use Rattle.activity.specs.Rules.{Is, Before, Ordered}
 use Rattle.activity.specs.Number.{kind_of}
-use Rattle.activity.specs.Laws.Tells.{differ}
+use Rattle.activity.proofs.Laws.Tells.{differ}
 use Rattle.activity.specs.Inner.Sight.{label_of, held_of, Label, InLine, Alone, Claimed, Released}
-use Rattle.activity.specs.Laws.Closure.{first_arrow, last_arrow}
+use Rattle.activity.proofs.Laws.Closure.{first_arrow, last_arrow}
 use Rattle.activity.specs.Inner.Nodes.{At}
 
 -- a label says the kind

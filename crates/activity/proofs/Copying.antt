@@ -6,7 +6,7 @@ use native.Mathlib.Omega.{arith}
 use borrow.Author.Count.{below_more}
 use lib.ListN.{length, get_or, set, length-set}
 use lib.Seq.{ext_get_or, get_or-set_same, get_or-set_other}
-use Rattle.basis.specs.Laws.PartsHold.{length_part, get_d_part}
+use Rattle.basis.proofs.Laws.PartsHold.{length_part, get_d_part}
 use Rattle.plan.specs.Plan.{past_node, size_of, nodes_of, activity_of}
 use Rattle.plan.specs.Limits.{InLimits}
 use Rattle.plan.specs.declared.Node.{Node}

@@ -14,11 +14,11 @@ use Rattle.activity.specs.declared.Finding.{Finding}
 use Rattle.activity.specs.Rules.{Meets}
 use Rattle.activity.specs.Number.{fault_of}
 use Rattle.activity.specs.Judged.{Rule, First}
-use Rattle.activity.specs.Laws.Theorem.{judged, only}
+use Rattle.activity.proofs.Laws.Theorem.{judged, only}
 use Rattle.activity.specs.Inner.Nodes.{At}
-use Rattle.activity.specs.Laws.Nodes.{each_within}
+use Rattle.activity.proofs.Laws.Nodes.{each_within}
 use Rattle.activity.specs.Inner.Order.{Lowest}
-use Rattle.activity.specs.Laws.Order.{none, keep, take_new}
+use Rattle.activity.proofs.Laws.Order.{none, keep, take_new}
 
 module _ (belongs : ℕ → ℕ) (a : List Node) where
   -- what the nodes below n ask

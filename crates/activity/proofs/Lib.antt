@@ -8,3 +8,4 @@ pub mod Numbering
 pub mod Judging
 pub mod Copying
 pub mod Verdicts
+pub mod Laws

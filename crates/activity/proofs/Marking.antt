@@ -5,11 +5,11 @@ use mathlib.Core.Logic.{◌⊎◌, inl, inr, ◌↔◌, ⊎_elim}
 use Prim.Native.Nat.{ℕ, ◌+◌, ◌<◌, ◌≤◌}
 use native.Mathlib.Nat.{eq-or-lt_of_le}
 use native.Mathlib.Omega.{arith}
-use Rattle.basis.specs.Laws.Tells.{is_true, told_true}
+use Rattle.basis.proofs.Laws.Tells.{is_true, told_true}
 use Rattle.basis.specs.Inner.Tells.{Tells}
 use Rattle.activity.specs.Inner.Sight.{Marks}
 use Rattle.activity.specs.Inner.Bits.{Bit}
-use Rattle.activity.specs.Laws.Bits.{no_bit}
+use Rattle.activity.proofs.Laws.Bits.{no_bit}
 
 pub nothing_marked : (Q : ℕ → Type 0) → Marks 0 (λ j. (j < 0) × Q j)
 nothing_marked Q j = (λ b. absurd (no_bit j b), λ h. absurd (omega (arith, h.0)))

@@ -9,9 +9,9 @@ use Rattle.plan.specs.declared.Fault.{Fault}
 use Rattle.activity.specs.Rules.{Is, Before}
 use Rattle.activity.specs.Inner.Sight.{InLine, Alone, Claimed, Released}
 use Rattle.activity.specs.Inner.Order.{Below, Lowest}
-use Rattle.activity.specs.Laws.Order.{up, stop, none}
+use Rattle.activity.proofs.Laws.Order.{up, stop, none}
 use Rattle.activity.specs.Inner.Nodes.{At}
-use Rattle.activity.specs.Laws.Nodes.{start_at_lem}
+use Rattle.activity.proofs.Laws.Nodes.{start_at_lem}
 use Rattle.activity.proofs.ByKind as kind
 
 -- a node on a cycle

@@ -8,7 +8,7 @@ use native.Mathlib.Omega.{arith}
 use lib.ListN.{length, get_or}
 use Rattle.basis.specs.Lists.{Among}
 use Rattle.basis.specs.Parts.{part}
-use Rattle.basis.specs.Laws.PartsHold.{among_part, part_among, length_part, get_d_part}
+use Rattle.basis.proofs.Laws.PartsHold.{among_part, part_among, length_part, get_d_part}
 use Rattle.plan.specs.Plan.{past_node, predecessors, nodes_of}
 use Rattle.plan.specs.declared.Node.{Node}
 use Rattle.plan.specs.declared.Activity.{Activity}

@@ -13,9 +13,9 @@ use Rattle.activity.specs.Rules.{Before}
 use Rattle.activity.specs.Number.{kind_of}
 use Rattle.activity.specs.Inner.Sight.{label_of, Label, Labels, Marks, Seen, InLine, Alone, Claimed, Released}
 use Rattle.activity.specs.Inner.Bits.{Bit}
-use Rattle.activity.specs.Laws.Bits.{or_iff, no_bit}
+use Rattle.activity.proofs.Laws.Bits.{or_iff, no_bit}
 use Rattle.activity.specs.Inner.Closure.{Rel, Closure}
-use Rattle.activity.specs.Laws.Closure.{within}
+use Rattle.activity.proofs.Laws.Closure.{within}
 
 module _ (belongs : ℕ → ℕ) (a : List Node) (n : ℕ) (s : Sight) (h : Seen belongs a n s) where
   pub seen_in_line :

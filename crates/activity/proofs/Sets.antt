@@ -11,9 +11,9 @@ use lib.Bits.{bit_or, bit_and, or_step, or_zero_l}
 use lib.Dec.{eqb}
 use lib.Pow.{shr-shr}
 use Rattle.basis.specs.Inner.Tells.{Tells}
-use Rattle.basis.specs.Laws.Tells.{tells_iff, tells_not, tells_eqb}
+use Rattle.basis.proofs.Laws.Tells.{tells_iff, tells_not, tells_eqb}
 use Rattle.activity.specs.Inner.Bits.{Bit}
-use Rattle.activity.specs.Laws.Bits.{or_iff, and_iff, no_bit}
+use Rattle.activity.proofs.Laws.Bits.{or_iff, and_iff, no_bit}
 
 half_bit : (w j : ℕ) → Bit (w / 2) j ↔ Bit w (1 + j)
 half_bit w j = let e = ap (λ (x : ℕ). x % 2) (shr-shr w 1 j) in (λ h. sym e ∙ h, λ h. e ∙ h)

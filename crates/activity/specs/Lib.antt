@@ -8,5 +8,4 @@ pub mod Judged
 -- The computation is right: for one activity and for a plan; and two activities of plan T.
 pub mod Activities
 -- Tests that tell whether a statement holds, and bits.
-pub mod Laws
 pub mod Inner

@@ -3,5 +3,4 @@ pub mod Tests
 pub mod Rules
 pub mod Next
 pub mod Number
-pub mod Laws
 pub mod Inner

@@ -7,7 +7,7 @@ use native.Mathlib.Omega.{arith}
 use native.Mathlib.Decide.{ℕ_discrete}
 use borrow.Author.Tests.{lt-ltb, le-ltb}
 use Rattle.basis.specs.Tests.{flag}
-use Rattle.basis.specs.Laws.Bools.{clash}
+use Rattle.basis.proofs.Laws.Bools.{clash}
 use Rattle.plan.specs.declared.Input.{Input}
 use Rattle.plan.specs.declared.Automaton.{Automaton}
 use Rattle.plan.specs.declared.Fault.{Fault}
@@ -16,12 +16,12 @@ use Rattle.plan.specs.Plan.{move, final_bit, is_final}
 use Rattle.automaton.specs.Tests.{at}
 use Rattle.automaton.specs.Rules.{ToFinal}
 use Rattle.automaton.specs.Number.{lowest, to_final, path_verdict, way_verdict}
-use Rattle.automaton.specs.Laws.Lowest.{none_found}
-use Rattle.automaton.specs.Laws.Decides.{tells_24}
+use Rattle.automaton.proofs.Laws.Lowest.{none_found}
+use Rattle.automaton.proofs.Laws.Decides.{tells_24}
 use Rattle.automaton.specs.Inner.Counts.{InRange, MoveOk, Ready, Left, Crowd}
-use Rattle.automaton.specs.Laws.OnPaths.{same_on_paths, path_verdict_lem}
+use Rattle.automaton.proofs.Laws.OnPaths.{same_on_paths, path_verdict_lem}
 use Rattle.automaton_counts.specs.Inner.Emits.{Either, gives, Few, Judged}
-use Rattle.automaton_counts.specs.Laws.Emits.{gives_small, gives_bounded}
+use Rattle.automaton_counts.proofs.Laws.Emits.{gives_small, gives_bounded}
 
 pub sure : {P Q : Type 0} → P → Either true P Q
 sure p = record { yea = λ e. p; nay = λ e. absurd (clash e) }

@@ -16,7 +16,7 @@ use Rattle.plan.specs.Plan.{past_node, size_of, is_event, events_in}
 use Rattle.plan.specs.Limits.{InLimits}
 use Rattle.automaton.specs.Tests.{at}
 use Rattle.automaton.specs.Inner.Counts.{one}
-use Rattle.automaton.specs.Laws.Bounds.{events_le}
+use Rattle.automaton.proofs.Laws.Bounds.{events_le}
 use Rattle.automaton_verdict.specs.Inner.Table.{event_number, Table}
 
 -- how many nodes of event e activity k has among the nodes looked at

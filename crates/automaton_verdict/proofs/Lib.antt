@@ -1,3 +1,4 @@
 -- What the proofs share.
 pub mod Counting
 pub mod Tools
+pub mod Laws

@@ -7,7 +7,7 @@ use native.Mathlib.Omega.{arith}
 use borrow.Author.Tests.{eq-eqb, ne_eqb, lt-ltb, le-ltb}
 use lib.Dec.{eqb, ltb}
 use lib.ListN.{get_or}
-use Rattle.basis.specs.Laws.Bools.{clash}
+use Rattle.basis.proofs.Laws.Bools.{clash}
 use Rattle.plan.specs.declared.Input.{Input}
 use Rattle.plan.specs.declared.Transition.{Transition}
 use Rattle.plan.specs.declared.Automaton.{Automaton}
@@ -17,12 +17,12 @@ use Rattle.plan.specs.Plan.{past_move}
 use Rattle.automaton.specs.Tests.{all}
 use Rattle.automaton.specs.declared.Next.{Next}
 use Rattle.automaton.specs.Next.{first_of}
-use Rattle.automaton.specs.Laws.Ways.{FirstIs, waits, first-is}
+use Rattle.automaton.proofs.Laws.Ways.{FirstIs, waits, first-is}
 use Rattle.automaton.specs.Number.{lowest, no_way_out, apart, apart_from, branches_in, branches, serves, or_else, state_verdict}
-use Rattle.automaton.specs.Laws.Tests.{all_true}
+use Rattle.automaton.proofs.Laws.Tests.{all_true}
 use Rattle.automaton.specs.Inner.Counts.{InputOk, InRange}
 use Rattle.automaton.specs.Inner.Scan.{rest}
-use Rattle.automaton.specs.Laws.Scan.{rest_more, rest_none}
+use Rattle.automaton.proofs.Laws.Scan.{rest_more, rest_none}
 
 -- ---- a test of each transition of s together with those after it
 

@@ -1,3 +1,2 @@
 -- What the activities of a plan emit, as a table.
 pub mod Inner
-pub mod Laws

@@ -3,4 +3,3 @@ pub mod Lists
 pub mod Parts
 pub mod Tests
 pub mod Inner
-pub mod Laws

@@ -1,6 +1,7 @@
 // A number in a wider type: one function for each pair of widths. `b[u8_to_usize(i)]` asks of i only what the index asks, where
 // `b[i as usize]` asks too that i fits.
 #![tactic(auto)]
+
 ghost use Rattle.std.specs.Prelude.{◌≡◌};
 
 pub fn u8_to_u16(x: u8) -> u16

@@ -1,6 +1,5 @@
 -- The demands, as statements about the definitions that the contracts cite, and the theorems that carry them.
 -- The proofs
-pub mod Laws
 -- Demand 2
 pub mod Accepted
 pub mod Alike

@@ -3,4 +3,3 @@ pub mod Log
 pub mod Host
 pub mod Drive
 pub mod Kept
-pub mod Laws

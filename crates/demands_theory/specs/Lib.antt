@@ -3,4 +3,3 @@ pub mod Nodes
 pub mod TheWord
 pub mod Loading
 pub mod Demand
-pub mod Laws

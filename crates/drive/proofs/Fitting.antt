@@ -11,14 +11,14 @@ use Rattle.drive_records.specs.declared.Record.{Record}
 use Rattle.drive.specs.declared.NotRecorded.{NotRecorded}
 use Rattle.drive.specs.declared.Recorded.{Recorded}
 use Rattle.drive_input.specs.Input.{head_of}
-use Rattle.drive_input.specs.Laws.Whole.{not_whole}
+use Rattle.drive_input.proofs.Laws.Whole.{not_whole}
 use Rattle.drive.specs.Drive.{opened_by}
 use Rattle.drive_records.specs.Records.{opening_record}
 use Rattle.drive.specs.Drive.{parts_from, parts_of, records_from, records_of, joined, text_of, recorded_of, buffer_of}
-use Rattle.drive_records.specs.Laws.Records.{record_length}
+use Rattle.drive_records.proofs.Laws.Records.{record_length}
 use Rattle.drive.proofs.Turns.{text_whole, parts_same}
-use Rattle.drive.specs.Laws.Records.{records_length}
-use Rattle.drive.specs.Laws.Lent.{leaves_none, leaves_short, leaves_all}
+use Rattle.drive.proofs.Laws.Records.{records_length}
+use Rattle.drive.proofs.Laws.Lent.{leaves_none, leaves_short, leaves_all}
 
 joined_length : (rs : List Record) → length (joined rs) ≡ 16 * length rs
 joined_length [] = refl

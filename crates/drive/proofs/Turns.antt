@@ -8,7 +8,7 @@ use lib.ListN.{length}
 use lib.Dec.{leb, eqb}
 use borrow.Author.Tests.{le-leb, leb-true}
 use Rattle.wire.specs.Puts.{Puts}
-use Rattle.wire.specs.Laws.Puts.{puts_none, puts_join}
+use Rattle.wire.proofs.Laws.Puts.{puts_none, puts_join}
 use Rattle.run.specs.declared.Run.{Run}
 use Rattle.run.specs.declared.Call.{Call}
 use Rattle.run.specs.declared.Answer.{Answer}
@@ -21,7 +21,7 @@ use Rattle.drive_input.specs.declared.Part.{Part}
 use Rattle.drive_input.specs.declared.PartRead.{PartRead}
 use Rattle.drive_records.specs.declared.Record.{Record}
 use Rattle.drive_input.specs.Input.{byte_at, parts_at, head_of, ask_at, completion_at, outcome_at, place_at, part_at}
-use Rattle.drive_input.specs.Laws.Whole.{whole_is}
+use Rattle.drive_input.proofs.Laws.Whole.{whole_is}
 use Rattle.drive.specs.Drive.{opened_by}
 use Rattle.drive_records.specs.Records.{record_bytes, opening_record, reply_record, place_record}
 use Rattle.drive.specs.Drive.{on_part, parts_from, parts_of, part_record, run_after, records_from, records_of, joined, text_of}

@@ -1,3 +1,2 @@
 -- A list of calls and questions as bytes, and the records that answer it.
 pub mod Drive
-pub mod Laws

@@ -2,3 +2,4 @@
 pub mod There
 pub mod Offsets
 pub mod Filled
+pub mod Laws

@@ -5,7 +5,7 @@ use Prim.Native.Nat.{ℕ, ◌+◌, ◌≤◌}
 use native.Mathlib.Omega.{arith}
 use lib.ListN.{length}
 use Rattle.wire.specs.Number.{little, field_at}
-use Rattle.wire.specs.Laws.Fields.{are_there, are_short}
+use Rattle.wire.proofs.Laws.Fields.{are_there, are_short}
 use Rattle.wire.specs.declared.Short.{Short}
 
 module _ (b : List ℕ) (at : ℕ) where

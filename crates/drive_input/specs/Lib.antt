@@ -1,3 +1,2 @@
 -- The form of a list of calls and questions as bytes.
 pub mod Input
-pub mod Laws

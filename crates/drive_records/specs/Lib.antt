@@ -1,3 +1,2 @@
 -- The form of the records that answer a list of calls.
 pub mod Records
-pub mod Laws

@@ -1,5 +1,6 @@
 // What Rust and C link: functions on numbers and byte slices.
 #![tactic(auto)]
+
 ghost use Rattle.std.specs.Prelude.{◌≡◌};
 ghost use Rattle.plan.specs.Reading.{read_plan};
 ghost use Rattle.plan.specs.Limits.{InLimits};

@@ -1,4 +1,3 @@
 -- A run as numbers, for a host in C.
 pub mod Held
 pub mod Inner
-pub mod Laws

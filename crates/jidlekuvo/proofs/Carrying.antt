@@ -7,7 +7,7 @@ use native.Mathlib.Omega.{arith}
 use types.Run.{OneOf}
 use denote.Enum.Declared.{tag_of}
 use lib.ListN.{length}
-use Rattle.basis.specs.Laws.Bools.{by_cond}
+use Rattle.basis.proofs.Laws.Bools.{by_cond}
 use Rattle.plan.specs.declared.Kind.{Kind}
 use Rattle.run_window.specs.declared.Found.{Found}
 use Rattle.run_window.specs.Window.{is_started}
@@ -20,7 +20,7 @@ use Rattle.run.specs.declared.Checked.{Checked}
 use Rattle.run.specs.declared.Effect.{Effect}
 use Rattle.run.specs.Calls.{is_done, call_of, reading_of}
 use Rattle.run.specs.Inner.Effects.{sought_by, checked_of, refusing, completes_by, effect_by, effect_of, acted, Named}
-use Rattle.run.specs.Laws.Acting.{call_acted, call_named}
+use Rattle.run.proofs.Laws.Acting.{call_acted, call_named}
 use Rattle.held.specs.declared.Held.{Held}
 use Rattle.held.specs.Held.{run_of}
 use Rattle.jidlekuvo.specs.Inner.Steps.{Carries, carried_by, Plain, stepped_to}

@@ -9,7 +9,7 @@ use Rattle.run.specs.Inner.Effects.{sought_by, found_by, place_of, checked_of, e
 use Rattle.held.specs.declared.Held.{Held}
 use Rattle.held.specs.Held.{run_of}
 use Rattle.held_checks.specs.Inner.Checks.{check_nodes_last}
-use Rattle.held_checks.specs.Laws.Checks.{found_below, effect_read_lem}
+use Rattle.held_checks.proofs.Laws.Checks.{found_below, effect_read_lem}
 use Rattle.jidlekuvo.specs.Inner.Steps.{effect_in}
 
 module _ (h : Held) (c : Call) (check : Check) (q : check ≡ check_nodes_last (run_of h) (reading_of c) (sought_by h.rest.psi c)) where

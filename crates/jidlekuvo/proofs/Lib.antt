@@ -2,3 +2,4 @@
 pub mod Stepping
 pub mod Carrying
 pub mod Deciding
+pub mod Laws

@@ -2,4 +2,3 @@
 pub mod Replies
 pub mod Host
 pub mod Inner
-pub mod Laws

@@ -1,4 +1,3 @@
 -- The whole verdict on bytes.
 pub mod Judge
 pub mod Inner
-pub mod Laws

@@ -1,5 +1,6 @@
 // Calls over the host link: "Hosts drive boards over a serial line." Framing is the line's: a message comes whole.
 #![tactic(auto)]
+
 ghost use Rattle.std.specs.Prelude.{◌≡◌};
 ghost use Rattle.run.specs.Calls.{refuse};
 ghost use Rattle.link.specs.Receive.{receive_of};

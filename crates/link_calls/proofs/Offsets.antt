@@ -6,7 +6,7 @@ use Prim.Native.Nat.{ℕ, ◌≤◌}
 use lib.ListN.{length, get_or}
 use borrow.Author.Tests.{not-true, not-false}
 use Rattle.link_messages.specs.Message.{length_of, has_length}
-use Rattle.link_messages.specs.Laws.Lengths.{its_length}
+use Rattle.link_messages.proofs.Laws.Lengths.{its_length}
 
 module _ (b : List ℕ) where
   -- what the test of the length told

@@ -1,4 +1,3 @@
 -- Calls and replies as messages.
 pub mod Calls
 pub mod Replies
-pub mod Laws

@@ -9,19 +9,19 @@ use lib.ListN.{length, length-append}
 use lib.Dec.{leb}
 use borrow.Author.Tests.{le-leb, lt-leb, leb-true, leb-false, not-true, not-false}
 use Rattle.wire.specs.Puts.{Puts}
-use Rattle.wire.specs.Laws.Puts.{puts_join}
+use Rattle.wire.proofs.Laws.Puts.{puts_join}
 use Rattle.run.specs.declared.Opened.{Opened}
 use Rattle.drive_input.specs.declared.Head.{Head}
 use Rattle.drive_input.specs.declared.HeadRead.{HeadRead}
 use Rattle.drive_input.specs.Input.{parts_at, head_of}
-use Rattle.drive_input.specs.Laws.Whole.{whole_is, not_whole}
+use Rattle.drive_input.proofs.Laws.Whole.{whole_is, not_whole}
 use Rattle.drive_records.specs.declared.Record.{Record}
 use Rattle.drive_records.specs.Records.{record_bytes, opening_record}
-use Rattle.drive_records.specs.Laws.Records.{record_length}
+use Rattle.drive_records.proofs.Laws.Records.{record_length}
 use Rattle.drive.specs.declared.NotRecorded.{NotRecorded}
 use Rattle.drive.specs.declared.Recorded.{Recorded}
 use Rattle.drive.specs.Drive.{opened_by}
-use Rattle.drive.specs.Laws.Lent.{leaves_none, leaves_short, leaves_all}
+use Rattle.drive.proofs.Laws.Lent.{leaves_none, leaves_short, leaves_all}
 use Rattle.link_drive.specs.LinkDrive.{messages_from, link_text, linked_of, link_buffer}
 use Rattle.link_drive.specs.Inner.Answers.{answers_from}
 use Rattle.link_drive.proofs.Turns.{counted}

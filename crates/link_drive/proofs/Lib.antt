@@ -2,3 +2,4 @@
 pub mod Turns
 pub mod Putting
 pub mod Fitting
+pub mod Laws

@@ -7,14 +7,14 @@ use native.Mathlib.Omega.{arith}
 use lib.ListN.{length, set, take, drop, length-set, length-take, length-drop}
 use lib.Seq.{sets-eq}
 use Rattle.wire.specs.Puts.{Puts}
-use Rattle.wire.specs.Laws.Puts.{puts_join}
+use Rattle.wire.proofs.Laws.Puts.{puts_join}
 use Rattle.run.specs.declared.Reply.{Reply}
-use Rattle.drive_records.specs.Laws.Placed.{placed}
+use Rattle.drive_records.proofs.Laws.Placed.{placed}
 use Rattle.link_messages.specs.declared.Message.{Message}
 use Rattle.link_messages.specs.Writing.{buffer_of}
 use Rattle.link_calls.specs.Replies.{to_host, of_reply, encode_reply}
 use Rattle.link_drive.specs.LinkDrive.{answered}
-use Rattle.link_calls.specs.Laws.Lengths.{reply_left}
+use Rattle.link_calls.proofs.Laws.Lengths.{reply_left}
 
 module _ (r : Reply) where
   -- the reply, at the front of a part of the buffer

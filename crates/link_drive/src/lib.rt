@@ -1,6 +1,7 @@
 // A whole list of messages as bytes, driven through a run: for tests from another language. The form of the input and of the
 // answers is in specs/LinkDrive.antt, that of the opening before them in drive_input.
 #![tactic(auto)]
+
 ghost use Rattle.std.specs.Prelude.{◌≡◌, ◌+◌, ◌≤◌, leb, length};
 ghost use Rattle.wire.specs.Puts.{Puts};
 ghost use Rattle.drive_input.specs.Input.{head_of};

@@ -7,7 +7,7 @@ use native.Mathlib.Omega.{arith}
 use lib.ListN.{length}
 use borrow.Author.Tests.{le-leb, lt-leb}
 use Rattle.wire.specs.Puts.{Puts}
-use Rattle.wire.specs.Laws.Puts.{left_short, left_all}
+use Rattle.wire.proofs.Laws.Puts.{left_short, left_all}
 use Rattle.link_messages.specs.declared.NotSent.{NotSent}
 use Rattle.link_messages.specs.declared.Sent.{Sent}
 use Rattle.link_messages.specs.Writing.{sent_by, buffer_by}

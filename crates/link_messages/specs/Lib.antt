@@ -2,4 +2,3 @@
 pub mod Message
 pub mod Writing
 pub mod Inner
-pub mod Laws

@@ -8,14 +8,14 @@ use borrow.Author.Tests.{le-leb, lt-leb}
 use lib.ListN.{length, length-append}
 use lib.Seq.{sets-eq}
 use Rattle.wire.specs.Puts.{Puts}
-use Rattle.wire.specs.Laws.Puts.{puts_join}
+use Rattle.wire.proofs.Laws.Puts.{puts_join}
 use Rattle.run.specs.declared.Run.{Run}
 use Rattle.run.specs.declared.Call.{Call}
 use Rattle.run.specs.declared.Answer.{Answer}
 use Rattle.run.specs.Calls.{call_of}
 use Rattle.drive_records.specs.declared.Record.{Record}
 use Rattle.drive_records.specs.Records.{record_bytes, reply_record}
-use Rattle.drive_records.specs.Laws.Records.{record_length}
+use Rattle.drive_records.proofs.Laws.Records.{record_length}
 use Rattle.made_up.specs.Made.{made_of, call_at, first_from, second_from}
 use Rattle.made_up.specs.Answers.{made_records, made_code, made_buffer}
 

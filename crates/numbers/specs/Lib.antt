@@ -1,3 +1,2 @@
 -- Answers as numbers, for callers in another language.
 pub mod Codes
-pub mod Laws

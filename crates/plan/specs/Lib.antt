@@ -7,4 +7,3 @@ pub mod Nodes
 pub mod Sections
 pub mod Moves
 pub mod Reading
-pub mod Laws

@@ -11,7 +11,7 @@ use lib.Dec.{ltb, eqb}
 use lib.Pow.{pow_pos}
 use borrow.Author.Tests.{lt-ltb, le-ltb, eq-eqb, ne_eqb}
 use Rattle.wire.specs.Number.{field_at}
-use Rattle.wire.specs.Laws.Fields.{Present, are_there, are_short}
+use Rattle.wire.proofs.Laws.Fields.{Present, are_there, are_short}
 use Rattle.wire.specs.declared.Byte.{Byte}
 use Rattle.wire.specs.declared.Short.{Short}
 use Rattle.wire.specs.declared.Long.{Long}

@@ -4,7 +4,7 @@ use mathlib.Core.List.{List}
 use Prim.Native.Nat.{ℕ, zero, suc, ◌+◌, ◌*◌, ◌-◌, ◌≤◌, ◌<◌}
 use native.Mathlib.Omega.{arith}
 use lib.ListN.{set}
-use Rattle.plan_fields.specs.Laws.Read.{byte_most}
+use Rattle.plan_fields.proofs.Laws.Read.{byte_most}
 use Rattle.plan.specs.Fields.{on_field, on_step, byte_at, count_at, numbers_then}
 use Rattle.plan.specs.Nodes.{node_at, zero_node}
 use Rattle.plan.specs.Sections.{no_activities, nodes_then, activities_loop}

@@ -4,12 +4,12 @@ ghost use Rattle.wire.specs.Number.{present, optional_bytes, number_bytes};
 ghost use Rattle.wire.specs.Map.{map_of};
 ghost use Rattle.wire.specs.Puts.{Puts};
 ghost use Rattle.format.specs.Format.{print};
-ghost use Rattle.format.specs.Laws.Format.{flat};
+ghost use Rattle.format.specs.Inner.Flat.{flat};
 ghost use Rattle.plan.specs.Plan.{moves_of};
 ghost use Rattle.plan.specs.Limits.{InLimits};
 ghost use Rattle.plan_file.specs.PlanFile.{node_map, input_bit, output_bit, move_map, plan_file};
 ghost use Rattle.plan_write.specs.Inner.Bytes.{kind_bytes, node_bytes, input_bytes, output_bytes, move_bytes, automaton_bytes, named_bytes, section_bytes, activity_bytes};
-ghost use Rattle.plan_write.specs.Laws.Sums.{digit, kind_bit};
+ghost use Rattle.plan_write.specs.Inner.Bits.{digit, kind_bit};
 
 use basis::u8_to_u32;
 use plan::{Automaton, Input, Kind, Node, Output, Plan, Transition};

@@ -1,3 +1,4 @@
 pub mod Opens
 pub mod Telling
 pub mod Unlearnt
+pub mod Laws

@@ -13,12 +13,12 @@ use Rattle.plan.specs.declared.Fault.{Fault}
 use Rattle.plan.specs.declared.Verdict.{Verdict}
 use Rattle.plan.specs.declared.PlanRead.{PlanRead}
 use Rattle.judge.specs.Judge.{accepted, judge_of}
-use Rattle.judge.specs.Laws.Judge.{passed, read_limits}
+use Rattle.judge.proofs.Laws.Judge.{passed, read_limits}
 use Rattle.run.specs.declared.Unopened.{Unopened}
 use Rattle.run_opening.specs.declared.Short.{Short}
 use Rattle.run_opening.specs.Given.{at_first, availabilities, any_above}
 use Rattle.run_opening.specs.Short.{on_short}
-use Rattle.run_opening.specs.Laws.Given.{first_in}
+use Rattle.run_opening.proofs.Laws.Given.{first_in}
 use Rattle.run.specs.Limits.{slack_in_limits}
 use Rattle.automaton.specs.Next.{next_of}
 use Rattle.times.specs.declared.Progress.{Progress}
@@ -26,7 +26,7 @@ use Rattle.run_window.specs.Window.{vacant}
 use Rattle.run_loading.specs.Inner.Loading.{Loads}
 use Rattle.run_loading.specs.Loading.{load}
 use Rattle.run_loading.specs.declared.Loading.{Loading}
-use Rattle.run.specs.Laws.Loaded.{load_parts}
+use Rattle.run.proofs.Laws.Loaded.{load_parts}
 use Rattle.run.specs.Opening.{uncalled, fresh, unopened, after_first, first_loaded, begin, open_plan, open_judged, open_of}
 use Rattle.run.specs.Inner.Calls.{first_path}
 

@@ -4,7 +4,7 @@ use mathlib.Core.List.{List, [], ◌∷◌}
 use Prim.Native.Nat.{ℕ, zero, suc, ◌+◌, ◌*◌, ◌≤◌, ◌<◌}
 use native.Mathlib.Omega.{arith}
 use lib.ListN.{get_or, set}
-use Rattle.basis.specs.Laws.Bools.{by_test}
+use Rattle.basis.proofs.Laws.Bools.{by_test}
 use Rattle.plan.specs.Plan.{outcomes_of}
 use Rattle.plan.specs.declared.Plan.{Plan}
 use Rattle.times.specs.declared.Instance.{Instance}

@@ -5,4 +5,3 @@ pub mod Loading
 pub mod Opening
 pub mod Calls
 pub mod Inner
-pub mod Laws

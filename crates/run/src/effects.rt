@@ -1,7 +1,7 @@
 // What a call does to a run: decided from what the checks say, the kind of the node that they found and how many outcomes that
 // node has. None of these functions is handed the run: who takes a run by value copies it.
 ghost use Rattle.std.specs.Prelude.{◌≡◌};
-ghost use Rattle.run_checks.specs.Laws.Checks.{on_report};
+ghost use Rattle.run_checks.specs.Inner.Report.{on_report};
 ghost use Rattle.run.specs.Calls.{reading_of};
 ghost use Rattle.run.specs.Inner.Effects.{sought_by, found_by, place_of, outcomes_for, refusing, completes_by, hears_as, learns_as, starts_by, effect_for, effect_on, effect_of};
 

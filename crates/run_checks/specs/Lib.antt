@@ -2,4 +2,4 @@
 pub mod Limits
 pub mod Order
 -- what holds of them
-pub mod Laws
+pub mod Inner

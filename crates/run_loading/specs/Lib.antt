@@ -1,4 +1,3 @@
 -- Loading: one path and further paths, over the plan, where the behaviour stands, and the window.
 pub mod Loading
 pub mod Inner
-pub mod Laws

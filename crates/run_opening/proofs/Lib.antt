@@ -1,2 +1,3 @@
 pub mod Filled
 pub mod Shortest
+pub mod Laws

@@ -2,4 +2,3 @@
 pub mod Path
 pub mod Pathed
 pub mod Inner
-pub mod Laws

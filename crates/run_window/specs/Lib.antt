@@ -3,5 +3,4 @@ pub mod Window
 -- what holds of them
 pub mod Places
 pub mod Where
-pub mod Laws
 pub mod Inner

@@ -5,4 +5,3 @@ pub mod Queues
 pub mod Engine
 pub mod Limits
 pub mod Inner
-pub mod Laws

@@ -3,4 +3,3 @@ pub mod Word
 pub mod Combined
 pub mod Times
 pub mod Paths
-pub mod Laws

@@ -1,5 +1,6 @@
 // "The program timetable reads the plan's length (two bytes), the plan and outcome bytes".
 #![tactic(auto)]
+
 use timetable_output::{print_cut, print_table};
 use timetable_text::plan_length;
 

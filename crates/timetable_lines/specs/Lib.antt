@@ -1,3 +1,3 @@
 -- The lines that the program timetable prints, and how long they are.
 pub mod Lines
-pub mod Laws
+pub mod Inner

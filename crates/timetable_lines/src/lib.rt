@@ -6,7 +6,7 @@ ghost use Rattle.basis.specs.Parts.{part};
 ghost use Rattle.times.specs.Times.{specified};
 ghost use Rattle.wire.specs.Puts.{Puts};
 ghost use Rattle.timetable_lines.specs.Lines.{header, row, free_of, ended_of, waiting_of, refused};
-ghost use Rattle.timetable_lines.specs.Laws.Lines.{spaced};
+ghost use Rattle.timetable_lines.specs.Inner.Lines.{spaced};
 
 use run_window::Entry;
 use time::Specified;

@@ -5,16 +5,16 @@ use mathlib.Core.List.{List, [], ◌++◌, append-nil, append_assoc}
 use Prim.Native.Nat.{ℕ, suc, ◌-◌, ◌≤◌, ◌<◌}
 use native.Mathlib.Omega.{arith}
 use lib.ListN.{length, take}
-use Rattle.basis.specs.Laws.Bools.{clash}
+use Rattle.basis.proofs.Laws.Bools.{clash}
 use Rattle.plan.specs.declared.Plan.{Plan}
 use Rattle.judge.specs.Judge.{judge_of}
 use Rattle.times.specs.declared.Progress.{Progress}
 use Rattle.timetable_turns.specs.Inner.Turn.{OneTurn, turn_of, turns_from, waits_of, read_after, most_turns, is_refused, first_text, first_progress}
 use Rattle.timetable_turns.specs.Timetable.{text_of_plan}
-use Rattle.timetable_turns.specs.Laws.ByTurns.{plan_by_turns}
+use Rattle.timetable_turns.proofs.Laws.ByTurns.{plan_by_turns}
 use Rattle.timetable_text.specs.Lent.{Lends, past_of}
-use Rattle.timetable_text.specs.Laws.Lent.{lent_puts, put_front}
-use Rattle.timetable_turns.specs.Laws.Hearing.{heard_turn}
+use Rattle.timetable_text.proofs.Laws.Lent.{lent_puts, put_front}
+use Rattle.timetable_turns.proofs.Laws.Hearing.{heard_turn}
 use Rattle.timetable_steps.specs.declared.Heard.{Heard}
 use Rattle.timetable_text.specs.declared.Put.{Put}
 use Rattle.timetable_streams.specs.declared.Output.{Output}

@@ -19,8 +19,8 @@ use Rattle.timetable_steps.specs.Inner.Steps.{next_step, step_of, output_of}
 use Rattle.timetable_streams.specs.Inner.Asking.{asks}
 use Rattle.timetable_turns.specs.Inner.Turn.{OneTurn, turn_of, is_waiting, waits_of, Open}
 use Rattle.timetable_turns.specs.Inner.Answers.{Drafts}
-use Rattle.timetable_turns.specs.Laws.InLimits.{turn_open}
-use Rattle.timetable_turns.specs.Laws.Short.{turn_short}
+use Rattle.timetable_turns.proofs.Laws.InLimits.{turn_open}
+use Rattle.timetable_turns.proofs.Laws.Short.{turn_short}
 use Rattle.timetable_turns.specs.declared.Drafted.{Drafted}
 use Rattle.timetable_streams.specs.declared.Output.{Output}
 use Rattle.timetable_streams.specs.Inner.Gathering.{output, Gathers, HandsOn}

@@ -1,5 +1,6 @@
 // "The program timetable reads the plan's length (two bytes), the plan and outcome bytes", and prints.
 #![tactic(auto)]
+
 ghost use Rattle.std.specs.Prelude.{◌≡◌, length};
 ghost use Rattle.plan.specs.Fault.{number_of};
 ghost use Rattle.plan.specs.Limits.{InLimits};

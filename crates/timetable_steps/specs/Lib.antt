@@ -1,3 +1,2 @@
 -- What a turn of the table does, and the tables in which it is looked up.
-pub mod Laws
 pub mod Inner

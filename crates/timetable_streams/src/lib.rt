@@ -1,5 +1,6 @@
 // Text on its way out, and outcome bytes on their way in.
 #![tactic(auto)]
+
 ghost use Rattle.std.specs.Prelude.{◌≡◌, cond, ◌+◌, ◌-◌, ◌≤◌, ◌<◌, length};
 ghost use Rattle.timetable_streams.specs.Inner.Gathering.{HandsOn, Rests, Keeps};
 ghost use Rattle.timetable_streams.specs.Inner.Asking.{Held, Asks, Listens};

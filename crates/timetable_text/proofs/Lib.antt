@@ -1,2 +1,3 @@
 pub mod Turns
 pub mod Copying
+pub mod Laws

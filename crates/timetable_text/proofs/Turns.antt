@@ -4,9 +4,9 @@ use mathlib.Core.List.{List, [], ◌∷◌, ◌++◌}
 use Prim.Native.Nat.{ℕ, suc, ◌+◌, ◌-◌, ◌/◌, ◌%◌, ◌≤◌, ◌<◌}
 use native.Mathlib.Omega.{arith}
 use Rattle.wire.specs.Puts.{Puts}
-use Rattle.wire.specs.Laws.Puts.{puts_none, puts_join}
+use Rattle.wire.proofs.Laws.Puts.{puts_none, puts_join}
 use Rattle.timetable_text.specs.Text.{digits}
-use Rattle.timetable_text.specs.Laws.Digits.{digits_small, digits_more}
+use Rattle.timetable_text.proofs.Laws.Digits.{digits_small, digits_more}
 
 pub put_none : (l : List ℕ) (at k n : ℕ) → k ≡ 0 → Puts l at (digits k n) l at
 unfolding digits

@@ -2,4 +2,3 @@
 pub mod Text
 -- the text in a lent buffer
 pub mod Lent
-pub mod Laws

@@ -4,7 +4,7 @@ use mathlib.Core.Bool.{Bool, false}
 use mathlib.Core.List.{List}
 use Prim.Native.Nat.{ℕ, ◌<◌}
 use lib.ListN.{get_or}
-use Rattle.basis.specs.Laws.Bools.{clash}
+use Rattle.basis.proofs.Laws.Bools.{clash}
 use Rattle.plan.specs.Fault.{number_of}
 use Rattle.plan.specs.declared.Fault.{Fault}
 use Rattle.plan.specs.declared.PlanRead.{PlanRead}
@@ -16,8 +16,8 @@ use Rattle.timetable_text.specs.declared.Put.{Put}
 use Rattle.timetable_turns.specs.Inner.Turn.{is_refused, first_text, first_progress, Open}
 use Rattle.timetable_text.specs.Lent.{Lends}
 use Rattle.timetable_turns.specs.Inner.Answers.{Begins}
-use Rattle.timetable_text.specs.Laws.Lent.{lends_as}
-use Rattle.timetable_turns.specs.Laws.InLimits.{judged_limits, first_open}
+use Rattle.timetable_text.proofs.Laws.Lent.{lends_as}
+use Rattle.timetable_turns.proofs.Laws.InLimits.{judged_limits, first_open}
 
 pub lends_refused : (before after : List ℕ) (r : Put) (v : Verdict) (f : Fault) (place number : ℕ) → number ≡ number_of f → v ≡ Verdict.Refused f place → Lends before 0 (refused number place) after r → Lends before 0 (first_text v) after r
 lends_refused before after r v f place number n e l = lends_as before 0 _ _ after r (ap (λ (x : ℕ). refused x place) n ∙ ap first_text (sym e)) l

@@ -7,11 +7,12 @@ use native.Mathlib.Nat.{add-zero}
 use native.Mathlib.Omega.{arith}
 use lib.ListN.{length, take, drop}
 use Rattle.wire.specs.Puts.{Puts}
-use Rattle.wire.specs.Laws.Puts.{puts_none, puts_join}
+use Rattle.wire.proofs.Laws.Puts.{puts_none, puts_join}
 use Rattle.plan.specs.declared.Plan.{Plan}
 use Rattle.judge.specs.Judge.{judge_of}
 use Rattle.times.specs.declared.Progress.{Progress}
-use Rattle.timetable_lines.specs.Laws.Lines.{Remains, remains_all, remains_less}
+use Rattle.timetable_lines.specs.Inner.Lines.{Remains}
+use Rattle.timetable_lines.proofs.Laws.Lines.{remains_all, remains_less}
 use Rattle.timetable_turns.specs.declared.Begun.{Begun}
 use Rattle.timetable_turns.specs.declared.Drafted.{Drafted}
 use Rattle.timetable_steps.specs.declared.Heard.{Heard}
@@ -21,11 +22,11 @@ use Rattle.timetable_turns.specs.Timetable.{text_of_plan}
 use Rattle.timetable_text.specs.Lent.{past_of}
 use Rattle.timetable_turns.specs.Inner.Answers.{Begins, Drafts}
 use Rattle.timetable_turns.specs.Inner.Whole.{left_text, Standing}
-use Rattle.timetable_turns.specs.Laws.ByTurns.{plan_by_turns}
-use Rattle.timetable_turns.specs.Laws.InLimits.{turn_open}
-use Rattle.timetable_text.specs.Laws.Lent.{lent_puts, put_front}
-use Rattle.timetable_turns.specs.Laws.Short.{turn_short, first_short}
-use Rattle.timetable_turns.specs.Laws.Whole.{left_turn}
+use Rattle.timetable_turns.proofs.Laws.ByTurns.{plan_by_turns}
+use Rattle.timetable_turns.proofs.Laws.InLimits.{turn_open}
+use Rattle.timetable_text.proofs.Laws.Lent.{lent_puts, put_front}
+use Rattle.timetable_turns.proofs.Laws.Short.{turn_short, first_short}
+use Rattle.timetable_turns.proofs.Laws.Whole.{left_turn}
 
 pub puts_as : (before : List ℕ) (at : ℕ) (text line after : List ℕ) (next : ℕ) → text ≡ line → Puts before at text after next → Puts before at line after next
 puts_as before at text line after next e p = subst (λ (x : List ℕ). Puts before at x after next) e p

@@ -7,15 +7,15 @@ use native.Mathlib.Omega.{arith}
 use lib.ListN.{get_or}
 use Rattle.basis.specs.Parts.{part}
 use Rattle.wire.specs.Puts.{Puts}
-use Rattle.wire.specs.Laws.Puts.{puts_none, puts_join}
+use Rattle.wire.proofs.Laws.Puts.{puts_none, puts_join}
 use Rattle.plan.specs.Plan.{past_node}
 use Rattle.plan.specs.declared.Node.{Node}
 use Rattle.times.specs.declared.Schedule.{Schedule}
 use Rattle.run_window.specs.declared.Entry.{Entry}
 use Rattle.run_path.specs.Path.{is_work, loaded, entries_from}
-use Rattle.run_path.specs.Laws.Collecting.{rest, rest_all, rest_by_lem, rest_none}
+use Rattle.run_path.proofs.Laws.Collecting.{rest, rest_all, rest_by_lem, rest_none}
 use Rattle.timetable_lines.specs.Lines.{row, rows}
-use Rattle.timetable_lines.specs.Laws.Lines.{row_within}
+use Rattle.timetable_lines.proofs.Laws.Lines.{row_within}
 
 module _ (position a : ℕ) (s : Schedule) (l : List Node) (size : ℕ) where
   -- the rows of the nodes from number n on

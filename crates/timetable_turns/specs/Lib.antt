@@ -1,5 +1,4 @@
 -- The lines of the program timetable, as text for an input.
 pub mod Timetable
 -- of a whole input
-pub mod Laws
 pub mod Inner

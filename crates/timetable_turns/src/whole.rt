@@ -1,7 +1,7 @@
 // The timetable of a whole input. The inner functions put what fits, and answer the offset past the text.
 ghost use Rattle.std.specs.Prelude.{◌≡◌, cond, ◌+◌, ◌≤◌, ◌<◌, length, drop, take};
 ghost use Rattle.wire.specs.Puts.{Puts};
-ghost use Rattle.timetable_lines.specs.Laws.Lines.{Remains};
+ghost use Rattle.timetable_lines.specs.Inner.Lines.{Remains};
 ghost use Rattle.timetable_turns.specs.Inner.Turn.{head_of, most_turns};
 ghost use Rattle.timetable_turns.specs.Timetable.{timetable_of, text_of_plan};
 ghost use Rattle.timetable_text.specs.Lent.{Lends};

@@ -7,7 +7,7 @@ use native.Mathlib.Omega.{arith}
 use lib.ListN.{get_or, set}
 use lib.Seq.{sets}
 use Rattle.wire.specs.Number.{bytes_of, number_bytes}
-use Rattle.wire.specs.Laws.Fields.{length_bytes, length-numbers}
+use Rattle.wire.proofs.Laws.Fields.{length_bytes, length-numbers}
 use Rattle.wire.specs.Puts.{Puts}
 
 module _ (out out' : List ℕ) (off left k rest low : ℕ) (more : left ≡ suc k) (is : low ≡ rest % 256) (put : out' ≡ set out off low) where

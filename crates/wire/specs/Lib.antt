@@ -3,4 +3,3 @@ pub mod Number
 pub mod Map
 -- Bytes put into a lent buffer
 pub mod Puts
-pub mod Laws

@@ -7,7 +7,7 @@ use mathlib.Core.Path.{◌≡◌, ap, ◌∙◌}
 use native.Mathlib.Omega.{arith}
 use lib.ListN.{get_or, set}
 use Rattle.activity.specs.Inner.Copied.{filled, copied}
-use Rattle.activity.specs.Laws.Copied.{filled_more}
+use Rattle.activity.proofs.Laws.Copied.{filled_more}
 use borrow.Author.Rules.{rules}
 use Rattle.activity.proofs.activity_of.Given as goal
 

@@ -8,7 +8,7 @@ use Rattle.plan.specs.declared.Transition.{Transition}
 use Rattle.plan.specs.Plan.{past_move}
 use Rattle.automaton.specs.Next.{chosen_from, chosen_of}
 use Rattle.automaton.specs.Inner.Scan.{rest}
-use Rattle.automaton.specs.Laws.Scan.{rest_all, chosen_here, chosen_other, chosen_past, chosen_none}
+use Rattle.automaton.proofs.Laws.Scan.{rest_all, chosen_here, chosen_other, chosen_past, chosen_none}
 use borrow.Author.Rules.{rules}
 use Rattle.automaton.proofs.chosen_of.Given as goal
 

@@ -7,7 +7,7 @@ use Rattle.plan.specs.declared.Transition.{Transition}
 use Rattle.plan.specs.Plan.{past_move}
 use Rattle.automaton.specs.Next.{ways_from, first_by, first_of}
 use Rattle.automaton.specs.Inner.Scan.{rest}
-use Rattle.automaton.specs.Laws.Scan.{rest_all, ways_here, ways_past, ways_none}
+use Rattle.automaton.proofs.Laws.Scan.{rest_all, ways_here, ways_past, ways_none}
 use borrow.Author.Rules.{rules}
 use Rattle.automaton.proofs.first_of.Goals as goal
 

@@ -11,7 +11,7 @@ use Rattle.plan.specs.declared.Automaton.{Automaton}
 use Rattle.plan.specs.Plan.{past_move}
 use Rattle.automaton.specs.Next.{added, ways_from, ways_out, next_by}
 use Rattle.automaton.specs.Inner.Scan.{rest}
-use Rattle.automaton.specs.Laws.Scan.{rest_all, ways_here, ways_past, ways_none}
+use Rattle.automaton.proofs.Laws.Scan.{rest_all, ways_here, ways_past, ways_none}
 use borrow.Author.Rules.{rules}
 use Rattle.automaton.proofs.next_of.Invariants.{later, kept, unkept}
 use Rattle.automaton.proofs.next_of.Goals as goal

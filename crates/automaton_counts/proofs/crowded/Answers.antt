@@ -1,5 +1,5 @@
 use Rattle.basis.specs.Inner.Tells.{holds, fails}
-use Rattle.basis.specs.Laws.Bools.{clash}
+use Rattle.basis.proofs.Laws.Bools.{clash}
 use Rattle.basis.specs.Tests.{flag}
 use Rattle.automaton.specs.Tests.{at}
 use Rattle.automaton_counts.proofs.Tools.{crowd_at, no_crowd}

@@ -1,6 +1,6 @@
 -- `crowded` looks at all counts: none before k is above 8 at a reached state.
 use Rattle.basis.specs.Inner.Tells.{holds, fails}
-use Rattle.basis.specs.Laws.Bools.{clash}
+use Rattle.basis.proofs.Laws.Bools.{clash}
 use Rattle.basis.specs.Tests.{flag}
 use Rattle.automaton.specs.Tests.{at}
 use Rattle.automaton_counts.proofs.Tools.{crowd_at, no_crowd}

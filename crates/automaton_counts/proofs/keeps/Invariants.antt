@@ -1,5 +1,5 @@
 -- `keeps` looks at all transitions of reached states.
-use Rattle.basis.specs.Laws.Bools.{clash as true-false}
+use Rattle.basis.proofs.Laws.Bools.{clash as true-false}
 use Rattle.basis.specs.Tests.{flag}
 use Rattle.automaton_counts.specs.Inner.Emits.{gives}
 use Rattle.automaton.specs.Inner.Counts.{Kept}

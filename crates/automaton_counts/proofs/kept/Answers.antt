@@ -1,7 +1,7 @@
 use Rattle.automaton.specs.Tests.{at}
 use Rattle.automaton.specs.Inner.Counts.{Fitting}
 use Rattle.automaton_counts.proofs.Tools.{sure, fails}
-use Rattle.automaton_counts.specs.Laws.Emits.{gives_few}
+use Rattle.automaton_counts.proofs.Laws.Emits.{gives_few}
 use Rattle.automaton_counts.specs.Inner.Emits.{gives}
 use borrow.Author.Count.{below_more}
 use Prim.Native.Nat.{ℕ, ◌+◌, ◌*◌, ◌-◌, ◌≤◌, ◌<◌}

@@ -6,7 +6,7 @@ use borrow.Author.Count.{below_more}
 use borrow.Author.Tests.{not-true, not-false}
 use Rattle.basis.specs.Inner.Tells.{holds, fails}
 use Rattle.basis.specs.Tests.{flag}
-use Rattle.basis.specs.Laws.Bools.{clash}
+use Rattle.basis.proofs.Laws.Bools.{clash}
 use Rattle.automaton.specs.Tests.{at}
 use Rattle.plan.specs.Plan.{final_bit}
 use Rattle.automaton_counts.proofs.Tools.{left_at, no_left, final_same}

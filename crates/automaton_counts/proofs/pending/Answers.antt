@@ -1,8 +1,8 @@
 -- `pending` judges by the counts: a transition that does not fit, something left, more than 8.
-use Rattle.basis.specs.Laws.Tells.{told_true, told_false}
-use Rattle.automaton_counts.specs.Laws.Emits.{gives_bounded}
+use Rattle.basis.proofs.Laws.Tells.{told_true, told_false}
+use Rattle.automaton_counts.proofs.Laws.Emits.{gives_bounded}
 use Rattle.automaton.specs.Inner.OnPaths.{broken25, broken26, neither}
-use Rattle.automaton.specs.Laws.Counts.{clash_25, left_25, crowd_26, crowd_of, not_25}
+use Rattle.automaton.proofs.Laws.Counts.{clash_25, left_25, crowd_26, crowd_of, not_25}
 use borrow.Author.Tests.{not-true, not-false}
 use mathlib.Core.Path.{refl}
 use native.Mathlib.Omega.{arith}

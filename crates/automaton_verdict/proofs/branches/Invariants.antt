@@ -10,7 +10,7 @@ use Rattle.plan.specs.declared.Transition.{Transition}
 use Rattle.plan.specs.Plan.{past_move}
 use Rattle.automaton.specs.Number.{apart_from, branches_in, branches}
 use Rattle.automaton.specs.Inner.Scan.{rest}
-use Rattle.automaton.specs.Laws.Scan.{rest_all}
+use Rattle.automaton.proofs.Laws.Scan.{rest_all}
 use Rattle.automaton_verdict.proofs.Tools.{branches_scans, scan-other, scan_good, scan_bad, scan_done}
 use borrow.Author.Rules.{rules}
 use Rattle.automaton_verdict.proofs.branches.Given as goal

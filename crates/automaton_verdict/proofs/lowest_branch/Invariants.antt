@@ -4,7 +4,7 @@ use Prim.Native.Nat.{◌-◌, ◌≤◌}
 use native.Mathlib.Omega.{arith}
 use borrow.Author.Tests.{not-true, not-false}
 use Rattle.automaton.specs.Number.{lowest, branches}
-use Rattle.automaton.specs.Laws.Lowest.{scan_starts, scan_passes, scan_stops, scan_ends}
+use Rattle.automaton.proofs.Laws.Lowest.{scan_starts, scan_passes, scan_stops, scan_ends}
 use borrow.Author.Rules.{rules}
 use Rattle.automaton_verdict.proofs.lowest_branch.Given as goal
 

@@ -1,6 +1,6 @@
 -- Counted first: a buffer that is too short stays as it was.
 use native.Mathlib.Omega.{arith}
-use Rattle.drive_input.specs.Laws.Whole.{whole_parts}
+use Rattle.drive_input.proofs.Laws.Whole.{whole_parts}
 use Rattle.drive.proofs.Fitting.{all_parts, too_short, all_written}
 use borrow.Author.Rules.{rules}
 use Rattle.drive.proofs.if_they_fit.Goals as goal

@@ -3,8 +3,8 @@ use mathlib.Core.Path.{refl}
 use native.Mathlib.Omega.{arith}
 use Prim.Native.Nat.{◌+◌, ◌-◌}
 use Rattle.drive_records.specs.Records.{record_bytes}
-use Rattle.drive_records.specs.Laws.Records.{record_length}
-use Rattle.drive_records.specs.Laws.Placed.{placed}
+use Rattle.drive_records.proofs.Laws.Records.{record_length}
+use Rattle.drive_records.proofs.Laws.Placed.{placed}
 use borrow.Author.Rules.{rules}
 use Rattle.drive_records.proofs.put_at.Goals as goal
 

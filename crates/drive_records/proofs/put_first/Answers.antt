@@ -1,5 +1,5 @@
 -- The parts of a record are put one after the other.
-use Rattle.wire.specs.Laws.Puts.{puts_join}
+use Rattle.wire.proofs.Laws.Puts.{puts_join}
 use Rattle.drive_records.specs.Records.{record_bytes}
 use borrow.Author.Rules.{rules}
 use Rattle.drive_records.proofs.put_first.Goals as goal

@@ -3,7 +3,7 @@ use borrow.Author.Rules.{rules}
 use mathlib.Core.Path.{◌≡◌, refl, sym, ◌∙◌, ap, subst}
 use mathlib.Core.List.{map}
 use lib.ListN.{length, length-map}
-use Rattle.basis.specs.Laws.Lists.{unmapped}
+use Rattle.basis.proofs.Laws.Lists.{unmapped}
 use Rattle.times.specs.declared.Progress.{Progress}
 use Rattle.run_checks.specs.declared.Halt.{Halt}
 use Rattle.run_checks.specs.declared.Moment.{Moment}
@@ -20,40 +20,41 @@ use Rattle.jidlekuvo.proofs.Carrying.{tag_settles, answered, named, carries, car
 use borrow.Enum.Refused.{opened}
 use Rattle.jidlekuvo.proofs.outcome.Goals as goal
 
-abbrev called : tie.Start → Call
-called s = let a = s.args in Call.Outcome (clock a.t) a.position a.node a.o
-
 pub carried-requires : goal.carried-requires
 unfolding run_of
 carried-requires c =
-    let windowed : length c.args.h.rest.window ≡ 512 = search unmapped in
+    let windowed : length c.args.h.rest.window ≡ 512 = c.well_formed.0.1.1.0.1.1.1.1.1.0.1.0.1 in
     let long : length (run_of c.args.h).window ≡ 512 = length-map c.args.h.rest.window entry_of ∙ windowed in
-    carries c.args.h (called c.before.before.before) c.outcome_effect-effect.result c.outcome_effect-effect.ensures (long) (tag_settles c.outcome_effect-effect.result (opened c.in_default.in_default-own.keys2))
+    let called : Call = let a = c.args in Call.Outcome (clock a.t) a.position a.node a.o in
+    carries c.args.h (called) c.outcome_effect-effect.result c.outcome_effect-effect.ensures (long) (tag_settles c.outcome_effect-effect.result (opened c.in_default.in_default-own.keys2))
 
 pub returns-in_default : goal.returns-in_default
 unfolding call_of run_of
 returns-in_default c =
-    let windowed : length c.args.h.rest.window ≡ 512 = search unmapped in
+    let windowed : length c.args.h.rest.window ≡ 512 = c.well_formed.0.1.1.0.1.1.1.1.1.0.1.0.1 in
     let long : length (run_of c.args.h).window ≡ 512 = length-map c.args.h.rest.window entry_of ∙ windowed in
-    c.carried.ensures ∙ carried_out c.args.h (called c.before.before.before.before) c.outcome_effect-effect.result c.outcome_effect-effect.ensures (long) (tag_settles c.outcome_effect-effect.result (opened c.in_default.in_default-own.keys2))
+    let called : Call = let a = c.args in Call.Outcome (clock a.t) a.position a.node a.o in
+    c.carried.ensures ∙ carried_out c.args.h (called) c.outcome_effect-effect.result c.outcome_effect-effect.ensures (long) (tag_settles c.outcome_effect-effect.result (opened c.in_default.in_default-own.keys2))
 
 pub learns-requires : goal.learns-requires
 unfolding run_of
 learns-requires c =
-    let windowed : length c.args.h.rest.window ≡ 512 = search unmapped in
+    let windowed : length c.args.h.rest.window ≡ 512 = c.well_formed.0.1.1.0.1.1.1.1.1.0.1.0.1 in
     let long : length (run_of c.args.h).window ≡ 512 = length-map c.args.h.rest.window entry_of ∙ windowed in
-    let k = named c.args.h (called c.before.before.before.before.before.before.before.before.before) c.outcome_effect-effect.result c.outcome_effect-effect.ensures (long) _ c.in-Learns.is in
+    let called : Call = let a = c.args in Call.Outcome (clock a.t) a.position a.node a.o in
+    let k = named c.args.h (called) c.outcome_effect-effect.result c.outcome_effect-effect.ensures (long) _ c.in-Learns.is in
     (subst (Loads (plan_of c.args.h.plan)) (sym c.progress_of-progress.ensures) k.3, k.0, k.1, k.2)
 
 pub returns : goal.returns
 unfolding run_of call_of
 returns c =
-    let windowed : length c.args.h.rest.window ≡ 512 = search unmapped in
+    let windowed : length c.args.h.rest.window ≡ 512 = c.well_formed.0.1.1.0.1.1.1.1.1.0.1.0.1 in
     let long : length (run_of c.args.h).window ≡ 512 = length-map c.args.h.rest.window entry_of ∙ windowed in
+    let called : Call = let a = c.args in Call.Outcome (clock a.t) a.position a.node a.o in
     let h = c.args.h in
     let l = Effect.Learns c.in-Learns.i c.in-Learns.x c.in-Learns.e c.in-Learns.told in
-    let k = named h (called c.before.before.before.before.before.before.before.before.before.before) c.outcome_effect-effect.result c.outcome_effect-effect.ensures (long) l c.in-Learns.is in
+    let k = named h (called) c.outcome_effect-effect.result c.outcome_effect-effect.ensures (long) l c.in-Learns.is in
     c.learns.ensures
     ∙ ap (λ (g : Progress). stepped_of (acted (run_at (plan_of h.plan) g (map entry_of h.rest.window) c.moment_of-m.result Halt.Going) c.moment_of-m.result.t l)) c.progress_of-progress.ensures
     ∙ ap (λ (m : Moment). stepped_of (acted (run_at (plan_of h.plan) (progress_of h.rest.progress) (map entry_of h.rest.window) m Halt.Going) m.t l)) c.moment_of-m.ensures
-    ∙ changes h (called c.before.before.before.before.before.before.before.before.before.before) (run_of h) refl (acted (run_of h) (reading_of (called c.before.before.before.before.before.before.before.before.before.before)) l) (answered h (called c.before.before.before.before.before.before.before.before.before.before) c.outcome_effect-effect.result c.outcome_effect-effect.ensures l c.in-Learns.is) k.4 (learns_accepts (run_of h) (reading_of (called c.before.before.before.before.before.before.before.before.before.before)) c.in-Learns.i c.in-Learns.x c.in-Learns.e c.in-Learns.told)
+    ∙ changes h (called) (run_of h) refl (acted (run_of h) (reading_of (called)) l) (answered h (called) c.outcome_effect-effect.result c.outcome_effect-effect.ensures l c.in-Learns.is) k.4 (learns_accepts (run_of h) (reading_of (called)) c.in-Learns.i c.in-Learns.x c.in-Learns.e c.in-Learns.told)

@@ -4,7 +4,7 @@ use native.Mathlib.Omega.{arith}
 use Rattle.plan.specs.declared.Verdict.{Verdict}
 use Rattle.judge.specs.Judge.{judge_of}
 use Rattle.judge.specs.Inner.Judge.{by_verdict}
-use Rattle.judge.specs.Laws.Judge.{read_limits}
+use Rattle.judge.proofs.Laws.Judge.{read_limits}
 use borrow.Author.Rules.{rules}
 use Rattle.judge.proofs.judge.Goals as goal
 

@@ -2,8 +2,8 @@
 use mathlib.Core.Path.{sym, ap, ◌∙◌}
 use Rattle.plan.specs.declared.Verdict.{Verdict}
 use Rattle.automaton.specs.Number.{automaton_verdict}
-use Rattle.automaton.specs.Laws.Bounds.{in_range}
-use Rattle.automaton_verdict.specs.Laws.Table.{table_verdict}
+use Rattle.automaton.proofs.Laws.Bounds.{in_range}
+use Rattle.automaton_verdict.proofs.Laws.Table.{table_verdict}
 use Rattle.judge.specs.Judge.{on_verdict}
 use borrow.Author.Rules.{rules}
 use Rattle.judge.proofs.plan_verdict.Goals as goal

@@ -3,7 +3,7 @@ use mathlib.Core.Path.{sym, ◌∙◌}
 use native.Mathlib.Omega.{arith}
 use borrow.Author.Tests.{not-true, not-false}
 use Rattle.link_messages.specs.Inner.Bytes.{message_bytes}
-use Rattle.link_messages.specs.Laws.Lengths.{bytes_length}
+use Rattle.link_messages.proofs.Laws.Lengths.{bytes_length}
 use Rattle.link_messages.proofs.Answers.{unlisted, too_short, wrote}
 use borrow.Author.Rules.{rules}
 use mathlib.Core.Path.{ap}

@@ -1,7 +1,7 @@
 -- Two records, or a buffer too short.
 use native.Mathlib.Omega.{arith}
-use Rattle.wire.specs.Laws.Puts.{puts_length}
-use Rattle.drive_records.specs.Laws.Records.{record_length}
+use Rattle.wire.proofs.Laws.Puts.{puts_length}
+use Rattle.drive_records.proofs.Laws.Records.{record_length}
 use Rattle.made_up.proofs.Recorded.{too_short, both-written}
 use borrow.Author.Rules.{rules}
 use Rattle.made_up.proofs.answer.Goals as goal

@@ -1,7 +1,7 @@
 -- The final-state bits, the transition count, and the loop.
 use mathlib.Core.Path.{sym, ◌∙◌}
 use Rattle.plan.specs.Moves.{moves_at}
-use Rattle.plan_fields.specs.Laws.Read.{move_count_most}
+use Rattle.plan_fields.proofs.Laws.Read.{move_count_most}
 use borrow.Author.Rules.{rules}
 use Rattle.plan_automaton.proofs.moves_at.Goals as goal
 

@@ -1,7 +1,7 @@
 -- A duration that is present: each answer by the law of fields.
 use native.Mathlib.Omega.{arith}
 use mathlib.Core.Path.{sym, ◌∙◌}
-use Rattle.wire.specs.Laws.Fields.{short, too_low, too_high, in_range}
+use Rattle.wire.proofs.Laws.Fields.{short, too_low, too_high, in_range}
 use Rattle.plan_fields.proofs.There.{long_there, long_short}
 use Rattle.plan.specs.declared.fields.DurationField.{DurationField}
 use Rattle.plan.specs.declared.Fault.{Fault}

@@ -3,7 +3,7 @@ use native.Mathlib.Omega.{arith}
 use borrow.Author.Tests.{ltb-true}
 use mathlib.Core.Path.{sym, ◌∙◌}
 use Prim.Native.Nat.{◌^◌}
-use Rattle.wire.specs.Laws.Fields.{short, too_high, in_range}
+use Rattle.wire.proofs.Laws.Fields.{short, too_high, in_range}
 use Rattle.plan_fields.proofs.There.{wide_there, wide_short}
 use Rattle.plan.specs.declared.fields.FinalsField.{FinalsField}
 use Rattle.plan.specs.declared.Fault.{Fault}

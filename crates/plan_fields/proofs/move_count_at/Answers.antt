@@ -1,7 +1,7 @@
 -- The transition count: each answer by the law of fields.
 use native.Mathlib.Omega.{arith}
 use mathlib.Core.Path.{sym, ◌∙◌}
-use Rattle.wire.specs.Laws.Fields.{short, too_high, in_range}
+use Rattle.wire.proofs.Laws.Fields.{short, too_high, in_range}
 use Rattle.plan_fields.proofs.There.{short_there, short_short}
 use Rattle.plan.specs.declared.fields.MoveCount.{MoveCount}
 use Rattle.plan.specs.declared.Fault.{Fault}

@@ -2,10 +2,10 @@
 use mathlib.Core.Path.{sym, ◌∙◌}
 use borrow.Author.Tests.{not-true, not-false}
 use borrow.Author.Rules.{rules}
-use Rattle.basis.specs.Laws.Tells.{told_true}
-use Rattle.plan_limits.specs.Laws.Plans.{tells_in_limits}
+use Rattle.basis.proofs.Laws.Tells.{told_true}
+use Rattle.plan_limits.proofs.Laws.Plans.{tells_in_limits}
 use Rattle.plan_limits.specs.Limits.{file_rules}
-use Rattle.plan_limits.specs.Laws.Files.{rules_are}
+use Rattle.plan_limits.proofs.Laws.Files.{rules_are}
 use mathlib.Core.Path.{ap}
 use mathlib.Core.Bool.{not}
 use Rattle.plan_limits.proofs.file_rules.Goals as goal

@@ -1,7 +1,7 @@
 -- The predecessors: their count, and the loop.
 use mathlib.Core.Path.{sym, ◌∙◌}
 use Rattle.plan.specs.Nodes.{preds_at}
-use Rattle.plan_fields.specs.Laws.Read.{count_most}
+use Rattle.plan_fields.proofs.Laws.Read.{count_most}
 use borrow.Author.Rules.{rules}
 use Rattle.plan_nodes.proofs.preds_at.Goals as goal
 

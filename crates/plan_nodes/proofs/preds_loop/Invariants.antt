@@ -6,7 +6,7 @@ use lib.ListN.{length, replicate, length-set}
 use native.Mathlib.Nat.{sub-zero}
 use Rattle.plan_nodes.proofs.Loops.{preds_done, preds_refused, preds_fall, preds_next}
 use Rattle.plan.specs.Nodes.{preds_loop}
-use Rattle.plan_fields.specs.Laws.Read.{byte_most}
+use Rattle.plan_fields.proofs.Laws.Read.{byte_most}
 use borrow.Author.Rules.{rules}
 use Rattle.plan_nodes.proofs.preds_loop.Given as goal
 

@@ -1,7 +1,7 @@
 -- A section: its count, and the loop over what it counts.
 use mathlib.Core.Path.{sym, ◌∙◌}
 use Rattle.plan.specs.Sections.{activities_at}
-use Rattle.plan_fields.specs.Laws.Read.{count_most}
+use Rattle.plan_fields.proofs.Laws.Read.{count_most}
 use borrow.Author.Rules.{rules}
 use Rattle.plan_sections.proofs.activities_at.Goals as goal
 

@@ -2,9 +2,9 @@
 use native.Mathlib.Omega.{arith}
 use mathlib.Core.Path.{sym, ◌∙◌}
 use Rattle.plan_write.proofs.Answers.{breaks_rule, too_short, wrote}
-use Rattle.format.specs.Laws.Format.{keeps_iff}
+use Rattle.format.proofs.Laws.Format.{keeps_iff}
 use Rattle.plan_file.specs.PlanFile.{fault_order, plan_file}
-use Rattle.plan_file.specs.Laws.HoldsPlan.{plan_iff}
+use Rattle.plan_file.proofs.Laws.HoldsPlan.{plan_iff}
 use borrow.Author.Rules.{rules}
 use Rattle.plan_write.proofs.write.Goals as goal
 

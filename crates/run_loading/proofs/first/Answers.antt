@@ -5,10 +5,10 @@ use Rattle.automaton.specs.declared.Next.{Next}
 use Rattle.run_window.specs.Window.{vacant}
 use Rattle.run_window.specs.declared.Entry.{Entry}
 use Rattle.run_path.specs.Pathed.{Leads}
-use Rattle.run_path.specs.Laws.Stepping.{next_leads}
+use Rattle.run_path.proofs.Laws.Stepping.{next_leads}
 use Rattle.run_loading.specs.Loading.{loading, load}
 use Rattle.run_loading.specs.Inner.Loading.{Loadable}
-use Rattle.run_loading.specs.Laws.Loading.{first_failed, first_placed}
+use Rattle.run_loading.proofs.Laws.Loading.{first_failed, first_placed}
 use borrow.Author.Rules.{rules}
 use Rattle.run_loading.proofs.first.Goals as goal
 

@@ -17,13 +17,13 @@ use Rattle.plan.specs.declared.Node.{Node}
 use Rattle.plan.specs.declared.Activity.{Activity}
 use Rattle.run_window.specs.declared.Entry.{Entry}
 use Rattle.activity.specs.Inner.Copied.{filled}
-use Rattle.activity.specs.Laws.Copied.{filled_more}
+use Rattle.activity.proofs.Laws.Copied.{filled_more}
 use Rattle.run_path.specs.Path.{Path, taken_by, path_from}
 use Rattle.run_path.specs.Pathed.{pathed}
 use Rattle.run_path.specs.declared.Pathed.{Pathed}
 use Rattle.run_path.specs.Inner.Path.{stored, emitted_of, emitted_count}
-use Rattle.run_path.specs.Laws.Stepping.{advanced_is, Walking, walking_starts, walking_ended, walking_waits, walking_over, named, walking_stops, walking_on}
-use Rattle.run_path.specs.Laws.Storing.{number_below, size_below, emitted_as, step_taken, entries_are, kept_below, Storing, storing_starts, storing_kept, storing_passed, storing_ends, stored_beyond, taken_past, taken_whole}
+use Rattle.run_path.proofs.Laws.Stepping.{advanced_is, Walking, walking_starts, walking_ended, walking_waits, walking_over, named, walking_stops, walking_on}
+use Rattle.run_path.proofs.Laws.Storing.{number_below, size_below, emitted_as, step_taken, entries_are, kept_below, Storing, storing_starts, storing_kept, storing_passed, storing_ends, stored_beyond, taken_past, taken_whole}
 use borrow.Enum.Refused.{opened}
 use Rattle.run_path.proofs.path.Goals.{then-is_kept, else-is_kept}
 use Rattle.run_path.proofs.path.Goals as goal

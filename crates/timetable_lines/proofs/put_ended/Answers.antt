@@ -1,8 +1,8 @@
 -- What is free, then the word, the state and the newline.
-use Rattle.timetable_lines.specs.Laws.Lines.{free_length}
-use Rattle.timetable_text.specs.Laws.Digits.{decimal_length}
+use Rattle.timetable_lines.proofs.Laws.Lines.{free_length}
+use Rattle.timetable_text.proofs.Laws.Digits.{decimal_length}
 use Rattle.timetable_text.specs.Text.{line}
-use Rattle.wire.specs.Laws.Puts.{puts_join}
+use Rattle.wire.proofs.Laws.Puts.{puts_join}
 use native.Mathlib.Omega.{arith}
 use borrow.Author.Rules.{rules}
 use Rattle.timetable_lines.proofs.put_ended.Goals as goal

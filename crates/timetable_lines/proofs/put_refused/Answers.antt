@@ -1,7 +1,7 @@
 -- The word, the number, the place and the newline.
-use Rattle.timetable_text.specs.Laws.Digits.{decimal_length}
+use Rattle.timetable_text.proofs.Laws.Digits.{decimal_length}
 use Rattle.timetable_text.specs.Text.{line}
-use Rattle.wire.specs.Laws.Puts.{puts_join}
+use Rattle.wire.proofs.Laws.Puts.{puts_join}
 use native.Mathlib.Omega.{arith}
 use borrow.Author.Rules.{rules}
 use Rattle.timetable_lines.proofs.put_refused.Goals as goal

@@ -1,6 +1,7 @@
 -- The loop over the times: what is left is put after what was put.
-use Rattle.timetable_lines.specs.Laws.Lines.{spaced, spaced_turn, spaced_end, Remains, remains_all, remains_less}
-use Rattle.timetable_text.specs.Laws.Digits.{decimal_length}
+use Rattle.timetable_lines.specs.Inner.Lines.{spaced, Remains}
+use Rattle.timetable_lines.proofs.Laws.Lines.{spaced_turn, spaced_end, remains_all, remains_less}
+use Rattle.timetable_text.proofs.Laws.Digits.{decimal_length}
 use Rattle.times.specs.Times.{specified}
 use Rattle.basis.specs.Parts.{part}
 use lib.ListN.{length, get_or}

@@ -11,7 +11,7 @@ use Rattle.timetable_steps.specs.Inner.Steps.{past_way, past_activity, place_of}
 use Rattle.timetable_streams.specs.Inner.Asking.{asks, Held}
 use Rattle.timetable_turns.specs.Inner.Turn.{turn_of, waits_of}
 use Rattle.timetable_turns.specs.Inner.Answers.{Drafts}
-use Rattle.timetable_turns.specs.Laws.Stepping.{turn_parts, step_output, step_fitting}
+use Rattle.timetable_turns.proofs.Laws.Stepping.{turn_parts, step_output, step_fitting}
 use Rattle.timetable_output.specs.declared.Between.{Between}
 use Rattle.timetable_output.specs.Inner.Between.{Stands, Goes, Prints}
 use Rattle.timetable_output.proofs.Turning.{between, Looked, put_few, put_count, drafts_as, goes, goes_less, stands_asked, step_asks}

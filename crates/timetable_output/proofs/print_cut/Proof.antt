@@ -1,7 +1,7 @@
 -- `print_cut` meets its contract. Assumes nothing.
 use native.Mathlib.Omega.{arith}
-use Rattle.timetable_lines.specs.Laws.Lines.{refused_length}
-use Rattle.timetable_text.specs.Laws.Lent.{lent_puts}
+use Rattle.timetable_lines.proofs.Laws.Lines.{refused_length}
+use Rattle.timetable_text.proofs.Laws.Lent.{lent_puts}
 use borrow.Author.Rules.{rules}
 use Rattle.timetable_output.proofs.print_cut.Statement.{statement}
 use Rattle.timetable_output.proofs.print_cut.Tie as tie

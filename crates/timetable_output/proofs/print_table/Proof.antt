@@ -4,7 +4,7 @@ use native.Mathlib.Omega.{arith}
 use mathlib.Core.Bool.{false}
 use Rattle.judge.specs.Judge.{judge_of}
 use Rattle.timetable_turns.specs.Inner.Turn.{first_text}
-use Rattle.timetable_turns.specs.Laws.Short.{first_short}
+use Rattle.timetable_turns.proofs.Laws.Short.{first_short}
 use Rattle.timetable_output.proofs.Printing.{gathers_first, printed_refused, printed_all}
 use borrow.Author.Rules.{rules}
 use Rattle.timetable_output.proofs.print_table.Statement.{statement}

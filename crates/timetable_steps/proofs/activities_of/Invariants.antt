@@ -2,7 +2,7 @@
 use mathlib.Core.Path.{refl}
 use Prim.Native.Nat.{◌-◌, ◌≤◌}
 use native.Mathlib.Omega.{arith}
-use Rattle.timetable_steps.specs.Laws.Steps.{Copies, copies-more, emits}
+use Rattle.timetable_steps.proofs.Laws.Steps.{Copies, copies-more, emits}
 use borrow.Author.Rules.{rules}
 use Rattle.timetable_steps.proofs.activities_of.Given as goal
 

@@ -3,7 +3,7 @@ use mathlib.Core.Path.{ap, ◌∙◌, subst}
 use Prim.Native.Nat.{ℕ, ◌≤◌, ◌<◌}
 use lib.ListN.{get_or}
 use Rattle.timetable_steps.specs.Inner.Steps.{chosen_step}
-use Rattle.timetable_steps.specs.Laws.Steps.{below, heard_had, heard_lacked}
+use Rattle.timetable_steps.proofs.Laws.Steps.{below, heard_had, heard_lacked}
 use borrow.Author.Rules.{rules}
 use Rattle.timetable_steps.proofs.heard_step.Goals as goal
 

@@ -5,7 +5,7 @@ use Prim.Native.Nat.{ℕ}
 use native.Mathlib.Omega.{arith}
 use Rattle.plan.specs.Plan.{move}
 use Rattle.timetable_steps.specs.declared.Step.{Step}
-use Rattle.timetable_steps.specs.Laws.Steps.{goes_below, step_as}
+use Rattle.timetable_steps.proofs.Laws.Steps.{goes_below, step_as}
 use borrow.Author.Rules.{rules}
 use Rattle.timetable_steps.proofs.step_of.Goals as goal
 

@@ -1,6 +1,6 @@
 -- `ask` meets its contract. Assumes nothing.
 use mathlib.Core.Path.{sym, ap, ◌∙◌}
-use Rattle.basis.specs.Laws.Bools.{clash}
+use Rattle.basis.proofs.Laws.Bools.{clash}
 use Rattle.timetable_streams.specs.Inner.Asking.{asks}
 use borrow.Author.Rules.{rules}
 use Rattle.timetable_streams.proofs.ask.Statement.{statement}

@@ -1,6 +1,6 @@
 -- `hand_on_rest` meets its contract: after output that failed nothing is claimed. Assumes nothing.
 use mathlib.Core.Path.{refl, sym, ◌∙◌}
-use Rattle.basis.specs.Laws.Bools.{clash}
+use Rattle.basis.proofs.Laws.Bools.{clash}
 use borrow.Author.Rules.{rules}
 use Rattle.timetable_streams.proofs.hand_on_rest.Statement.{statement}
 use Rattle.timetable_streams.proofs.hand_on_rest.Tie as tie

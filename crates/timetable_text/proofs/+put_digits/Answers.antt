@@ -1,6 +1,6 @@
 use native.Mathlib.Omega.{arith}
 use Prim.Native.Nat.{◌-◌, ◌/◌}
-use Rattle.timetable_text.specs.Laws.Digits.{digits_length}
+use Rattle.timetable_text.proofs.Laws.Digits.{digits_length}
 use Rattle.timetable_text.proofs.Turns.{put_none, put_small, put_more}
 use Rattle.timetable_text.proofs.+put_digits.Goals as goal
 

@@ -1,7 +1,7 @@
 -- `first_line` meets its contract: by the verdict. Assumes nothing.
 use mathlib.Core.Path.{sym, ap}
 use Rattle.timetable_turns.specs.Inner.Turn.{first_text}
-use Rattle.timetable_text.specs.Laws.Lent.{lends_as}
+use Rattle.timetable_text.proofs.Laws.Lent.{lends_as}
 use Rattle.timetable_turns.proofs.Begins.{lends_refused}
 use borrow.Author.Rules.{rules}
 use Rattle.timetable_turns.proofs.first_line.Goals as goal

@@ -1,7 +1,7 @@
 -- `header_line` meets its contract. Assumes nothing.
 use native.Mathlib.Omega.{arith}
-use Rattle.timetable_lines.specs.Laws.Lines.{header_length}
-use Rattle.timetable_text.specs.Laws.Lent.{lends_front, front_there}
+use Rattle.timetable_lines.proofs.Laws.Lines.{header_length}
+use Rattle.timetable_text.proofs.Laws.Lent.{lends_front, front_there}
 use borrow.Author.Rules.{rules}
 use Rattle.timetable_turns.proofs.header_line.Goals as goal
 

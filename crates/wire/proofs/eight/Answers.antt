@@ -1,6 +1,6 @@
 -- A number of eight bytes is made of two numbers of four.
 use native.Mathlib.Omega.{arith}
-use Rattle.wire.specs.Laws.Fields.{little_eight}
+use Rattle.wire.proofs.Laws.Fields.{little_eight}
 use borrow.Author.Rules.{rules}
 use Rattle.wire.proofs.eight.Goals as goal
 

@@ -8,7 +8,7 @@ use lib.Seq.{get_or-set_same, get_or-set_other}
 use Rattle.basis.specs.Lists.{Among}
 use Rattle.plan.specs.Plan.{past_node, predecessors}
 use Rattle.activity.specs.Inner.Bits.{Bit}
-use Rattle.activity.specs.Laws.Bits.{no_bit, lt-or-ge, zeros}
+use Rattle.activity.proofs.Laws.Bits.{no_bit, lt-or-ge, zeros}
 use Rattle.activity.specs.Inner.Closure.{Rel}
 use Rattle.activity.proofs.Places.{count_of, arrow_of}
 use borrow.Author.Rules.{rules}

@@ -5,7 +5,7 @@ use native.Mathlib.Omega.{arith}
 use lib.ListN.{length}
 use Rattle.plan.specs.Plan.{nodes_of}
 use Rattle.plan.specs.declared.Node.{Node}
-use Rattle.activity.specs.Laws.Closure.{Closing, opening, passing, shut}
+use Rattle.activity.proofs.Laws.Closure.{Closing, opening, passing, shut}
 use Rattle.activity.proofs.Places.{count_of}
 use borrow.Author.Rules.{rules}
 use Rattle.activity.proofs.before.closure.Goals as goal

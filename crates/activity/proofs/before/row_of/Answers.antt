@@ -5,7 +5,7 @@ use native.Mathlib.Nat.{eq-or-lt_of_le}
 use native.Mathlib.Omega.{arith}
 use lib.ListN.{get_or}
 use Rattle.activity.specs.Inner.Bits.{Bit}
-use Rattle.activity.specs.Laws.Bits.{no_bit}
+use Rattle.activity.proofs.Laws.Bits.{no_bit}
 use Rattle.activity.proofs.Places.{listed}
 use borrow.Author.Rules.{rules}
 use Rattle.activity.proofs.before.row_of.Goals as goal

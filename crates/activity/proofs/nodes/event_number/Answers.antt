@@ -1,6 +1,6 @@
 -- `nodes::event_number` meets its contract: at each return, what holds and the first thing that does not. Assumes nothing.
 use Prim.Native.Nat.{ℕ}
-use Rattle.basis.specs.Laws.Tells.{granted, refuted}
+use Rattle.basis.proofs.Laws.Tells.{granted, refuted}
 use Rattle.activity.specs.Rules.{Before}
 use Rattle.activity.proofs.Numbering.{event_first, event_unordered, event_good}
 use borrow.Author.Rules.{rules}

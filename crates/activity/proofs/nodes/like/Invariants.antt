@@ -3,7 +3,7 @@ use Prim.Native.Nat.{◌<◌, ◌≤◌, ◌-◌}
 use mathlib.Core.Path.{◌≡◌}
 use native.Mathlib.Omega.{arith}
 use lib.ListN.{get_or}
-use Rattle.basis.specs.Laws.Tells.{tells_eqb}
+use Rattle.basis.proofs.Laws.Tells.{tells_eqb}
 use Rattle.activity.specs.Inner.Sight.{Marks}
 use Rattle.activity.proofs.Marking.{nothing_marked, one_more_marked}
 use borrow.Author.Rules.{rules}

@@ -2,7 +2,7 @@
 use mathlib.Core.Path.{subst}
 use mathlib.Core.List.{List}
 use Prim.Native.Nat.{ℕ}
-use Rattle.basis.specs.Laws.Tells.{told_true, told_false}
+use Rattle.basis.proofs.Laws.Tells.{told_true, told_false}
 use Rattle.plan.specs.declared.Node.{Node}
 use Rattle.activity.specs.Rules.{Is, Before}
 use Rattle.activity.specs.Inner.Sight.{Seen}

@@ -1,8 +1,8 @@
 -- `words::step` meets its contract: one word of a pass through node k. Assumes nothing.
 use borrow.Author.Rules.{rules}
 use mathlib.Core.Logic.{inl, inr, ⊎_elim}
-use Rattle.basis.specs.Laws.Tells.{told_true, told_false}
-use Rattle.activity.specs.Laws.Bits.{or_iff}
+use Rattle.basis.proofs.Laws.Tells.{told_true, told_false}
+use Rattle.activity.proofs.Laws.Bits.{or_iff}
 use Rattle.activity.proofs.words.step.Goals as goal
 
 pub returns-then-has : goal.returns-then-has

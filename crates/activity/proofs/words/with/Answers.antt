@@ -2,7 +2,7 @@
 use borrow.Author.Rules.{rules}
 use mathlib.Core.Logic.{inl, inr, ⊎_elim}
 use Prim.Native.Nat.{◌*◌, ◌^◌, ◌%◌}
-use Rattle.activity.specs.Laws.Bits.{or_iff, shl_iff}
+use Rattle.activity.proofs.Laws.Bits.{or_iff, shl_iff}
 use Rattle.activity.proofs.words.with.Goals as goal
 
 pub returns : goal.returns

@@ -1,6 +1,6 @@
-use Rattle.automaton.specs.Laws.Passes.{advance_starts, advance_from, advance_steps}
+use Rattle.automaton.proofs.Laws.Passes.{advance_starts, advance_from, advance_steps}
 use Rattle.automaton.specs.Inner.Passes.{Advanced}
-use Rattle.automaton_counts.specs.Laws.Emits.{gives_few}
+use Rattle.automaton_counts.proofs.Laws.Emits.{gives_few}
 use Rattle.automaton_counts.specs.Inner.Emits.{gives}
 use Prim.Native.Nat.{◌+◌, ◌*◌, ◌-◌, ◌≤◌}
 use mathlib.Core.Path.{◌≡◌}

@@ -1,5 +1,5 @@
 -- `blank` is all zeros.
-use Rattle.basis.specs.Laws.Lists.{all_same}
+use Rattle.basis.proofs.Laws.Lists.{all_same}
 use Rattle.automaton_counts.proofs.counting.blank.Goals as goal
 
 pub returns : goal.returns

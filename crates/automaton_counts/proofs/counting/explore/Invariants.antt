@@ -1,7 +1,7 @@
 -- Each pass of `explore` that reaches a state leaves fewer; what the last one leaves is known.
 use Rattle.basis.specs.Tests.{falses}
 use Rattle.automaton_counts.specs.Inner.Emits.{gives}
-use Rattle.automaton.specs.Laws.Passes.{going_starts, going_round, going_ends}
+use Rattle.automaton.proofs.Laws.Passes.{going_starts, going_round, going_ends}
 use Rattle.automaton.specs.Inner.Passes.{Going}
 use borrow.Author.Tests.{not-true, not-false}
 use mathlib.Core.Bool.{false}

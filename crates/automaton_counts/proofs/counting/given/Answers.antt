@@ -1,5 +1,5 @@
 -- `given` answers by the case of the output.
-use Rattle.automaton_counts.specs.Laws.Emits.{gives_at}
+use Rattle.automaton_counts.proofs.Laws.Emits.{gives_at}
 use Rattle.automaton_counts.specs.Inner.Emits.{gives}
 use Rattle.automaton.specs.Tests.{at}
 use Rattle.automaton.specs.Inner.Counts.{OutputOk}

@@ -1,8 +1,8 @@
-use Rattle.basis.specs.Laws.Bools.{clash}
-use Rattle.basis.specs.Laws.Tells.{told_true, told_false}
+use Rattle.basis.proofs.Laws.Bools.{clash}
+use Rattle.basis.proofs.Laws.Tells.{told_true, told_false}
 use Rattle.automaton_counts.specs.Inner.Emits.{gives}
-use Rattle.automaton.specs.Laws.Counts.{ready_takes}
-use Rattle.automaton.specs.Laws.Passes.{going_stays, going_stores}
+use Rattle.automaton.proofs.Laws.Counts.{ready_takes}
+use Rattle.automaton.proofs.Laws.Passes.{going_stays, going_stores}
 use Rattle.automaton.specs.Inner.Passes.{Going}
 use Rattle.automaton_counts.proofs.Tools.{moved, move_ok, not_ready, flags_apart}
 use Rattle.plan.specs.Plan.{move}

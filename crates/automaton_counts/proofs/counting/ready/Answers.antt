@@ -1,6 +1,6 @@
 -- `ready` answers by the case of the input.
 use Rattle.basis.specs.Inner.Tells.{holds, Tells}
-use Rattle.basis.specs.Laws.Tells.{tells_ltb}
+use Rattle.basis.proofs.Laws.Tells.{tells_ltb}
 use Rattle.automaton.specs.Tests.{at}
 use Rattle.automaton.specs.Inner.Counts.{Ready, InputOk}
 use Prim.Native.Nat.{◌<◌}

@@ -5,7 +5,7 @@ use native.Mathlib.Omega.{arith}
 use borrow.Author.Tests.{not-true, not-false}
 use Rattle.basis.specs.Tests.{flag}
 use Rattle.automaton.specs.Number.{lowest}
-use Rattle.automaton.specs.Laws.Lowest.{scan_starts, scan_passes, scan_stops, scan_ends}
+use Rattle.automaton.proofs.Laws.Lowest.{scan_starts, scan_passes, scan_stops, scan_ends}
 use borrow.Author.Rules.{rules}
 use Rattle.automaton_counts.proofs.final_states.first_unmarked.Given as goal
 

@@ -1,5 +1,5 @@
-use Rattle.basis.specs.Laws.Bools.{clash}
-use Rattle.automaton.specs.Laws.Passes.{back_stay, back_store}
+use Rattle.basis.proofs.Laws.Bools.{clash}
+use Rattle.automaton.proofs.Laws.Passes.{back_stay, back_store}
 use Rattle.automaton.specs.Inner.Passes.{Backing}
 use Rattle.automaton_counts.proofs.Tools.{moved, move_ok}
 use borrow.Author.Tests.{not-true, not-false}

@@ -1,6 +1,6 @@
 -- `mark_back` keeps what `Backing` says of the marked states, one transition after the other.
-use Rattle.basis.specs.Laws.Bools.{clash}
-use Rattle.automaton.specs.Laws.Passes.{back_stay, back_store}
+use Rattle.basis.proofs.Laws.Bools.{clash}
+use Rattle.automaton.proofs.Laws.Passes.{back_stay, back_store}
 use Rattle.automaton.specs.Inner.Passes.{Backing}
 use Rattle.automaton_counts.proofs.Tools.{moved, move_ok}
 use borrow.Author.Tests.{not-true, not-false}

@@ -1,6 +1,6 @@
 use Rattle.basis.specs.Tests.{falses}
-use Rattle.automaton.specs.Laws.Works.{back_done}
-use Rattle.automaton.specs.Laws.Passes.{same_back, back_starts, back_round, back_ends}
+use Rattle.automaton.proofs.Laws.Works.{back_done}
+use Rattle.automaton.proofs.Laws.Passes.{same_back, back_starts, back_round, back_ends}
 use Rattle.automaton.specs.Inner.Passes.{Backing}
 use borrow.Author.Tests.{not-true, not-false}
 use mathlib.Core.Bool.{false}

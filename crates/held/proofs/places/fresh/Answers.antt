@@ -6,7 +6,7 @@ use Prim.Native.Nat.{◌≤◌, ◌-◌}
 use lib.ListN.{length}
 use Rattle.held.specs.declared.HeldEntry.{HeldEntry}
 use Rattle.held.specs.Held.{entry_of, held_entry}
-use Rattle.basis.specs.Laws.Lists.{unmapped}
+use Rattle.basis.proofs.Laws.Lists.{unmapped}
 use Rattle.held.proofs.Filled.{filled, fill_own, fill_end}
 use Rattle.held.proofs.places.fresh.Invariants.{again}
 use Rattle.held.proofs.places.fresh.Goals as goal

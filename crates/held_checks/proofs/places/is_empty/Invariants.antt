@@ -4,10 +4,10 @@ use mathlib.Core.List.{map}
 use Prim.Native.Nat.{◌≤◌, ◌-◌}
 use native.Mathlib.Omega.{arith}
 use lib.ListN.{length, get_or, drop, length-map}
-use Rattle.basis.specs.Laws.Lists.{unmapped}
+use Rattle.basis.proofs.Laws.Lists.{unmapped}
 use Rattle.run_window.specs.Window.{vacant, is_free, is_empty}
 use Rattle.run_window.specs.declared.Entry.{Entry}
-use Rattle.run_window.specs.Laws.Scans.{empty_past, empty_not, empty_all}
+use Rattle.run_window.proofs.Laws.Scans.{empty_past, empty_not, empty_all}
 use Rattle.held.specs.Held.{entry_of}
 use Rattle.held_checks.proofs.MappedPlaces.{place_read}
 use borrow.Author.Rules.{rules}

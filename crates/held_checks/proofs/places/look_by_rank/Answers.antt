@@ -4,8 +4,8 @@ use mathlib.Core.List.{List, map}
 use Prim.Native.Nat.{ℕ, ◌-◌, ◌≤◌, ◌<◌}
 use native.Mathlib.Omega.{arith}
 use lib.ListN.{length, get_or, length-map}
-use Rattle.basis.specs.Laws.Bools.{or-false}
-use Rattle.basis.specs.Laws.Lists.{unmapped}
+use Rattle.basis.proofs.Laws.Bools.{or-false}
+use Rattle.basis.proofs.Laws.Lists.{unmapped}
 use Rattle.plan.specs.declared.Node.{Node}
 use Rattle.plan.specs.Plan.{past_node}
 use Rattle.run_window.specs.declared.Entry.{Entry}
@@ -15,8 +15,8 @@ use Rattle.run_window.specs.declared.Sought.{Sought}
 use Rattle.run_window.specs.Window.{vacant, rank, rank_at}
 use Rattle.run_window.specs.Inner.Times.{InTime, Named}
 use Rattle.run_window.specs.Inner.Search.{is_sought, ranked, kept_by}
-use Rattle.run_window.specs.Laws.Sought.{noticed_held}
-use Rattle.run_window.specs.Laws.Scans.{ranked_from, ranked_none, ranked_turn, ranked_passed, ranked_found}
+use Rattle.run_window.proofs.Laws.Sought.{noticed_held}
+use Rattle.run_window.proofs.Laws.Scans.{ranked_from, ranked_none, ranked_turn, ranked_passed, ranked_found}
 use Rattle.held.specs.declared.HeldNode.{HeldNode}
 use Rattle.held.specs.Held.{entry_of, node_of}
 use Rattle.held_checks.proofs.Mapped.{mapped_at}

@@ -5,15 +5,15 @@ use mathlib.Core.List.{List, map}
 use Prim.Native.Nat.{ℕ, ◌-◌, ◌≤◌, ◌<◌}
 use native.Mathlib.Omega.{arith}
 use lib.ListN.{length, get_or, length-map}
-use Rattle.basis.specs.Laws.Bools.{or-false}
-use Rattle.basis.specs.Laws.Lists.{unmapped}
+use Rattle.basis.proofs.Laws.Bools.{or-false}
+use Rattle.basis.proofs.Laws.Lists.{unmapped}
 use Rattle.run_window.specs.declared.Entry.{Entry}
 use Rattle.run_window.specs.declared.Ranked.{Ranked}
 use Rattle.run_window.specs.declared.Sought.{Sought}
 use Rattle.run_window.specs.Window.{vacant}
 use Rattle.run_window.specs.Inner.Times.{InTime}
 use Rattle.run_window.specs.Inner.Search.{is_sought, kept_by}
-use Rattle.run_window.specs.Laws.Scans.{Agrees, FirstFrom, scan_none, scan_passed, scan_turn, overdue_agrees, untied_agrees}
+use Rattle.run_window.proofs.Laws.Scans.{Agrees, FirstFrom, scan_none, scan_passed, scan_turn, overdue_agrees, untied_agrees}
 use Rattle.held.specs.Held.{entry_of}
 use Rattle.held_checks.proofs.MappedPlaces.{place_read}
 use borrow.Author.Tests.{not-true}

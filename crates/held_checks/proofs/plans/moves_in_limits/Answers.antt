@@ -8,7 +8,7 @@ use lib.ListN.{get_or, length}
 use Rattle.basis.specs.Tests.{every}
 use Rattle.plan.specs.declared.Transition.{Transition}
 use Rattle.plan.specs.Plan.{past_move}
-use Rattle.plan_limits.specs.Laws.Every.{every_on, every_off, every_end}
+use Rattle.plan_limits.proofs.Laws.Every.{every_on, every_off, every_end}
 use Rattle.plan_limits.specs.Limits.{move_in_limits, moves_in_limits}
 use Rattle.held.specs.declared.HeldMove.{HeldMove}
 use Rattle.held.specs.Held.{move_of}

@@ -8,10 +8,10 @@ use borrow.Author.Tests.{le-leb, lt-leb, not-true, not-false}
 use borrow.Author.Rules.{rules}
 use lib.ListN.{get_or, length}
 use Rattle.basis.specs.Tests.{every}
-use Rattle.basis.specs.Laws.Lists.{unmapped}
+use Rattle.basis.proofs.Laws.Lists.{unmapped}
 use Rattle.plan.specs.declared.Node.{Node}
 use Rattle.plan.specs.Plan.{past_node}
-use Rattle.plan_limits.specs.Laws.Every.{every_on, every_off, every_end}
+use Rattle.plan_limits.proofs.Laws.Every.{every_on, every_off, every_end}
 use Rattle.plan_limits.specs.Limits.{slot_in_limits, nodes_in_limits}
 use Rattle.held.specs.declared.HeldNode.{HeldNode}
 use Rattle.held.specs.Held.{node_of}

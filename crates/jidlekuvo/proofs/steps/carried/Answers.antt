@@ -16,54 +16,47 @@ use Rattle.held_checks.specs.Inner.Checks.{moment_at}
 use Rattle.jidlekuvo.specs.Inner.Steps.{stepped_by, Carries, carried_by}
 use Rattle.jidlekuvo.proofs.steps.carried.Goals as goal
 
-abbrev start : tie.After-progress-of → tie.Start
-start c = c.before.before.before
-
--- the window of the numbers
-abbrev window : tie.Start → List Entry
-window s = map entry_of s.args.rest.window
-
 pub returns-in-Stays : goal.returns-in-Stays
-returns-in-Stays c = let s = start c.before.before.before.before in c.kept.ensures ∙ sym (ap (carried_by s.args.finals s.args.rest s.args.c) c.in-Stays.is)
+returns-in-Stays c = c.kept.ensures ∙ sym (ap (carried_by c.args.finals c.args.rest c.args.c) c.in-Stays.is)
 
 pub returns-in-Stops : goal.returns-in-Stops
 returns-in-Stops c =
-    let changed : (w : List Entry) (halt : Halt) (told : Reply) → stepped_by c.moment_of-m.result w c.progress_of-progress.result halt told ≡ stepped_by (moment_at (start c.before.before.before.before).args.rest (start c.before.before.before.before).args.c) w (progress_of (start c.before.before.before.before).args.rest.progress) halt told = (λ w halt told. ap (λ (m : Moment). stepped_by m w c.progress_of-progress.result halt told) c.moment_of-m.ensures
-    ∙ ap (λ (g : Progress). stepped_by (moment_at (start c.before.before.before.before).args.rest (start c.before.before.before.before).args.c) w g halt told) c.progress_of-progress.ensures) in
-    let s = start c.before.before.before.before in
-    c.stopped.ensures ∙ changed (window s) (Halt.Stopped c.in-Stops.s) (Reply.Stopped c.in-Stops.s) ∙ sym (ap (carried_by s.args.finals s.args.rest s.args.c) c.in-Stops.is)
+    let changed : (w : List Entry) (halt : Halt) (told : Reply) → stepped_by c.moment_of-m.result w c.progress_of-progress.result halt told ≡ stepped_by (moment_at c.args.rest c.args.c) w (progress_of c.args.rest.progress) halt told = (λ w halt told. ap (λ (m : Moment). stepped_by m w c.progress_of-progress.result halt told) c.moment_of-m.ensures
+    ∙ ap (λ (g : Progress). stepped_by (moment_at c.args.rest c.args.c) w g halt told) c.progress_of-progress.ensures) in
+    let window : List Entry = map entry_of c.args.rest.window in
+    c.stopped.ensures ∙ changed (window) (Halt.Stopped c.in-Stops.s) (Reply.Stopped c.in-Stops.s) ∙ sym (ap (carried_by c.args.finals c.args.rest c.args.c) c.in-Stops.is)
 
 pub at_rest-told-requires : goal.at_rest-told-requires
 at_rest-told-requires c =
-    let carries : (x : Effect) → (start c.before.before).args.effect ≡ x → Carries (start c.before.before).args.rest x = (λ x e. subst (Carries (start c.before.before).args.rest) e (start c.before.before).requires) in
-    let state-same : c.progress_of-progress.result.state ≡ (start c.before.before).args.rest.progress.state = ap (λ (g : Progress). g.state) c.progress_of-progress.ensures in
+    let carries : (x : Effect) → c.args.effect ≡ x → Carries c.args.rest x = (λ x e. subst (Carries c.args.rest) e c.requires) in
+    let state-same : c.progress_of-progress.result.state ≡ c.args.rest.progress.state = ap (λ (g : Progress). g.state) c.progress_of-progress.ensures in
     subst (λ (n : ℕ). n < 64) (sym (state-same)) (carries _ c.in-Rests.is)
 
 pub returns-in-Rests : goal.returns-in-Rests
 returns-in-Rests c =
-    let changed : (w : List Entry) (halt : Halt) (told : Reply) → stepped_by c.moment_of-m.result w c.progress_of-progress.result halt told ≡ stepped_by (moment_at (start c.before.before.before.before).args.rest (start c.before.before.before.before).args.c) w (progress_of (start c.before.before.before.before).args.rest.progress) halt told = (λ w halt told. ap (λ (m : Moment). stepped_by m w c.progress_of-progress.result halt told) c.moment_of-m.ensures
-    ∙ ap (λ (g : Progress). stepped_by (moment_at (start c.before.before.before.before).args.rest (start c.before.before.before.before).args.c) w g halt told) c.progress_of-progress.ensures) in
-    let state-same : c.progress_of-progress.result.state ≡ (start c.before.before.before.before).args.rest.progress.state = ap (λ (g : Progress). g.state) c.progress_of-progress.ensures in
-    let s = start c.before.before.before.before in
+    let changed : (w : List Entry) (halt : Halt) (told : Reply) → stepped_by c.moment_of-m.result w c.progress_of-progress.result halt told ≡ stepped_by (moment_at c.args.rest c.args.c) w (progress_of c.args.rest.progress) halt told = (λ w halt told. ap (λ (m : Moment). stepped_by m w c.progress_of-progress.result halt told) c.moment_of-m.ensures
+    ∙ ap (λ (g : Progress). stepped_by (moment_at c.args.rest c.args.c) w g halt told) c.progress_of-progress.ensures) in
+    let state-same : c.progress_of-progress.result.state ≡ c.args.rest.progress.state = ap (λ (g : Progress). g.state) c.progress_of-progress.ensures in
+    let window : List Entry = map entry_of c.args.rest.window in
     c.heard.ensures
-    ∙ ap (λ (r : Reply). stepped_by c.moment_of-m.result (window s) c.progress_of-progress.result Halt.Going r)
-    (c.at_rest-told.ensures ∙ ap (λ (n : ℕ). rests_as s.args.finals n (window s)) (state-same))
-    ∙ changed (window s) Halt.Going (rests_as s.args.finals s.args.rest.progress.state (window s))
-    ∙ sym (ap (carried_by s.args.finals s.args.rest s.args.c) c.in-Rests.is)
+    ∙ ap (λ (r : Reply). stepped_by c.moment_of-m.result (window) c.progress_of-progress.result Halt.Going r)
+    (c.at_rest-told.ensures ∙ ap (λ (n : ℕ). rests_as c.args.finals n (window)) (state-same))
+    ∙ changed (window) Halt.Going (rests_as c.args.finals c.args.rest.progress.state (window))
+    ∙ sym (ap (carried_by c.args.finals c.args.rest c.args.c) c.in-Rests.is)
 
 pub stored-requires : goal.stored-requires
 stored-requires c =
-    let carries : (x : Effect) → (start c.before.before.before).args.effect ≡ x → Carries (start c.before.before.before).args.rest x = (λ x e. subst (Carries (start c.before.before.before).args.rest) e (start c.before.before.before).requires) in
+    let carries : (x : Effect) → c.args.effect ≡ x → Carries c.args.rest x = (λ x e. subst (Carries c.args.rest) e c.requires) in
     carries _ c.in-Stores.is
 
 pub returns-in-Stores : goal.returns-in-Stores
 returns-in-Stores c =
-    let changed : (w : List Entry) (halt : Halt) (told : Reply) → stepped_by c.moment_of-m.result w c.progress_of-progress.result halt told ≡ stepped_by (moment_at (start c.before.before.before.before).args.rest (start c.before.before.before.before).args.c) w (progress_of (start c.before.before.before.before).args.rest.progress) halt told = (λ w halt told. ap (λ (m : Moment). stepped_by m w c.progress_of-progress.result halt told) c.moment_of-m.ensures
-    ∙ ap (λ (g : Progress). stepped_by (moment_at (start c.before.before.before.before).args.rest (start c.before.before.before.before).args.c) w g halt told) c.progress_of-progress.ensures) in
-    let s = start c.before.before.before.before in
+    let changed : (w : List Entry) (halt : Halt) (told : Reply) → stepped_by c.moment_of-m.result w c.progress_of-progress.result halt told ≡ stepped_by (moment_at c.args.rest c.args.c) w (progress_of c.args.rest.progress) halt told = (λ w halt told. ap (λ (m : Moment). stepped_by m w c.progress_of-progress.result halt told) c.moment_of-m.ensures
+    ∙ ap (λ (g : Progress). stepped_by (moment_at c.args.rest c.args.c) w g halt told) c.progress_of-progress.ensures) in
+    let window : List Entry = map entry_of c.args.rest.window in
     c.stored.ensures
-    ∙ changed (set (window s) c.in-Stores.i c.in-Stores.e) Halt.Going c.in-Stores.told
-    ∙ sym (ap (carried_by s.args.finals s.args.rest s.args.c) c.in-Stores.is)
+    ∙ changed (set (window) c.in-Stores.i c.in-Stores.e) Halt.Going c.in-Stores.told
+    ∙ sym (ap (carried_by c.args.finals c.args.rest c.args.c) c.in-Stores.is)
 
 pub returns-in-Learns : goal.returns-in-Learns
-returns-in-Learns c = let s = start c.before.before.before in c.kept-in-Learns.ensures ∙ sym (ap (carried_by s.args.finals s.args.rest s.args.c) c.in-Learns.is)
+returns-in-Learns c = c.kept-in-Learns.ensures ∙ sym (ap (carried_by c.args.finals c.args.rest c.args.c) c.in-Learns.is)

@@ -12,10 +12,6 @@ use Rattle.jidlekuvo.specs.Inner.Steps.{stepped_with}
 use Rattle.jidlekuvo.proofs.Stepping.{written_at}
 use Rattle.jidlekuvo.proofs.steps.stored.Goals as goal
 
--- with the window w
-abbrev stored_in : tie.Start → List HeldEntry → Stepped
-stored_in s w = let a = s.args in stepped_with a.m w a.progress Halt.Going a.told
-
 pub offset_bounds-window-i : goal.offset_bounds-window-i
 offset_bounds-window-i c = let l = c.requires in omega arith
 
@@ -24,8 +20,9 @@ bounds-window-i c = let l = c.requires in omega arith
 
 pub returns : goal.returns
 returns c =
+    let stored_in : List HeldEntry → Stepped = (λ w. let a = c.args in stepped_with a.m w a.progress Halt.Going a.told) in
     let a = c.args in
     c.written.ensures
-    ∙ ap (λ (x : HeldEntry). stored_in c.before.before.before (set c.fresh-window.result a.i x)) c.hold_entry-x.ensures
-    ∙ ap (λ (w : List HeldEntry). stored_in c.before.before.before (set w a.i (held_entry a.e))) c.fresh-window.ensures
-    ∙ ap (stored_in c.before.before.before) (written_at (map entry_of a.rest.window) a.i a.e)
+    ∙ ap (λ (x : HeldEntry). stored_in (set c.fresh-window.result a.i x)) c.hold_entry-x.ensures
+    ∙ ap (λ (w : List HeldEntry). stored_in (set w a.i (held_entry a.e))) c.fresh-window.ensures
+    ∙ ap (stored_in) (written_at (map entry_of a.rest.window) a.i a.e)

@@ -1,5 +1,5 @@
 -- The writer of the host's direction.
-use Rattle.link_messages.specs.Laws.Written.{writes_as}
+use Rattle.link_messages.proofs.Laws.Written.{writes_as}
 use Rattle.link_calls.specs.Replies.{to_host}
 use borrow.Author.Rules.{rules}
 use Rattle.link_calls.proofs.replies.write_answer.Goals as goal

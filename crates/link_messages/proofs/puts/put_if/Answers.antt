@@ -1,7 +1,7 @@
 -- The bytes of a field whose bit stands; nothing else is put.
 use native.Mathlib.Omega.{arith}
-use Rattle.wire.specs.Laws.Fields.{length_bytes}
-use Rattle.wire.specs.Laws.Puts.{puts_none}
+use Rattle.wire.proofs.Laws.Fields.{length_bytes}
+use Rattle.wire.proofs.Laws.Puts.{puts_none}
 use borrow.Author.Rules.{rules}
 use Rattle.link_messages.proofs.puts.put_if.Goals as goal
 

@@ -1,7 +1,7 @@
 -- The fields are put one after the other.
 use mathlib.Core.Path.{◌∙◌}
 use native.Mathlib.Omega.{arith}
-use Rattle.wire.specs.Laws.Puts.{puts_join, puts_byte, puts_length}
+use Rattle.wire.proofs.Laws.Puts.{puts_join, puts_byte, puts_length}
 use borrow.Author.Rules.{rules}
 use Rattle.link_messages.proofs.puts.put_message.Goals as goal
 

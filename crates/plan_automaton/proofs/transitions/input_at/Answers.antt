@@ -1,7 +1,7 @@
 -- An input is present iff bit 0 stands.
 use borrow.Author.Tests.{eq-eqb, ne_eqb}
 use Rattle.plan.specs.Moves.{input_at}
-use Rattle.wire.specs.Laws.Maps.{bit_zero}
+use Rattle.wire.proofs.Laws.Maps.{bit_zero}
 use borrow.Author.Rules.{rules}
 use Rattle.plan_automaton.proofs.transitions.input_at.Goals as goal
 

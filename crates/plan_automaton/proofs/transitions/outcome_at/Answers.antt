@@ -1,7 +1,7 @@
 -- The two fields of an input, by their answers.
 use native.Mathlib.Omega.{arith}
 use mathlib.Core.Path.{sym, ◌∙◌}
-use Rattle.plan_fields.specs.Laws.Read.{byte_most}
+use Rattle.plan_fields.proofs.Laws.Read.{byte_most}
 use borrow.Author.Rules.{rules}
 use Rattle.plan_automaton.proofs.transitions.outcome_at.Goals as goal
 

@@ -5,7 +5,7 @@ use native.Mathlib.Omega.{arith}
 use borrow.Author.Tests.{lt-ltb}
 use borrow.Author.Rules.{rules}
 use lib.Pow.{pow_pos}
-use Rattle.plan_limits.specs.Laws.Shift.{quotient_zero}
+use Rattle.plan_limits.proofs.Laws.Shift.{quotient_zero}
 use Rattle.plan_limits.proofs.moves.finals_in_limits.Goals as goal
 
 pub returns-then-states-eq64 : goal.returns-then-states-eq64

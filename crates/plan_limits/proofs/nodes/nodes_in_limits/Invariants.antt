@@ -7,7 +7,7 @@ use borrow.Author.Tests.{not-true, not-false}
 use borrow.Author.Rules.{rules}
 use lib.ListN.{get_or}
 use Rattle.basis.specs.Tests.{every}
-use Rattle.plan_limits.specs.Laws.Every.{every_on, every_off, every_end}
+use Rattle.plan_limits.proofs.Laws.Every.{every_on, every_off, every_end}
 use Rattle.plan_limits.specs.Limits.{slot_in_limits, nodes_in_limits}
 use Rattle.plan.specs.Plan.{past_node}
 use Rattle.plan_limits.proofs.nodes.nodes_in_limits.Given as goal

@@ -1,6 +1,6 @@
 -- A transition's map is the sum of its bits.
 use native.Mathlib.Omega.{arith}
-use Rattle.plan_write.specs.Laws.Sums.{move_sum}
+use Rattle.plan_write.proofs.Laws.Sums.{move_sum}
 use Rattle.plan_file.specs.PlanFile.{move_map, input_bit, output_bit}
 use borrow.Author.Rules.{rules}
 use Rattle.plan_write.proofs.bytes.move_map.Goals as goal

@@ -3,7 +3,8 @@ use native.Mathlib.Omega.{arith}
 use mathlib.Core.Path.{◌∙◌, ap}
 use Prim.Native.Nat.{ℕ}
 use Rattle.wire.specs.Number.{present}
-use Rattle.plan_write.specs.Laws.Sums.{digit, node_sum}
+use Rattle.plan_write.specs.Inner.Bits.{digit}
+use Rattle.plan_write.proofs.Laws.Sums.{node_sum}
 use Rattle.plan_file.specs.PlanFile.{node_map}
 use borrow.Author.Rules.{rules}
 use Rattle.plan_write.proofs.bytes.node_map.Goals as goal

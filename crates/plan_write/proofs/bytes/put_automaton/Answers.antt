@@ -1,9 +1,9 @@
 -- The automaton: its states, its final-state bits, its transitions.
 use native.Mathlib.Omega.{arith}
-use Rattle.wire.specs.Laws.Fields.{length_bytes}
-use Rattle.wire.specs.Laws.Puts.{puts_join, puts_byte}
+use Rattle.wire.proofs.Laws.Fields.{length_bytes}
+use Rattle.wire.proofs.Laws.Puts.{puts_join, puts_byte}
 use mathlib.Core.List.{[]}
-use Rattle.plan_write.specs.Laws.Printed.{automaton_print}
+use Rattle.plan_write.proofs.Laws.Printed.{automaton_print}
 use borrow.Author.Rules.{rules}
 use Rattle.plan_write.proofs.bytes.put_automaton.Goals as goal
 

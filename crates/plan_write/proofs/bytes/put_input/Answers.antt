@@ -1,6 +1,6 @@
 -- The fields of an input.
 use native.Mathlib.Omega.{arith}
-use Rattle.wire.specs.Laws.Puts.{puts_none, puts_join, puts_byte}
+use Rattle.wire.proofs.Laws.Puts.{puts_none, puts_join, puts_byte}
 use Rattle.plan_write.specs.Inner.Bytes.{input_bytes}
 use borrow.Author.Rules.{rules}
 use Rattle.plan_write.proofs.bytes.put_input.Goals as goal

@@ -1,7 +1,7 @@
 -- The peripherals and the events.
 use native.Mathlib.Omega.{arith}
-use Rattle.wire.specs.Laws.Fields.{length_optional, length-numbers}
-use Rattle.wire.specs.Laws.Puts.{puts_join}
+use Rattle.wire.proofs.Laws.Fields.{length_optional, length-numbers}
+use Rattle.wire.proofs.Laws.Puts.{puts_join}
 use lib.ListN.{length-append}
 use borrow.Author.Rules.{rules}
 use Rattle.plan_write.proofs.bytes.put_named.Goals as goal

@@ -1,7 +1,7 @@
 -- The sections, the activities and the automaton, one after the other.
 use native.Mathlib.Omega.{arith}
-use Rattle.wire.specs.Laws.Puts.{puts_join}
-use Rattle.plan_write.specs.Laws.Printed.{plan_print}
+use Rattle.wire.proofs.Laws.Puts.{puts_join}
+use Rattle.plan_write.proofs.Laws.Printed.{plan_print}
 use borrow.Author.Rules.{rules}
 use Rattle.plan_write.proofs.bytes.put_plan.Goals as goal
 

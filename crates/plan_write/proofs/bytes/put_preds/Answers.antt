@@ -1,7 +1,7 @@
 -- The count of the predecessors, and the predecessors.
 use native.Mathlib.Omega.{arith}
-use Rattle.wire.specs.Laws.Fields.{length_optional}
-use Rattle.wire.specs.Laws.Puts.{puts_join}
+use Rattle.wire.proofs.Laws.Fields.{length_optional}
+use Rattle.wire.proofs.Laws.Puts.{puts_join}
 use borrow.Author.Rules.{rules}
 use Rattle.plan_write.proofs.bytes.put_preds.Goals as goal
 

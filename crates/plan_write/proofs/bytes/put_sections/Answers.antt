@@ -2,10 +2,10 @@
 use native.Mathlib.Omega.{arith}
 use mathlib.Core.Path.{ap}
 use Rattle.wire.specs.Number.{bytes_of}
-use Rattle.wire.specs.Laws.Fields.{length_optional}
-use Rattle.wire.specs.Laws.Puts.{puts_join, puts_byte}
+use Rattle.wire.proofs.Laws.Fields.{length_optional}
+use Rattle.wire.proofs.Laws.Puts.{puts_join, puts_byte}
 use Rattle.plan_file.specs.PlanFile.{section_map}
-use Rattle.plan_write.specs.Laws.Left.{puts_as}
+use Rattle.plan_write.proofs.Laws.Left.{puts_as}
 use borrow.Author.Rules.{rules}
 use Rattle.plan_write.proofs.bytes.put_sections.Goals as goal
 

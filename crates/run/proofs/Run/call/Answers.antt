@@ -2,14 +2,14 @@
 use mathlib.Core.Path.{◌≡◌, sym, ◌∙◌}
 use native.Mathlib.Omega.{arith}
 use lib.ListN.{length}
-use Rattle.basis.specs.Laws.Lists.{unmapped}
+use Rattle.basis.proofs.Laws.Lists.{unmapped}
 use Rattle.run_checks.specs.declared.Halt.{Halt}
 use Rattle.run_outcomes.specs.Told.{told_of}
 use Rattle.run.specs.declared.Effect.{Effect}
 use Rattle.run.specs.Calls.{call_of}
 use Rattle.run.specs.Inner.Effects.{acted, Named}
-use Rattle.run.specs.Laws.Acting.{call_acted, call_named, rests_acted, stores_acted}
-use Rattle.run.specs.Laws.Loaded.{storing, answer_by, learnt_parts}
+use Rattle.run.proofs.Laws.Acting.{call_acted, call_named, rests_acted, stores_acted}
+use Rattle.run.proofs.Laws.Loaded.{storing, answer_by, learnt_parts}
 use borrow.Author.Rules.{rules}
 use Rattle.run.proofs.Run.call.Goals as goal
 

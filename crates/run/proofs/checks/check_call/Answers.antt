@@ -3,10 +3,10 @@ use mathlib.Core.Path.{◌≡◌, sym, ◌∙◌}
 use Prim.Native.Nat.{◌<◌}
 use native.Mathlib.Omega.{arith}
 use lib.ListN.{length}
-use Rattle.basis.specs.Laws.Lists.{unmapped}
+use Rattle.basis.proofs.Laws.Lists.{unmapped}
 use Rattle.run.specs.Inner.Checks.{check_of}
-use Rattle.run.specs.Laws.Checking.{timed}
-use Rattle.run.specs.Laws.Acting.{place_below}
+use Rattle.run.proofs.Laws.Checking.{timed}
+use Rattle.run.proofs.Laws.Acting.{place_below}
 use borrow.Author.Rules.{rules}
 use Rattle.run.proofs.checks.check_call.Goals as goal
 

@@ -2,7 +2,7 @@
 use mathlib.Core.Path.{◌≡◌, sym}
 use native.Mathlib.Omega.{arith}
 use lib.ListN.{length}
-use Rattle.basis.specs.Laws.Lists.{unmapped}
+use Rattle.basis.proofs.Laws.Lists.{unmapped}
 use Rattle.run.proofs.Unlearnt.{no_outcomes, get_d_past}
 use borrow.Author.Rules.{rules}
 use borrow.Enum.Refused.{opened}

@@ -7,7 +7,7 @@ use borrow.Author.Tests.{not-true, not-false}
 use borrow.Author.Rules.{rules}
 use lib.ListN.{get_or}
 use Rattle.basis.specs.Tests.{every}
-use Rattle.plan_limits.specs.Laws.Every.{every_on, every_off, every_end}
+use Rattle.plan_limits.proofs.Laws.Every.{every_on, every_off, every_end}
 use Rattle.run_limits.specs.Progress.{place_in_limits, pending_in_limits}
 use Rattle.times.specs.Queues.{no_instance}
 use Rattle.run_limits.proofs.progress.pending_in_limits.Given as goal

@@ -7,7 +7,7 @@ use borrow.Author.Tests.{le-leb, lt-leb}
 use borrow.Author.Rules.{rules}
 use lib.Dec.{leb}
 use Rattle.basis.specs.Tests.{every}
-use Rattle.plan_limits.specs.Laws.Every.{every_on, every_off, every_end}
+use Rattle.plan_limits.proofs.Laws.Every.{every_on, every_off, every_end}
 use Rattle.run_limits.specs.Progress.{times_in_limits}
 use Rattle.times.specs.Times.{at}
 use Rattle.time.specs.Time.{horizon}

@@ -4,8 +4,8 @@ use Prim.Native.Nat.{◌≤◌, ◌-◌}
 use native.Mathlib.Omega.{arith}
 use lib.ListN.{length, drop}
 use Rattle.run_window.specs.Window.{is_empty}
-use Rattle.basis.specs.Laws.Lists.{unmapped}
-use Rattle.run_window.specs.Laws.Scans.{empty_past, empty_not, empty_all}
+use Rattle.basis.proofs.Laws.Lists.{unmapped}
+use Rattle.run_window.proofs.Laws.Scans.{empty_past, empty_not, empty_all}
 use borrow.Author.Rules.{rules}
 use Rattle.run_window.proofs.places.is_empty.Given as goal
 

@@ -4,8 +4,8 @@ use Prim.Native.Nat.{◌≤◌, ◌-◌}
 use native.Mathlib.Nat.{zero-add}
 use native.Mathlib.Omega.{arith}
 use lib.ListN.{length}
-use Rattle.basis.specs.Laws.Lists.{unmapped}
-use Rattle.run_window.specs.Laws.Scans.{FromOn, where_past, where_here, where_nowhere}
+use Rattle.basis.proofs.Laws.Lists.{unmapped}
+use Rattle.run_window.proofs.Laws.Scans.{FromOn, where_past, where_here, where_nowhere}
 use borrow.Author.Rules.{rules}
 use Rattle.run_window.proofs.places.place_of.Given as goal
 

@@ -4,8 +4,8 @@ use Prim.Native.Nat.{◌+◌, ◌≤◌}
 use native.Mathlib.Omega.{arith}
 use lib.ListN.{length, drop}
 use Rattle.run_window.specs.Window.{vacancies}
-use Rattle.basis.specs.Laws.Lists.{unmapped}
-use Rattle.run_window.specs.Laws.Scans.{vacancies_none, vacancies_here, vacancies_past}
+use Rattle.basis.proofs.Laws.Lists.{unmapped}
+use Rattle.run_window.proofs.Laws.Scans.{vacancies_none, vacancies_here, vacancies_past}
 use borrow.Author.Rules.{rules}
 use Rattle.run_window.proofs.places.vacancies.Given as goal
 

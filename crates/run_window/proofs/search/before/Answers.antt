@@ -2,7 +2,7 @@
 use mathlib.Core.Path.{sym}
 use borrow.Author.Tests.{eq-eqb, ne_eqb}
 use Rattle.run_window.specs.Window.{precedes}
-use Rattle.run_window.specs.Laws.Order.{one_number}
+use Rattle.run_window.proofs.Laws.Order.{one_number}
 use Rattle.run_window.proofs.search.before.Goals as goal
 
 pub returns-then-a-b : goal.returns-then-a-b

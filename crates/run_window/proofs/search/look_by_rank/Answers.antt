@@ -7,10 +7,10 @@ use Rattle.run_window.specs.declared.Found.{Found}
 use Rattle.run_window.specs.declared.Sought.{Sought}
 use Rattle.run_window.specs.Window.{rank}
 use Rattle.run_window.specs.Inner.Search.{ranked}
-use Rattle.run_window.specs.Laws.Sought.{noticed_held}
-use Rattle.basis.specs.Laws.Bools.{or-false}
-use Rattle.basis.specs.Laws.Lists.{unmapped}
-use Rattle.run_window.specs.Laws.Scans.{ranked_from, ranked_none, ranked_turn, ranked_passed, ranked_found}
+use Rattle.run_window.proofs.Laws.Sought.{noticed_held}
+use Rattle.basis.proofs.Laws.Bools.{or-false}
+use Rattle.basis.proofs.Laws.Lists.{unmapped}
+use Rattle.run_window.proofs.Laws.Scans.{ranked_from, ranked_none, ranked_turn, ranked_passed, ranked_found}
 use borrow.Author.Tests.{not-true, not-false}
 use borrow.Author.Rules.{rules}
 use mathlib.Core.Bool.{not}

@@ -5,7 +5,7 @@ use native.Mathlib.Omega.{arith}
 use borrow.Author.Tests.{lt-ltb, le-ltb}
 use borrow.Author.Rules.{rules}
 use Rattle.times.specs.Engine.{above_of}
-use Rattle.times.specs.Laws.Loops.{above_here, above_on, above_end}
+use Rattle.times.proofs.Laws.Loops.{above_here, above_on, above_end}
 use Rattle.times.proofs.engine.above.Goals as goal
 
 pub loop-i-init : goal.loop-i-init

@@ -2,7 +2,7 @@
 use mathlib.Core.Path.{◌≡◌, sym, ap, ◌∙◌, subst}
 use native.Mathlib.Omega.{arith}
 use Rattle.plan.specs.Plan.{nodes_of}
-use Rattle.times.specs.Laws.Fits.{input_fits, left_position, timeable, position_le, leaving, held_as, with_available, held_parts, closed_parts, assembled}
+use Rattle.times.proofs.Laws.Fits.{input_fits, left_position, timeable, position_le, leaving, held_as, with_available, held_parts, closed_parts, assembled}
 use Rattle.times.specs.Inner.Times.{Timeable, Leaving}
 use Rattle.times.specs.Engine.{held_of}
 use Rattle.times.specs.Queues.{processed_of, floor_of}

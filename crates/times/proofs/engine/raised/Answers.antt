@@ -4,7 +4,7 @@ use native.Mathlib.Nat.{sub-zero}
 use native.Mathlib.Omega.{arith}
 use borrow.Author.Rules.{rules}
 use Rattle.times.specs.Engine.{raised_of}
-use Rattle.times.specs.Laws.Loops.{raised_on, raised_end}
+use Rattle.times.proofs.Laws.Loops.{raised_on, raised_end}
 use Rattle.times.proofs.engine.raised.Goals as goal
 
 pub loop-i-init : goal.loop-i-init

@@ -3,7 +3,7 @@ use mathlib.Core.Path.{subst}
 use Prim.Native.Nat.{◌<◌}
 use native.Mathlib.Omega.{arith}
 use borrow.Author.Rules.{rules}
-use Rattle.times.specs.Laws.Taken.{floor_nothing, floor_oldest, floor_none}
+use Rattle.times.proofs.Laws.Taken.{floor_nothing, floor_oldest, floor_none}
 use Rattle.times.specs.Limits.{InputFits}
 use Rattle.times.specs.Queues.{floor_of}
 use Rattle.times.proofs.queues.floor.Goals as goal

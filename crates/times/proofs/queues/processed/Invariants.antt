@@ -8,8 +8,8 @@ use lib.ListN.{get_or, set}
 use Rattle.times.specs.declared.Instance.{Instance}
 use Rattle.times.specs.declared.Progress.{Progress}
 use Rattle.times.specs.Inner.Times.{with_pending}
-use Rattle.times.specs.Laws.Loops.{shifted_on, shifted_end}
-use Rattle.times.specs.Laws.Taken.{processed_nothing, processed_oldest, processed_none}
+use Rattle.times.proofs.Laws.Loops.{shifted_on, shifted_end}
+use Rattle.times.proofs.Laws.Taken.{processed_nothing, processed_oldest, processed_none}
 use Rattle.times.specs.Limits.{InputFits}
 use Rattle.times.specs.Queues.{no_instance, pending_of, shifted_of}
 use borrow.Author.Rules.{rules}

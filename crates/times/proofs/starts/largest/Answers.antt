@@ -9,8 +9,8 @@ use Rattle.basis.specs.Parts.{part}
 use Rattle.time.specs.declared.Specified.{Specified}
 use Rattle.times.specs.Times.{largest_of}
 use Rattle.times.specs.Inner.Times.{numbers}
-use Rattle.times.specs.Laws.Loops.{largest_on, largest_end}
-use Rattle.times.specs.Laws.Turns.{number_at}
+use Rattle.times.proofs.Laws.Loops.{largest_on, largest_end}
+use Rattle.times.proofs.Laws.Turns.{number_at}
 use Rattle.times.proofs.starts.largest.Goals as goal
 
 pub loop-j-init : goal.loop-j-init

@@ -8,7 +8,7 @@ use borrow.Author.Rules.{rules}
 use Rattle.basis.specs.Parts.{part}
 use Rattle.basis.specs.Tests.{flag}
 use Rattle.times.specs.Times.{ready_of}
-use Rattle.times.specs.Laws.Loops.{ready_not, ready_on, ready_end}
+use Rattle.times.proofs.Laws.Loops.{ready_not, ready_on, ready_end}
 use Rattle.times.proofs.starts.ready.Given as goal
 
 abbrev pub invariant-loop-j : goal.invariant-loop-j

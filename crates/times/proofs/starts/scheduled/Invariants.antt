@@ -10,8 +10,8 @@ use Rattle.plan.specs.Plan.{past_node}
 use Rattle.times.specs.declared.Schedule.{Schedule}
 use Rattle.times.specs.Times.{specified}
 use Rattle.times.specs.Inner.Times.{Sound, numbers, Rounding}
-use Rattle.times.specs.Laws.Rounds.{stored_placed, arrows_fit, kind_fits, visit_done, visit_waits, visit_placed, start_small, room, placed_sound}
-use Rattle.times.specs.Laws.Turns.{start_found, claim_low, event_low, number_set, rounding_starts, rounding_turn, rounding_stops, rounding_next, rounding_done}
+use Rattle.times.proofs.Laws.Rounds.{stored_placed, arrows_fit, kind_fits, visit_done, visit_waits, visit_placed, start_small, room, placed_sound}
+use Rattle.times.proofs.Laws.Turns.{start_found, claim_low, event_low, number_set, rounding_starts, rounding_turn, rounding_stops, rounding_next, rounding_done}
 use borrow.Author.Rules.{rules}
 use Rattle.times.proofs.starts.scheduled.Given as goal
 

@@ -3,7 +3,7 @@ use mathlib.Core.Path.{sym, ◌∙◌}
 use Prim.Native.Nat.{◌+◌}
 use lib.ListN.{length}
 use borrow.Author.Tests.{leb-true, leb-false}
-use Rattle.timetable_text.specs.Laws.Lent.{lends_copied, lends_nothing}
+use Rattle.timetable_text.proofs.Laws.Lent.{lends_copied, lends_nothing}
 use borrow.Author.Rules.{rules}
 use Rattle.timetable_text.proofs.lent.lend.Goals as goal
 

@@ -1,6 +1,6 @@
 -- `close` meets its contract. Assumes nothing.
 use native.Mathlib.Omega.{arith}
-use Rattle.wire.specs.Laws.Puts.{puts_none}
+use Rattle.wire.proofs.Laws.Puts.{puts_none}
 use Rattle.timetable_turns.proofs.Taking.{turns_shut, closes_by}
 use borrow.Author.Rules.{rules}
 use Rattle.timetable_turns.proofs.turns.close.Goals as goal

@@ -2,9 +2,9 @@
 use mathlib.Core.Path.{sym, subst, ◌∙◌}
 use native.Mathlib.Omega.{arith}
 use Rattle.timetable_turns.specs.Inner.Turn.{Open}
-use Rattle.timetable_turns.specs.Laws.InLimits.{turn_open}
-use Rattle.timetable_turns.specs.Laws.Short.{turn_short}
-use Rattle.timetable_text.specs.Laws.Lent.{lends_front, front_there}
+use Rattle.timetable_turns.proofs.Laws.InLimits.{turn_open}
+use Rattle.timetable_turns.proofs.Laws.Short.{turn_short}
+use Rattle.timetable_text.proofs.Laws.Lent.{lends_front, front_there}
 use borrow.Author.Rules.{rules}
 use Rattle.timetable_turns.proofs.turns.turn.Goals as goal
 

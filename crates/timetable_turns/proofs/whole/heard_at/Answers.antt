@@ -1,7 +1,7 @@
 -- `heard_at` meets its contract. Assumes nothing.
 use mathlib.Core.Path.{sym}
 use native.Mathlib.Omega.{arith}
-use Rattle.timetable_turns.specs.Laws.Whole.{head_there, head_none}
+use Rattle.timetable_turns.proofs.Laws.Whole.{head_there, head_none}
 use borrow.Author.Rules.{rules}
 use Rattle.timetable_turns.proofs.whole.heard_at.Goals as goal
 

@@ -1,7 +1,7 @@
 -- `put_timetable` meets its contract: by the input's length. Assumes nothing.
 use mathlib.Core.Path.{sym}
 use native.Mathlib.Omega.{arith}
-use Rattle.timetable_turns.specs.Laws.Whole.{whole_none, whole_cut, whole_plan}
+use Rattle.timetable_turns.proofs.Laws.Whole.{whole_none, whole_cut, whole_plan}
 use Rattle.timetable_turns.proofs.Placing.{puts_as}
 use borrow.Author.Rules.{rules}
 use Rattle.timetable_turns.proofs.whole.put_timetable.Goals as goal

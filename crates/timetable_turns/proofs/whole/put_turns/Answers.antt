@@ -2,7 +2,8 @@ use mathlib.Core.Path.{◌≡◌, refl, ◌∙◌}
 use Prim.Native.Nat.{◌≤◌}
 use native.Mathlib.Omega.{arith}
 use lib.ListN.{length}
-use Rattle.timetable_lines.specs.Laws.Lines.{Remains, remains_all}
+use Rattle.timetable_lines.specs.Inner.Lines.{Remains}
+use Rattle.timetable_lines.proofs.Laws.Lines.{remains_all}
 use Rattle.timetable_turns.specs.Inner.Whole.{left_text, Standing}
 use Rattle.timetable_turns.proofs.Placing.{remains_none}
 use borrow.Author.Rules.{rules}

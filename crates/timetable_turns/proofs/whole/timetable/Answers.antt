@@ -1,7 +1,7 @@
 -- `timetable` meets its contract: the whole text, or 36. Assumes nothing.
 use native.Mathlib.Omega.{arith}
 use Rattle.timetable_turns.specs.Timetable.{timetable_of}
-use Rattle.timetable_text.specs.Laws.Lent.{lends_past, lends_short}
+use Rattle.timetable_text.proofs.Laws.Lent.{lends_past, lends_short}
 use borrow.Author.Rules.{rules}
 use Rattle.timetable_turns.proofs.whole.timetable.Goals as goal
 

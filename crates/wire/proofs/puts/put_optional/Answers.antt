@@ -3,7 +3,7 @@ use native.Mathlib.Omega.{arith}
 use mathlib.Core.Path.{◌≡◌}
 use borrow.Author.Tests.{eq-eqb, ne_eqb}
 use Rattle.wire.specs.Number.{optional_bytes}
-use Rattle.wire.specs.Laws.Puts.{puts_none}
+use Rattle.wire.proofs.Laws.Puts.{puts_none}
 use Prim.Native.Nat.{◌%◌}
 use borrow.Author.Rules.{rules}
 use Rattle.wire.proofs.puts.put_optional.Goals as goal

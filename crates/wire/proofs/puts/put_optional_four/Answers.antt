@@ -1,7 +1,7 @@
 -- A number that is absent where it is 0.
 use borrow.Author.Tests.{eq-eqb, ne_eqb}
 use Rattle.wire.specs.Number.{optional_bytes}
-use Rattle.wire.specs.Laws.Puts.{puts_none}
+use Rattle.wire.proofs.Laws.Puts.{puts_none}
 use borrow.Author.Rules.{rules}
 use Rattle.wire.proofs.puts.put_optional_four.Goals as goal
 

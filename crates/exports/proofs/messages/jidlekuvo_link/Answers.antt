@@ -1,0 +1,8 @@
+-- The answer of link_drive as a number.
+use mathlib.Core.Path.{ap, ◌∙◌}
+use Rattle.exports.specs.Codes.{recorded_code}
+use borrow.Author.Rules.{rules}
+use Rattle.exports.proofs.messages.jidlekuvo_link.Goals as goal
+
+pub returns : goal.returns
+returns c = let d = c.drive in (c.recorded_code.ensures ∙ ap recorded_code d.ensures.0, d.ensures.1)

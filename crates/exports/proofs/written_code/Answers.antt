@@ -1,0 +1,15 @@
+use Rattle.exports.specs.Codes.{written_code}
+use borrow.Author.Rules.{rules}
+use Rattle.exports.proofs.written_code.Goals as goal
+
+pub returns-in-Bytes : goal.returns-in-Bytes
+unfolding written_code
+returns-in-Bytes c = rw c.in-Bytes.is
+
+pub returns-in-BreaksRule : goal.returns-in-BreaksRule
+unfolding written_code
+returns-in-BreaksRule c = rw (c.in-Refused.is, c.in-BreaksRule.is)
+
+pub returns-in-TooShort : goal.returns-in-TooShort
+unfolding written_code
+returns-in-TooShort c = rw (c.in-Refused.is, c.in-TooShort.is)

@@ -1,0 +1,2 @@
+-- What inner contracts cite. No statement rests on it.
+pub mod Flat

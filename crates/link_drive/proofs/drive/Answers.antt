@@ -1,0 +1,14 @@
+-- An input that ends inside the opening has no answers.
+use mathlib.Core.Path.{sym, ◌∙◌}
+use Rattle.link_drive.proofs.Fitting.{no_opening}
+use borrow.Author.Rules.{rules}
+use Rattle.link_drive.proofs.drive.Goals as goal
+
+pub if_they_fit-requires : goal.if_they_fit-requires
+if_they_fit-requires c = sym c.head_of-head.ensures ∙ c.in-Whole.is
+
+pub returns-in-Ends : goal.returns-in-Ends
+returns-in-Ends c = let a = c.args in no_opening a.input.now a.out.now (sym c.head_of-head.ensures ∙ c.in-Ends.is)
+
+pub returns-in-Whole : goal.returns-in-Whole
+returns-in-Whole c = c.if_they_fit.ensures

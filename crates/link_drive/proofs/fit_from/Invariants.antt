@@ -1,0 +1,18 @@
+-- The loop over the messages. What is free has fallen by the bytes of the answers before.
+use mathlib.Core.Path.{◌≡◌, sym, ◌∙◌, ap}
+use mathlib.Core.List.{List}
+use native.Mathlib.Omega.{arith}
+use Prim.Native.Nat.{ℕ, ◌+◌, ◌-◌, ◌≤◌}
+use lib.ListN.{length}
+use borrow.Author.Tests.{le-leb, lt-leb}
+use Rattle.link_drive.specs.LinkDrive.{replies_from, answer_bytes}
+use Rattle.link_drive.specs.Inner.Answers.{answers_from}
+use Rattle.link_drive.proofs.Turns.{Found, found, none_left, answers_length, over}
+use borrow.Author.Rules.{rules}
+use Rattle.link_drive.proofs.fit_from.Given as goal
+
+abbrev pub invariant-loop-left : goal.invariant-loop-left
+invariant-loop-left l = (l.at ≤ length l.input) × (length (answers_from l.messages l.initial.run l.input l.from) + l.free ≡ length (answers_from l.left l.run l.input l.at) + l.room)
+
+abbrev pub decreases-loop-left : goal.decreases-loop-left
+decreases-loop-left l = l.left
