@@ -1,9 +1,8 @@
-use Prim.Native.Nat.{◌+◌, ◌<◌, ◌≤◌, ◌-◌, ◌*◌}
+use Prim.Native.Nat.{◌+◌, ◌<◌, ◌-◌}
 use mathlib.Core.Path.{◌≡◌, refl, sym, ◌∙◌}
 use native.Mathlib.Omega.{arith}
 use Rattle.plan.specs.Plan.{size_of}
-use Rattle.activity.specs.Number.{verdict_from, activities_verdict}
-use Rattle.activity.proofs.Copying.{Gathers, gathers_none, gathers_more, gathered, gathered_fits}
+use Rattle.activity.proofs.Copying.{gathers_none, gathers_more, gathered, gathered_fits}
 use Rattle.activity.proofs.Verdicts.{verdict_start, verdict_end, verdict_next, verdict_bad, fault_gathered}
 use borrow.Author.Rules.{rules}
 use Rattle.activity.proofs.activities.Goals as goal

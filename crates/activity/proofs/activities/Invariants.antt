@@ -1,13 +1,10 @@
 -- `activities` meets its contract. The loop's invariant: the whole verdict is the verdict on the activities from a on, whose
 -- first n nodes are put together. Assumes nothing.
-use Prim.Native.Nat.{◌+◌, ◌<◌, ◌≤◌, ◌-◌, ◌*◌}
-use mathlib.Core.Path.{◌≡◌, refl, sym, ◌∙◌}
-use native.Mathlib.Omega.{arith}
+use Prim.Native.Nat.{◌<◌, ◌≤◌, ◌-◌, ◌*◌}
+use mathlib.Core.Path.{◌≡◌}
 use Rattle.plan.specs.Plan.{size_of}
 use Rattle.activity.specs.Number.{verdict_from, activities_verdict}
-use Rattle.activity.proofs.Copying.{Gathers, gathers_none, gathers_more, gathered, gathered_fits}
-use Rattle.activity.proofs.Verdicts.{verdict_start, verdict_end, verdict_next, verdict_bad, fault_gathered}
-use borrow.Author.Rules.{rules}
+use Rattle.activity.proofs.Copying.{Gathers}
 use Rattle.activity.proofs.activities.Given as goal
 
 abbrev pub invariant-loop-a : goal.invariant-loop-a

@@ -1,5 +1,4 @@
 -- `fault` meets its contract: the closure, the lowest number over it, and that number's finding. Assumes nothing.
-use borrow.Author.Rules.{rules}
 use Rattle.activity.proofs.fault.Goals as goal
 
 pub returns : goal.returns

@@ -1,12 +1,11 @@
-use Prim.Native.Nat.{ℕ, ◌≤◌, ◌-◌}
+use Prim.Native.Nat.{ℕ, ◌-◌}
 use native.Mathlib.Omega.{arith}
 use lib.ListN.{get_or}
 use Rattle.plan.specs.Plan.{nodes_of}
 use Rattle.activity.specs.Rules.{Is}
 use Rattle.activity.specs.Inner.Sight.{Seen}
 use Rattle.activity.specs.Inner.Closure.{Closure}
-use Rattle.activity.specs.Inner.Order.{Lowest}
-use Rattle.activity.proofs.Judging.{Asked, no_nodes, node_more, all_nodes}
+use Rattle.activity.proofs.Judging.{no_nodes, node_more, all_nodes}
 use Rattle.activity.proofs.Places.{count_of, kind_of_lem}
 use borrow.Author.Rules.{rules}
 use Rattle.activity.proofs.lowest.Goals as goal

@@ -1,15 +1,10 @@
 -- `lowest` meets its contract. The loop's invariant: `best` is the lowest number that the nodes below n break. Assumes nothing.
-use Prim.Native.Nat.{ℕ, ◌≤◌, ◌-◌}
-use native.Mathlib.Omega.{arith}
+use Prim.Native.Nat.{◌≤◌, ◌-◌}
 use lib.ListN.{get_or}
 use Rattle.plan.specs.Plan.{nodes_of}
-use Rattle.activity.specs.Rules.{Is}
-use Rattle.activity.specs.Inner.Sight.{Seen}
 use Rattle.activity.specs.Inner.Closure.{Closure}
 use Rattle.activity.specs.Inner.Order.{Lowest}
-use Rattle.activity.proofs.Judging.{Asked, no_nodes, node_more, all_nodes}
-use Rattle.activity.proofs.Places.{count_of, kind_of_lem}
-use borrow.Author.Rules.{rules}
+use Rattle.activity.proofs.Judging.{Asked}
 use Rattle.activity.proofs.lowest.Given as goal
 
 abbrev pub invariant-loop-n : goal.invariant-loop-n

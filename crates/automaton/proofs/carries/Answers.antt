@@ -5,7 +5,6 @@ use lib.Dec.{eqb}
 use borrow.Author.Tests.{eq-eqb, ne_eqb}
 use Rattle.plan.specs.declared.Input.{Input}
 use Rattle.automaton.specs.Next.{carries}
-use borrow.Author.Rules.{rules}
 use Rattle.automaton.proofs.carries.Goals as goal
 
 pub returns-then-f-e : goal.returns-then-f-e

@@ -1,14 +1,13 @@
-use mathlib.Core.Path.{◌≡◌, sym, ap, ◌∙◌}
+use mathlib.Core.Path.{sym, ap, ◌∙◌}
 use mathlib.Core.List.{List}
-use Prim.Native.Nat.{◌-◌, ◌≤◌}
+use Prim.Native.Nat.{◌-◌}
 use native.Mathlib.Omega.{arith}
 use Rattle.basis.specs.Parts.{part}
 use Rattle.plan.specs.declared.Transition.{Transition}
 use Rattle.plan.specs.Plan.{past_move}
-use Rattle.automaton.specs.Next.{chosen_from, chosen_of}
+use Rattle.automaton.specs.Next.{chosen_from}
 use Rattle.automaton.specs.Inner.Scan.{rest}
 use Rattle.automaton.proofs.Laws.Scan.{rest_all, chosen_here, chosen_other, chosen_past, chosen_none}
-use borrow.Author.Rules.{rules}
 use Rattle.automaton.proofs.chosen_of.Goals as goal
 
 pub loop-i-init : goal.loop-i-init

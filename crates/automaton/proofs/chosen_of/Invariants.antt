@@ -1,15 +1,8 @@
 -- `chosen_of` goes by the first transition that carries the event and the outcome: the transition taken is what the transitions from i on say.
-use mathlib.Core.Path.{◌≡◌, sym, ap, ◌∙◌}
-use mathlib.Core.List.{List}
+use mathlib.Core.Path.{◌≡◌}
 use Prim.Native.Nat.{◌-◌, ◌≤◌}
-use native.Mathlib.Omega.{arith}
-use Rattle.basis.specs.Parts.{part}
-use Rattle.plan.specs.declared.Transition.{Transition}
-use Rattle.plan.specs.Plan.{past_move}
 use Rattle.automaton.specs.Next.{chosen_from, chosen_of}
 use Rattle.automaton.specs.Inner.Scan.{rest}
-use Rattle.automaton.proofs.Laws.Scan.{rest_all, chosen_here, chosen_other, chosen_past, chosen_none}
-use borrow.Author.Rules.{rules}
 use Rattle.automaton.proofs.chosen_of.Given as goal
 
 abbrev pub invariant-loop-i : goal.invariant-loop-i

@@ -1,15 +1,8 @@
 -- `first_of` goes by the first transition that leaves the state: what it says is what the ways out from i on say.
-use mathlib.Core.Path.{◌≡◌, sym, ap, ◌∙◌}
-use mathlib.Core.List.{List}
+use mathlib.Core.Path.{◌≡◌}
 use Prim.Native.Nat.{◌-◌, ◌≤◌}
-use native.Mathlib.Omega.{arith}
-use Rattle.basis.specs.Parts.{part}
-use Rattle.plan.specs.declared.Transition.{Transition}
-use Rattle.plan.specs.Plan.{past_move}
 use Rattle.automaton.specs.Next.{ways_from, first_by, first_of}
 use Rattle.automaton.specs.Inner.Scan.{rest}
-use Rattle.automaton.proofs.Laws.Scan.{rest_all, ways_here, ways_past, ways_none}
-use borrow.Author.Rules.{rules}
 use Rattle.automaton.proofs.first_of.Given as goal
 
 abbrev pub invariant-loop-i : goal.invariant-loop-i

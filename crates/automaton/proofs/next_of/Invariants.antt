@@ -1,19 +1,13 @@
 -- `next_of` keeps the first way out: the ways out are that one, where it is kept, and those from i on.
-use mathlib.Core.Path.{◌≡◌, sym, ap, ◌∙◌}
+use mathlib.Core.Path.{◌≡◌, ap}
 use mathlib.Core.Bool.{Bool}
 use mathlib.Core.List.{List, ◌∷◌}
-use Prim.Native.Nat.{ℕ, ◌-◌, ◌+◌, ◌≤◌, ◌<◌}
-use native.Mathlib.Omega.{arith}
+use Prim.Native.Nat.{ℕ, ◌-◌, ◌≤◌, ◌<◌}
 use borrow.Author.Tests.{lt-ltb, le-ltb}
 use lib.Dec.{ltb}
-use Rattle.basis.specs.Parts.{part}
-use Rattle.plan.specs.declared.Transition.{Transition}
 use Rattle.plan.specs.declared.Automaton.{Automaton}
-use Rattle.plan.specs.Plan.{past_move}
-use Rattle.automaton.specs.Next.{added, ways_from, ways_out, next_by}
+use Rattle.automaton.specs.Next.{added, ways_from, ways_out}
 use Rattle.automaton.specs.Inner.Scan.{rest}
-use Rattle.automaton.proofs.Laws.Scan.{rest_all, ways_here, ways_past, ways_none}
-use borrow.Author.Rules.{rules}
 use Rattle.automaton.proofs.next_of.Given as goal
 
 abbrev pub later : Automaton → ℕ → ℕ → ℕ → List ℕ

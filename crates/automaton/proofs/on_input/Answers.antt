@@ -2,7 +2,6 @@
 use mathlib.Core.Path.{sym, ap}
 use Rattle.plan.specs.declared.Input.{Input}
 use Rattle.automaton.specs.Next.{on_input}
-use borrow.Author.Rules.{rules}
 use Rattle.automaton.proofs.on_input.Goals as goal
 
 pub returns-in-Nothing : goal.returns-in-Nothing

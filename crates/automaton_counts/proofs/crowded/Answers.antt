@@ -1,14 +1,12 @@
 use Rattle.basis.specs.Inner.Tells.{holds, fails}
 use Rattle.basis.proofs.Laws.Bools.{clash}
-use Rattle.basis.specs.Tests.{flag}
 use Rattle.automaton.specs.Tests.{at}
 use Rattle.automaton_counts.proofs.Tools.{crowd_at, no_crowd}
 use borrow.Author.Count.{below_more}
 use mathlib.Core.Bool.{true}
-use Prim.Native.Nat.{ℕ, ◌-◌, ◌/◌, ◌≤◌, ◌<◌}
-use mathlib.Core.Path.{◌≡◌, sym, ◌∙◌}
+use Prim.Native.Nat.{◌-◌, ◌/◌}
+use mathlib.Core.Path.{sym, ◌∙◌}
 use native.Mathlib.Omega.{arith}
-use borrow.Author.Rules.{rules}
 use Rattle.automaton_counts.proofs.crowded.Goals as goal
 
 pub loop-k-init : goal.loop-k-init

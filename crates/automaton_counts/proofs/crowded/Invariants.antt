@@ -1,15 +1,9 @@
 -- `crowded` looks at all counts: none before k is above 8 at a reached state.
-use Rattle.basis.specs.Inner.Tells.{holds, fails}
-use Rattle.basis.proofs.Laws.Bools.{clash}
 use Rattle.basis.specs.Tests.{flag}
 use Rattle.automaton.specs.Tests.{at}
-use Rattle.automaton_counts.proofs.Tools.{crowd_at, no_crowd}
-use borrow.Author.Count.{below_more}
 use mathlib.Core.Bool.{true}
 use Prim.Native.Nat.{ℕ, ◌-◌, ◌/◌, ◌≤◌, ◌<◌}
-use mathlib.Core.Path.{◌≡◌, sym, ◌∙◌}
-use native.Mathlib.Omega.{arith}
-use borrow.Author.Rules.{rules}
+use mathlib.Core.Path.{◌≡◌}
 use Rattle.automaton_counts.proofs.crowded.Given as goal
 
 abbrev pub invariant-loop-k : goal.invariant-loop-k

@@ -1,17 +1,11 @@
 -- `keeps` looks at all transitions of reached states.
-use Rattle.basis.proofs.Laws.Bools.{clash as true-false}
 use Rattle.basis.specs.Tests.{flag}
 use Rattle.automaton_counts.specs.Inner.Emits.{gives}
 use Rattle.automaton.specs.Inner.Counts.{Kept}
-use Rattle.automaton_counts.proofs.Tools.{moved, move_ok, sure, fails}
 use Rattle.plan.specs.Plan.{move}
-use borrow.Author.Count.{below_more}
-use borrow.Author.Tests.{not-true, not-false}
 use mathlib.Core.Bool.{true}
 use Prim.Native.Nat.{ℕ, ◌-◌, ◌≤◌, ◌<◌}
-use mathlib.Core.Path.{◌≡◌, sym, ◌∙◌}
-use native.Mathlib.Omega.{arith}
-use borrow.Author.Rules.{rules}
+use mathlib.Core.Path.{◌≡◌}
 use Rattle.automaton_counts.proofs.keeps.Given as goal
 
 abbrev pub invariant-loop-i : goal.invariant-loop-i

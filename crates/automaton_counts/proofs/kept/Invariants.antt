@@ -1,14 +1,7 @@
 -- `kept` looks at all events.
-use Rattle.automaton.specs.Tests.{at}
 use Rattle.automaton.specs.Inner.Counts.{Fitting}
-use Rattle.automaton_counts.proofs.Tools.{sure, fails}
-use Rattle.automaton_counts.proofs.Laws.Emits.{gives_few}
 use Rattle.automaton_counts.specs.Inner.Emits.{gives}
-use borrow.Author.Count.{below_more}
-use Prim.Native.Nat.{ℕ, ◌+◌, ◌*◌, ◌-◌, ◌≤◌, ◌<◌}
-use mathlib.Core.Path.{ap}
-use native.Mathlib.Omega.{arith}
-use borrow.Author.Rules.{rules}
+use Prim.Native.Nat.{ℕ, ◌-◌, ◌≤◌, ◌<◌}
 use Rattle.automaton_counts.proofs.kept.Given as goal
 
 abbrev pub invariant-loop-e : goal.invariant-loop-e

@@ -1,17 +1,10 @@
 -- `left` looks at all counts: at none before k is something left at a reached final state.
-use mathlib.Core.Path.{◌≡◌, sym, ◌∙◌}
+use mathlib.Core.Path.{◌≡◌}
 use mathlib.Core.Bool.{true}
 use Prim.Native.Nat.{ℕ, ◌-◌, ◌/◌, ◌≤◌, ◌<◌}
-use native.Mathlib.Omega.{arith}
-use borrow.Author.Count.{below_more}
-use borrow.Author.Tests.{not-true, not-false}
-use Rattle.basis.specs.Inner.Tells.{holds, fails}
 use Rattle.basis.specs.Tests.{flag}
-use Rattle.basis.proofs.Laws.Bools.{clash}
 use Rattle.automaton.specs.Tests.{at}
 use Rattle.plan.specs.Plan.{final_bit}
-use Rattle.automaton_counts.proofs.Tools.{left_at, no_left, final_same}
-use borrow.Author.Rules.{rules}
 use Rattle.automaton_counts.proofs.left.Given as goal
 
 abbrev pub invariant-loop-k : goal.invariant-loop-k

@@ -6,7 +6,6 @@ use Rattle.automaton.proofs.Laws.Counts.{clash_25, left_25, crowd_26, crowd_of, 
 use borrow.Author.Tests.{not-true, not-false}
 use mathlib.Core.Path.{refl}
 use native.Mathlib.Omega.{arith}
-use borrow.Author.Rules.{rules}
 use mathlib.Core.Path.{ap}
 use mathlib.Core.Bool.{not}
 use Rattle.automaton_counts.proofs.pending.Goals as goal

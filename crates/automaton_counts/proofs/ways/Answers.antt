@@ -6,7 +6,6 @@ use mathlib.Core.List.{List}
 use Rattle.basis.specs.Tests.{flag}
 use Rattle.automaton.specs.Number.{lowest, to_final}
 use Rattle.automaton_counts.proofs.Tools.{way_stops, way_goes}
-use borrow.Author.Rules.{rules}
 use Rattle.automaton_counts.proofs.ways.Goals as goal
 
 pub returns-then-s-states : goal.returns-then-s-states

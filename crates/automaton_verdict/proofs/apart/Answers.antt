@@ -5,7 +5,6 @@ use lib.Dec.{eqb}
 use borrow.Author.Tests.{eq-eqb, ne_eqb}
 use Rattle.plan.specs.declared.Input.{Input}
 use Rattle.automaton.specs.Number.{apart}
-use borrow.Author.Rules.{rules}
 use Rattle.automaton_verdict.proofs.apart.Goals as goal
 
 pub returns-then-e-f : goal.returns-then-e-f

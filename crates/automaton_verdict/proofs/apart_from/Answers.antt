@@ -1,11 +1,10 @@
-use mathlib.Core.Path.{◌≡◌, sym, ap, ◌∙◌}
-use Prim.Native.Nat.{ℕ, ◌-◌, ◌≤◌}
+use mathlib.Core.Path.{sym, ap, ◌∙◌}
+use Prim.Native.Nat.{ℕ, ◌-◌}
 use native.Mathlib.Omega.{arith}
 use borrow.Author.Tests.{not-true, not-false}
 use Rattle.automaton.specs.Number.{apart_from}
 use Rattle.automaton.specs.Inner.Scan.{rest}
 use Rattle.automaton_verdict.proofs.Tools.{apart_scans, scan-other, scan_good, scan_bad, scan_done}
-use borrow.Author.Rules.{rules}
 use mathlib.Core.Bool.{not}
 use Rattle.automaton_verdict.proofs.apart_from.Goals as goal
 

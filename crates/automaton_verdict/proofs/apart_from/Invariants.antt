@@ -1,12 +1,8 @@
 -- `apart_from` scans the transitions from number i on.
-use mathlib.Core.Path.{◌≡◌, sym, ap, ◌∙◌}
-use Prim.Native.Nat.{ℕ, ◌-◌, ◌≤◌}
-use native.Mathlib.Omega.{arith}
-use borrow.Author.Tests.{not-true, not-false}
+use mathlib.Core.Path.{◌≡◌, ap}
+use Prim.Native.Nat.{◌-◌, ◌≤◌}
 use Rattle.automaton.specs.Number.{apart_from}
 use Rattle.automaton.specs.Inner.Scan.{rest}
-use Rattle.automaton_verdict.proofs.Tools.{apart_scans, scan-other, scan_good, scan_bad, scan_done}
-use borrow.Author.Rules.{rules}
 use Rattle.automaton_verdict.proofs.apart_from.Given as goal
 
 abbrev pub invariant-loop-j : goal.invariant-loop-j

@@ -5,7 +5,6 @@ use Rattle.automaton.specs.Tests.{at}
 use Rattle.automaton.specs.Number.{way_verdict}
 use Rattle.automaton_counts.specs.Inner.Emits.{gives}
 use Rattle.automaton_verdict.proofs.Tools.{and_then, state_then}
-use borrow.Author.Rules.{rules}
 use Rattle.automaton_verdict.proofs.automaton.Goals as goal
 
 pub returns-in_default : goal.returns-in_default

@@ -1,6 +1,6 @@
-use mathlib.Core.Path.{◌≡◌, sym, ap, ◌∙◌}
+use mathlib.Core.Path.{sym, ap, ◌∙◌}
 use mathlib.Core.List.{List}
-use Prim.Native.Nat.{ℕ, ◌+◌, ◌-◌, ◌≤◌}
+use Prim.Native.Nat.{ℕ, ◌+◌, ◌-◌}
 use native.Mathlib.Omega.{arith}
 use borrow.Author.Tests.{not-true, not-false}
 use lib.ListN.{get_or}
@@ -11,7 +11,6 @@ use Rattle.automaton.specs.Number.{apart_from, branches_in, branches}
 use Rattle.automaton.specs.Inner.Scan.{rest}
 use Rattle.automaton.proofs.Laws.Scan.{rest_all}
 use Rattle.automaton_verdict.proofs.Tools.{branches_scans, scan-other, scan_good, scan_bad, scan_done}
-use borrow.Author.Rules.{rules}
 use mathlib.Core.Bool.{not}
 use Rattle.automaton_verdict.proofs.branches.Goals as goal
 

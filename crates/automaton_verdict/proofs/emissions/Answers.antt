@@ -1,8 +1,6 @@
-use mathlib.Core.Path.{◌≡◌}
-use Prim.Native.Nat.{◌+◌, ◌-◌, ◌*◌, ◌/◌, ◌≤◌}
+use Prim.Native.Nat.{◌+◌, ◌-◌, ◌*◌, ◌/◌}
 use native.Mathlib.Omega.{arith}
-use Rattle.automaton_verdict.proofs.Counting.{Counting, counting_starts, counting_past, counting_none, counting_one, counting_ends}
-use borrow.Author.Rules.{rules}
+use Rattle.automaton_verdict.proofs.Counting.{counting_starts, counting_past, counting_none, counting_one, counting_ends}
 use Rattle.automaton_verdict.proofs.emissions.Goals as goal
 
 pub overflow_mul-end : goal.overflow_mul-end

@@ -1,9 +1,7 @@
 -- `emissions` fills the table node by node.
 use mathlib.Core.Path.{◌≡◌}
-use Prim.Native.Nat.{◌+◌, ◌-◌, ◌*◌, ◌/◌, ◌≤◌}
-use native.Mathlib.Omega.{arith}
-use Rattle.automaton_verdict.proofs.Counting.{Counting, counting_starts, counting_past, counting_none, counting_one, counting_ends}
-use borrow.Author.Rules.{rules}
+use Prim.Native.Nat.{◌-◌, ◌*◌, ◌≤◌}
+use Rattle.automaton_verdict.proofs.Counting.{Counting}
 use Rattle.automaton_verdict.proofs.emissions.Given as goal
 
 abbrev pub invariant-loop-i : goal.invariant-loop-i

@@ -1,10 +1,9 @@
-use mathlib.Core.Path.{◌≡◌, sym, ◌∙◌}
-use Prim.Native.Nat.{◌-◌, ◌≤◌}
+use mathlib.Core.Path.{sym, ◌∙◌}
+use Prim.Native.Nat.{◌-◌}
 use native.Mathlib.Omega.{arith}
 use borrow.Author.Tests.{not-true, not-false}
-use Rattle.automaton.specs.Number.{lowest, branches}
+use Rattle.automaton.specs.Number.{branches}
 use Rattle.automaton.proofs.Laws.Lowest.{scan_starts, scan_passes, scan_stops, scan_ends}
-use borrow.Author.Rules.{rules}
 use mathlib.Core.Path.{ap}
 use mathlib.Core.Bool.{not}
 use Rattle.automaton_verdict.proofs.lowest_branch.Goals as goal

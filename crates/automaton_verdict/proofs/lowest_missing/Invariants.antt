@@ -1,12 +1,8 @@
 -- `lowest_missing` scans the states from 0 on.
 use Rattle.automaton.specs.Tests.{at}
-use mathlib.Core.Path.{◌≡◌, sym, ◌∙◌}
+use mathlib.Core.Path.{◌≡◌}
 use Prim.Native.Nat.{◌-◌, ◌≤◌}
-use native.Mathlib.Omega.{arith}
-use borrow.Author.Tests.{not-true, not-false}
 use Rattle.automaton.specs.Number.{lowest, serves}
-use Rattle.automaton.proofs.Laws.Lowest.{scan_starts, scan_passes, scan_stops, scan_ends}
-use borrow.Author.Rules.{rules}
 use Rattle.automaton_verdict.proofs.lowest_missing.Given as goal
 
 abbrev pub invariant-loop-s : goal.invariant-loop-s

@@ -1,11 +1,7 @@
 -- `lowest_way_out` scans the states from 0 on.
-use mathlib.Core.Path.{◌≡◌, sym, ◌∙◌}
+use mathlib.Core.Path.{◌≡◌}
 use Prim.Native.Nat.{◌-◌, ◌≤◌}
-use native.Mathlib.Omega.{arith}
-use borrow.Author.Tests.{not-true, not-false}
 use Rattle.automaton.specs.Number.{lowest, no_way_out}
-use Rattle.automaton.proofs.Laws.Lowest.{scan_starts, scan_passes, scan_stops, scan_ends}
-use borrow.Author.Rules.{rules}
 use Rattle.automaton_verdict.proofs.lowest_way_out.Given as goal
 
 abbrev pub invariant-loop-s : goal.invariant-loop-s

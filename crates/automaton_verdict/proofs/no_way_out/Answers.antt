@@ -5,7 +5,6 @@ use borrow.Author.Tests.{not-true, not-false}
 use Rattle.plan.specs.Plan.{is_final}
 use Rattle.automaton.specs.Next.{first_of}
 use Rattle.automaton.specs.Number.{is_ended, no_way_out}
-use borrow.Author.Rules.{rules}
 use mathlib.Core.Bool.{not}
 use Rattle.automaton_verdict.proofs.no_way_out.Goals as goal
 

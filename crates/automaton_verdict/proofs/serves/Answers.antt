@@ -6,7 +6,6 @@ use Rattle.automaton.specs.Tests.{at, all}
 use Rattle.automaton.specs.Next.{chosen_of}
 use Rattle.automaton.specs.Number.{is_move, serves_next, serves}
 use Rattle.automaton_verdict.proofs.Tools.{awaited_low}
-use borrow.Author.Rules.{rules}
 use Rattle.automaton_verdict.proofs.serves.Goals as goal
 
 pub bounds-outcomes-place : goal.bounds-outcomes-place

@@ -1,13 +1,12 @@
 use mathlib.Core.Path.{◌≡◌, refl, sym, ap, ◌∙◌}
 use mathlib.Core.Bool.{true}
-use Prim.Native.Nat.{ℕ, ◌-◌, ◌≤◌}
+use Prim.Native.Nat.{ℕ, ◌-◌}
 use native.Mathlib.Omega.{arith}
 use borrow.Author.Tests.{not-true, not-false}
 use Rattle.automaton.specs.Tests.{all}
 use Rattle.automaton.specs.Next.{chosen_of}
 use Rattle.automaton.specs.Number.{is_move}
 use Rattle.automaton_verdict.proofs.Tools.{all_more, all_stops}
-use borrow.Author.Rules.{rules}
 use mathlib.Core.Bool.{not}
 use Rattle.automaton_verdict.proofs.serves_all.Goals as goal
 

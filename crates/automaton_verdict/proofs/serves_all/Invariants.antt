@@ -1,14 +1,10 @@
 -- `serves_all` looks at the outcomes from 0 on.
-use mathlib.Core.Path.{◌≡◌, refl, sym, ap, ◌∙◌}
+use mathlib.Core.Path.{◌≡◌}
 use mathlib.Core.Bool.{true}
-use Prim.Native.Nat.{ℕ, ◌-◌, ◌≤◌}
-use native.Mathlib.Omega.{arith}
-use borrow.Author.Tests.{not-true, not-false}
+use Prim.Native.Nat.{◌-◌, ◌≤◌}
 use Rattle.automaton.specs.Tests.{all}
 use Rattle.automaton.specs.Next.{chosen_of}
 use Rattle.automaton.specs.Number.{is_move}
-use Rattle.automaton_verdict.proofs.Tools.{all_more, all_stops}
-use borrow.Author.Rules.{rules}
 use Rattle.automaton_verdict.proofs.serves_all.Given as goal
 
 abbrev pub invariant-loop-q : goal.invariant-loop-q

@@ -4,7 +4,6 @@ use native.Mathlib.Omega.{arith}
 use Rattle.plan.specs.declared.Verdict.{Verdict}
 use Rattle.automaton.specs.Tests.{at}
 use Rattle.automaton_verdict.proofs.Tools.{state_21, state_22, state_23, state_on}
-use borrow.Author.Rules.{rules}
 use Rattle.automaton_verdict.proofs.state_verdict.Goals as goal
 
 pub returns-then-out-states : goal.returns-then-out-states

@@ -1,10 +1,7 @@
-use mathlib.Core.Path.{◌≡◌, sym, ◌∙◌}
+use mathlib.Core.Path.{sym, ◌∙◌}
 use native.Mathlib.Omega.{arith}
-use Prim.Native.Nat.{◌+◌, ◌-◌, ◌≤◌}
-use lib.ListN.{length}
-use Rattle.drive.specs.Drive.{parts_from}
+use Prim.Native.Nat.{◌-◌}
 use Rattle.drive.proofs.Turns.{part_ahead, count_ends, count_goes, count_over}
-use borrow.Author.Rules.{rules}
 use Rattle.drive.proofs.count_from.Goals as goal
 
 pub returns-in-None : goal.returns-in-None

@@ -1,11 +1,8 @@
 -- Counting the parts: those counted and those left are all.
-use mathlib.Core.Path.{◌≡◌, sym, ◌∙◌}
-use native.Mathlib.Omega.{arith}
+use mathlib.Core.Path.{◌≡◌}
 use Prim.Native.Nat.{◌+◌, ◌-◌, ◌≤◌}
 use lib.ListN.{length}
 use Rattle.drive.specs.Drive.{parts_from}
-use Rattle.drive.proofs.Turns.{part_ahead, count_ends, count_goes, count_over}
-use borrow.Author.Rules.{rules}
 use Rattle.drive.proofs.count_from.Given as goal
 
 abbrev pub invariant-loop-left : goal.invariant-loop-left

@@ -1,7 +1,6 @@
 -- An input that ends inside the opening has no records.
 use mathlib.Core.Path.{sym, ◌∙◌}
 use Rattle.drive.proofs.Fitting.{no_opening}
-use borrow.Author.Rules.{rules}
 use Rattle.drive.proofs.drive.Goals as goal
 
 pub if_they_fit-requires : goal.if_they_fit-requires

@@ -2,7 +2,6 @@
 use native.Mathlib.Omega.{arith}
 use Rattle.drive_input.proofs.Laws.Whole.{whole_parts}
 use Rattle.drive.proofs.Fitting.{all_parts, too_short, all_written}
-use borrow.Author.Rules.{rules}
 use Rattle.drive.proofs.if_they_fit.Goals as goal
 
 pub count_from-parts-requires : goal.count_from-parts-requires

@@ -4,7 +4,6 @@ use Rattle.drive_input.proofs.Laws.Whole.{whole_fits, whole_parts}
 use Rattle.drive.proofs.Turns.{opens}
 use Rattle.drive_records.proofs.Laws.Records.{record_length}
 use Rattle.wire.proofs.Laws.Puts.{puts_length}
-use borrow.Author.Rules.{rules}
 use Rattle.drive.proofs.opened_and_called.Goals as goal
 
 pub open-opened-requires : goal.open-opened-requires

@@ -1,10 +1,10 @@
-use mathlib.Core.Path.{◌≡◌, refl, sym, ◌∙◌}
+use mathlib.Core.Path.{refl, sym, ◌∙◌}
 use native.Mathlib.Omega.{arith}
-use Prim.Native.Nat.{◌+◌, ◌*◌, ◌-◌, ◌≤◌}
+use Prim.Native.Nat.{◌-◌}
 use lib.ListN.{length}
 use Rattle.wire.proofs.Laws.Puts.{puts_length}
 use Rattle.drive_records.proofs.Laws.Records.{record_length}
-use Rattle.drive.proofs.Turns.{driven_from, Leads, part_ahead, turn_ends, turn_calls, turn_asks, turn_over}
+use Rattle.drive.proofs.Turns.{part_ahead, turn_ends, turn_calls, turn_asks, turn_over}
 use borrow.Author.Rules.{rules}
 use Rattle.drive.proofs.parts_from.Goals as goal
 

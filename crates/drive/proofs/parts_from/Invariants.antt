@@ -1,12 +1,8 @@
 -- The loop over the parts. Its invariant: what puts the records of the parts that are left puts all of them.
-use mathlib.Core.Path.{◌≡◌, refl, sym, ◌∙◌}
-use native.Mathlib.Omega.{arith}
+use mathlib.Core.Path.{◌≡◌}
 use Prim.Native.Nat.{◌+◌, ◌*◌, ◌-◌, ◌≤◌}
 use lib.ListN.{length}
-use Rattle.wire.proofs.Laws.Puts.{puts_length}
-use Rattle.drive_records.proofs.Laws.Records.{record_length}
-use Rattle.drive.proofs.Turns.{driven_from, Leads, part_ahead, turn_ends, turn_calls, turn_asks, turn_over}
-use borrow.Author.Rules.{rules}
+use Rattle.drive.proofs.Turns.{driven_from, Leads}
 use Rattle.drive.proofs.parts_from.Given as goal
 
 abbrev pub invariant-loop-left : goal.invariant-loop-left

@@ -1,7 +1,6 @@
 -- An ask: there whole, or cut off.
 use native.Mathlib.Omega.{arith}
 use Rattle.drive_input.proofs.Offsets.{ask_cut, ask_there}
-use borrow.Author.Rules.{rules}
 use Rattle.drive_input.proofs.ask_at.Goals as goal
 
 pub returns-then-input-at-lt9 : goal.returns-then-input-at-lt9

@@ -1,9 +1,8 @@
 use mathlib.Core.List.{[]}
-use mathlib.Core.Path.{◌≡◌}
 use native.Mathlib.Omega.{arith}
-use Prim.Native.Nat.{◌+◌, ◌*◌, ◌-◌, ◌≤◌}
+use Prim.Native.Nat.{◌-◌}
 use lib.ListN.{length, length-set}
-use Rattle.drive_input.proofs.Filled.{Fills, fills_none, fills_more, fills_all}
+use Rattle.drive_input.proofs.Filled.{fills_none, fills_more, fills_all}
 use borrow.Author.Rules.{rules}
 use Rattle.drive_input.proofs.availabilities.Goals as goal
 

@@ -1,11 +1,8 @@
 -- The loop over the availabilities. Its invariant: the first i stand in the array, and the next begins at `off`.
-use mathlib.Core.List.{[]}
 use mathlib.Core.Path.{◌≡◌}
-use native.Mathlib.Omega.{arith}
 use Prim.Native.Nat.{◌+◌, ◌*◌, ◌-◌, ◌≤◌}
-use lib.ListN.{length, length-set}
-use Rattle.drive_input.proofs.Filled.{Fills, fills_none, fills_more, fills_all}
-use borrow.Author.Rules.{rules}
+use lib.ListN.{length}
+use Rattle.drive_input.proofs.Filled.{Fills}
 use Rattle.drive_input.proofs.availabilities.Given as goal
 
 abbrev pub invariant-loop-i : goal.invariant-loop-i

@@ -1,7 +1,6 @@
 -- A completion: there whole, or cut off.
 use native.Mathlib.Omega.{arith}
 use Rattle.drive_input.proofs.Offsets.{completion_cut, completion_there}
-use borrow.Author.Rules.{rules}
 use Rattle.drive_input.proofs.completion_at.Goals as goal
 
 pub returns-then-input-at-lt14 : goal.returns-then-input-at-lt14

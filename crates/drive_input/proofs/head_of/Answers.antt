@@ -3,7 +3,6 @@ use mathlib.Core.Path.{refl, ap}
 use native.Mathlib.Omega.{arith}
 use Prim.Native.Nat.{ℕ, ◌+◌, ◌*◌, ◌<◌}
 use Rattle.drive_input.proofs.Offsets.{head_cut, times_cut, head_there}
-use borrow.Author.Rules.{rules}
 use Rattle.drive_input.proofs.head_of.Goals as goal
 
 pub returns-then-size-lt19 : goal.returns-then-size-lt19

@@ -1,7 +1,6 @@
 -- An outcome: there whole, or cut off.
 use native.Mathlib.Omega.{arith}
 use Rattle.drive_input.proofs.Offsets.{outcome_cut, outcome_there}
-use borrow.Author.Rules.{rules}
 use Rattle.drive_input.proofs.outcome_at.Goals as goal
 
 pub returns-then-input-at-lt15 : goal.returns-then-input-at-lt15

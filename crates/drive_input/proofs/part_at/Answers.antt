@@ -2,7 +2,6 @@
 use mathlib.Core.Path.{◌∙◌}
 use native.Mathlib.Omega.{arith}
 use Rattle.drive_input.proofs.Offsets.{no_part, is_ask, is_completion, is_outcome, is_place, no_kind}
-use borrow.Author.Rules.{rules}
 use Rattle.drive_input.proofs.part_at.Goals as goal
 
 pub returns-then-at-input : goal.returns-then-at-input

@@ -1,7 +1,6 @@
 -- The question where a node stands: there whole, or cut off.
 use native.Mathlib.Omega.{arith}
 use Rattle.drive_input.proofs.Offsets.{place_cut, place_there}
-use borrow.Author.Rules.{rules}
 use Rattle.drive_input.proofs.place_at.Goals as goal
 
 pub returns-then-input-at-lt6 : goal.returns-then-input-at-lt6

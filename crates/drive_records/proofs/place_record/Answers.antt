@@ -1,6 +1,5 @@
 -- The record of a node's place.
 use Rattle.drive_records.specs.Records.{place_record}
-use borrow.Author.Rules.{rules}
 use Rattle.drive_records.proofs.place_record.Goals as goal
 
 pub returns : goal.returns

@@ -5,7 +5,6 @@ use Prim.Native.Nat.{◌+◌, ◌-◌}
 use Rattle.drive_records.specs.Records.{record_bytes}
 use Rattle.drive_records.proofs.Laws.Records.{record_length}
 use Rattle.drive_records.proofs.Laws.Placed.{placed}
-use borrow.Author.Rules.{rules}
 use Rattle.drive_records.proofs.put_at.Goals as goal
 
 pub returns : goal.returns

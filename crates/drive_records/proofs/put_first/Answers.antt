@@ -1,7 +1,6 @@
 -- The parts of a record are put one after the other.
 use Rattle.wire.proofs.Laws.Puts.{puts_join}
 use Rattle.drive_records.specs.Records.{record_bytes}
-use borrow.Author.Rules.{rules}
 use Rattle.drive_records.proofs.put_first.Goals as goal
 
 pub returns : goal.returns

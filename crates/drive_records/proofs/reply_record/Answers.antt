@@ -2,7 +2,6 @@
 use mathlib.Core.Path.{◌∙◌, ap}
 use Prim.Native.Nat.{ℕ}
 use Rattle.drive_records.specs.Records.{bare, reply_record}
-use borrow.Author.Rules.{rules}
 use Rattle.drive_records.proofs.reply_record.Goals as goal
 
 pub returns-in-Start : goal.returns-in-Start

@@ -1,6 +1,5 @@
 -- The record of each stop.
 use Rattle.drive_records.specs.Records.{bare, stop_record}
-use borrow.Author.Rules.{rules}
 use Rattle.drive_records.proofs.stop_record.Goals as goal
 
 pub returns-in-Late : goal.returns-in-Late

@@ -1,7 +1,6 @@
 use native.Mathlib.Omega.{arith}
 use Rattle.judge.proofs.Laws.Judge.{read_limits}
 use Rattle.exports.specs.Codes.{activities_code}
-use borrow.Author.Rules.{rules}
 use Rattle.exports.proofs.jidlekuvo_activities.Goals as goal
 
 pub activities_of-requires : goal.activities_of-requires

@@ -1,6 +1,5 @@
 use mathlib.Core.Path.{ap, ◌∙◌}
 use Rattle.exports.specs.Codes.{recorded_code}
-use borrow.Author.Rules.{rules}
 use Rattle.exports.proofs.jidlekuvo_drive.Goals as goal
 
 pub returns : goal.returns

@@ -1,6 +1,5 @@
 use mathlib.Core.Path.{ap, ◌∙◌}
 use Rattle.numbers.specs.Codes.{code_of}
-use borrow.Author.Rules.{rules}
 use Rattle.exports.proofs.jidlekuvo_judge.Goals as goal
 
 pub returns : goal.returns

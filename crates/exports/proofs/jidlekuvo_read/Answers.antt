@@ -1,7 +1,6 @@
 use mathlib.Core.Path.{ap, ◌∙◌}
 use Rattle.plan.specs.declared.PlanRead.{PlanRead}
 use Rattle.numbers.specs.Codes.{code_of}
-use borrow.Author.Rules.{rules}
 use Rattle.exports.proofs.jidlekuvo_read.Goals as goal
 
 pub returns : goal.returns

@@ -1,6 +1,5 @@
 use mathlib.Core.Path.{ap, ◌∙◌}
 use Rattle.exports.specs.Codes.{written_code, back_code, back_buffer}
-use borrow.Author.Rules.{rules}
 use Rattle.exports.proofs.jidlekuvo_write_back.Goals as goal
 
 pub returns-in-Refused : goal.returns-in-Refused

@@ -2,7 +2,6 @@ use mathlib.Core.Path.{◌≡◌, refl}
 use Rattle.drive.specs.declared.NotRecorded.{NotRecorded}
 use Rattle.drive.specs.declared.Recorded.{Recorded}
 use Rattle.exports.specs.Codes.{recorded_code}
-use borrow.Author.Rules.{rules}
 use Rattle.exports.proofs.recorded_code.Goals as goal
 
 short : (w : NotRecorded) → 154_618_822_656 ≡ recorded_code (Recorded.Refused w)

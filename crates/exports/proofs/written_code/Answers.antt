@@ -1,5 +1,4 @@
 use Rattle.exports.specs.Codes.{written_code}
-use borrow.Author.Rules.{rules}
 use Rattle.exports.proofs.written_code.Goals as goal
 
 pub returns-in-Bytes : goal.returns-in-Bytes

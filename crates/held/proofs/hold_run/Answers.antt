@@ -1,4 +1,3 @@
-use borrow.Author.Rules.{rules}
 use Rattle.held.specs.Held.{held_of}
 use Rattle.held.proofs.hold_run.Goals as goal
 

@@ -1,5 +1,4 @@
 -- `all_but_nodes` puts the tests of the parts together.
-use borrow.Author.Rules.{rules}
 use Rattle.run_limits.specs.Progress.{progress_in_limits}
 use Rattle.held.specs.Held.{run_of}
 use Rattle.held_checks.specs.Inner.Checks.{all_but_nodes}

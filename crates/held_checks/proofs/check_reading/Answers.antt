@@ -1,6 +1,5 @@
 -- `check_reading` refuses a reading below the last one; 42 comes after it, and then 41.
 use borrow.Author.Tests.{lt-ltb, le-ltb}
-use borrow.Author.Rules.{rules}
 use Rattle.held_checks.proofs.check_reading.Goals as goal
 
 pub returns-then-m : goal.returns-then-m

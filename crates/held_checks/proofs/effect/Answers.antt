@@ -1,7 +1,5 @@
 -- `effect` refuses a plan with a node outside the limits, and otherwise does what the checks say.
-use borrow.Author.Rules.{rules}
 use borrow.Author.Tests.{not-true, not-false}
-use mathlib.Core.Path.{ap}
 use mathlib.Core.Bool.{not}
 use Rattle.held_checks.proofs.effect.Goals as goal
 

@@ -13,7 +13,6 @@ use Rattle.run_window.specs.Inner.Search.{seen_of}
 use Rattle.run_checks.specs.declared.Moment.{Moment}
 use Rattle.held.specs.Held.{entry_of, node_of}
 use Rattle.held_checks.specs.Inner.Checks.{ScannedIn}
-use borrow.Author.Rules.{rules}
 use Rattle.held_checks.proofs.look.Goals as goal
 
 module _ (m : Moment) (sought : Sought) (w : List Entry) where

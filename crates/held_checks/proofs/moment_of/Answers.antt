@@ -1,4 +1,3 @@
-use borrow.Author.Rules.{rules}
 use Rattle.held_checks.proofs.moment_of.Goals as goal
 
 pub returns : goal.returns

@@ -1,7 +1,6 @@
 -- `run_in_limits` is what it is defined to be.
 use mathlib.Core.Path.{sym, ◌∙◌}
 use borrow.Author.Tests.{le-leb, lt-leb, not-true, not-false}
-use borrow.Author.Rules.{rules}
 use mathlib.Core.Path.{ap}
 use mathlib.Core.Bool.{not}
 use Rattle.held_checks.proofs.run_in_limits.Goals as goal

@@ -1,4 +1,3 @@
-use borrow.Author.Rules.{rules}
 use Rattle.run.specs.Calls.{call_of}
 use Rattle.jidlekuvo.proofs.ask.Goals as goal
 

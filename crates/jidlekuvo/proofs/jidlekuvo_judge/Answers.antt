@@ -1,4 +1,3 @@
-use borrow.Author.Rules.{rules}
 use mathlib.Core.Path.{◌∙◌, ap}
 use Rattle.numbers.specs.Codes.{code_of}
 use Rattle.jidlekuvo.proofs.jidlekuvo_judge.Goals as goal

@@ -1,4 +1,3 @@
-use borrow.Author.Rules.{rules}
 use mathlib.Core.Path.{ap}
 use Rattle.jidlekuvo.specs.Host.{opened_as}
 use Rattle.jidlekuvo.proofs.jidlekuvo_open.Goals as goal

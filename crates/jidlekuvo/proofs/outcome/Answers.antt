@@ -1,9 +1,7 @@
 -- `outcome` loads where the outcome does, and otherwise carries out what it does.
-use borrow.Author.Rules.{rules}
 use mathlib.Core.Path.{◌≡◌, refl, sym, ◌∙◌, ap, subst}
 use mathlib.Core.List.{map}
 use lib.ListN.{length, length-map}
-use Rattle.basis.proofs.Laws.Lists.{unmapped}
 use Rattle.times.specs.declared.Progress.{Progress}
 use Rattle.run_checks.specs.declared.Halt.{Halt}
 use Rattle.run_checks.specs.declared.Moment.{Moment}

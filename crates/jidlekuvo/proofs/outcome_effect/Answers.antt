@@ -1,5 +1,4 @@
 -- `outcome_effect` goes from the limits to what the checks say, and from there to what the outcome does.
-use borrow.Author.Rules.{rules}
 use Rattle.jidlekuvo.proofs.Deciding.{place_below, effect_is}
 use Rattle.jidlekuvo.proofs.outcome_effect.Goals as goal
 

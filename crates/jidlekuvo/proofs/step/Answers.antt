@@ -1,8 +1,6 @@
 -- `step` carries out what the call does, which is no outcome that loads.
-use borrow.Author.Rules.{rules}
 use mathlib.Core.Path.{◌≡◌, sym, ◌∙◌, subst}
 use lib.ListN.{length, length-map}
-use Rattle.basis.proofs.Laws.Lists.{unmapped}
 use Rattle.run.specs.Calls.{reading_of}
 use Rattle.run.specs.Inner.Effects.{sought_by, checked_of, effect_of}
 use Rattle.held.specs.Held.{entry_of, run_of}

@@ -5,7 +5,6 @@ use Rattle.plan.specs.declared.Verdict.{Verdict}
 use Rattle.judge.specs.Judge.{judge_of}
 use Rattle.judge.specs.Inner.Judge.{by_verdict}
 use Rattle.judge.proofs.Laws.Judge.{read_limits}
-use borrow.Author.Rules.{rules}
 use Rattle.judge.proofs.judge.Goals as goal
 
 pub plan_verdict-w-requires : goal.plan_verdict-w-requires

@@ -5,7 +5,6 @@ use Rattle.automaton.specs.Number.{automaton_verdict}
 use Rattle.automaton.proofs.Laws.Bounds.{in_range}
 use Rattle.automaton_verdict.proofs.Laws.Table.{table_verdict}
 use Rattle.judge.specs.Judge.{on_verdict}
-use borrow.Author.Rules.{rules}
 use Rattle.judge.proofs.plan_verdict.Goals as goal
 
 pub returns-in_default : goal.returns-in_default

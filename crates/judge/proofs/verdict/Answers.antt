@@ -4,7 +4,6 @@ use native.Mathlib.Omega.{arith}
 use Rattle.judge.specs.Judge.{judge_of}
 use Rattle.judge.specs.Inner.Judge.{verdict_alone}
 use Rattle.judge.proofs.Laws.Judge.{read_limits}
-use borrow.Author.Rules.{rules}
 use Rattle.judge.proofs.verdict.Goals as goal
 
 pub returns-in_default : goal.returns-in_default

@@ -1,6 +1,5 @@
 -- A good message is its call; a bad one leaves the run as it came in.
 use Rattle.link.specs.Receive.{receive_of}
-use borrow.Author.Rules.{rules}
 use Rattle.link.proofs.receive.Goals as goal
 
 pub returns-in-Call : goal.returns-in-Call

@@ -1,10 +1,9 @@
-use mathlib.Core.Path.{◌≡◌, refl, sym, ◌∙◌}
+use mathlib.Core.Path.{refl, sym, ◌∙◌}
 use native.Mathlib.Omega.{arith}
-use Prim.Native.Nat.{◌+◌, ◌-◌, ◌≤◌}
+use Prim.Native.Nat.{◌-◌}
 use lib.ListN.{length}
 use Rattle.wire.proofs.Laws.Puts.{puts_none, puts_join, puts_length}
-use Rattle.link_drive.specs.Inner.Answers.{answers_from}
-use Rattle.link_drive.proofs.Turns.{Leads, Found, found, none_left, answers_one, answers_length, over}
+use Rattle.link_drive.proofs.Turns.{Found, found, none_left, answers_one, answers_length, over}
 use borrow.Author.Rules.{rules}
 use Rattle.link_drive.proofs.answers_from.Goals as goal
 

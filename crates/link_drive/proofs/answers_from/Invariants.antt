@@ -1,12 +1,9 @@
 -- The loop over the messages. Its invariant: what puts the answers to the messages that are left puts all of them.
-use mathlib.Core.Path.{◌≡◌, refl, sym, ◌∙◌}
-use native.Mathlib.Omega.{arith}
+use mathlib.Core.Path.{◌≡◌}
 use Prim.Native.Nat.{◌+◌, ◌-◌, ◌≤◌}
 use lib.ListN.{length}
-use Rattle.wire.proofs.Laws.Puts.{puts_none, puts_join, puts_length}
 use Rattle.link_drive.specs.Inner.Answers.{answers_from}
-use Rattle.link_drive.proofs.Turns.{Leads, Found, found, none_left, answers_one, answers_length, over}
-use borrow.Author.Rules.{rules}
+use Rattle.link_drive.proofs.Turns.{Leads}
 use Rattle.link_drive.proofs.answers_from.Given as goal
 
 abbrev pub invariant-loop-left : goal.invariant-loop-left

@@ -1,10 +1,8 @@
-use mathlib.Core.Path.{◌≡◌, sym, ◌∙◌, ap}
+use mathlib.Core.Path.{sym, ◌∙◌, ap}
 use native.Mathlib.Omega.{arith}
-use Prim.Native.Nat.{◌+◌, ◌-◌, ◌≤◌}
+use Prim.Native.Nat.{◌-◌}
 use lib.ListN.{length}
-use Rattle.link_drive.specs.LinkDrive.{messages_from}
 use Rattle.link_drive.proofs.Turns.{found, none_left, one_more, over}
-use borrow.Author.Rules.{rules}
 use Rattle.link_drive.proofs.count_from.Goals as goal
 
 pub returns-in_default : goal.returns-in_default

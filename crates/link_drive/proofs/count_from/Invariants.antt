@@ -1,11 +1,8 @@
 -- Counting the messages: those counted and those left are all.
-use mathlib.Core.Path.{◌≡◌, sym, ◌∙◌, ap}
-use native.Mathlib.Omega.{arith}
+use mathlib.Core.Path.{◌≡◌}
 use Prim.Native.Nat.{◌+◌, ◌-◌, ◌≤◌}
 use lib.ListN.{length}
 use Rattle.link_drive.specs.LinkDrive.{messages_from}
-use Rattle.link_drive.proofs.Turns.{found, none_left, one_more, over}
-use borrow.Author.Rules.{rules}
 use Rattle.link_drive.proofs.count_from.Given as goal
 
 abbrev pub invariant-loop-left : goal.invariant-loop-left

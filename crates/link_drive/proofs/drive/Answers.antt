@@ -1,7 +1,6 @@
 -- An input that ends inside the opening has no answers.
 use mathlib.Core.Path.{sym, ◌∙◌}
 use Rattle.link_drive.proofs.Fitting.{no_opening}
-use borrow.Author.Rules.{rules}
 use Rattle.link_drive.proofs.drive.Goals as goal
 
 pub if_they_fit-requires : goal.if_they_fit-requires

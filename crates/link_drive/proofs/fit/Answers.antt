@@ -7,7 +7,6 @@ use borrow.Author.Tests.{le-leb, lt-leb}
 use Rattle.link_drive.specs.Inner.Answers.{answers_from}
 use Rattle.link_drive.proofs.Laws.Replies.{answers_most}
 use Rattle.link_drive.proofs.Fitting.{behind_record}
-use borrow.Author.Rules.{rules}
 use Rattle.link_drive.proofs.fit.Goals as goal
 
 pub returns-then-room-lt16 : goal.returns-then-room-lt16

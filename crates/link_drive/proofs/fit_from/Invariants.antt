@@ -1,14 +1,8 @@
 -- The loop over the messages. What is free has fallen by the bytes of the answers before.
-use mathlib.Core.Path.{◌≡◌, sym, ◌∙◌, ap}
-use mathlib.Core.List.{List}
-use native.Mathlib.Omega.{arith}
-use Prim.Native.Nat.{ℕ, ◌+◌, ◌-◌, ◌≤◌}
+use mathlib.Core.Path.{◌≡◌}
+use Prim.Native.Nat.{◌+◌, ◌-◌, ◌≤◌}
 use lib.ListN.{length}
-use borrow.Author.Tests.{le-leb, lt-leb}
-use Rattle.link_drive.specs.LinkDrive.{replies_from, answer_bytes}
 use Rattle.link_drive.specs.Inner.Answers.{answers_from}
-use Rattle.link_drive.proofs.Turns.{Found, found, none_left, answers_length, over}
-use borrow.Author.Rules.{rules}
 use Rattle.link_drive.proofs.fit_from.Given as goal
 
 abbrev pub invariant-loop-left : goal.invariant-loop-left

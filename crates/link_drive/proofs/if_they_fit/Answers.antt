@@ -4,7 +4,6 @@ use Rattle.wire.proofs.Laws.Puts.{puts_length}
 use Rattle.drive_input.proofs.Laws.Whole.{whole_fits, whole_parts}
 use Rattle.drive_records.proofs.Laws.Records.{record_length}
 use Rattle.link_drive.proofs.Fitting.{too_short, room, all_written}
-use borrow.Author.Rules.{rules}
 use mathlib.Core.Path.{ap}
 use mathlib.Core.Bool.{not}
 use Rattle.link_drive.proofs.if_they_fit.Goals as goal

@@ -1,7 +1,6 @@
 -- The byte says how many follow it; the input holds them or ends.
 use native.Mathlib.Omega.{arith}
 use Rattle.link_drive.proofs.Turns.{next_ends, next_at}
-use borrow.Author.Rules.{rules}
 use Rattle.link_drive.proofs.next_of.Goals as goal
 
 pub returns-then-at-input : goal.returns-then-at-input

@@ -5,7 +5,6 @@ use Rattle.link_messages.specs.declared.Message.{Message}
 use Rattle.link_messages.specs.Message.{length_of}
 use Rattle.link_calls.specs.Replies.{of_reply}
 use Rattle.link_calls.proofs.Laws.Lengths.{reply_length, reply_short}
-use borrow.Author.Rules.{rules}
 use Rattle.link_drive.proofs.size_of.Goals as goal
 
 pub overflow_add-result : goal.overflow_add-result

@@ -5,7 +5,6 @@ use borrow.Author.Tests.{not-true, not-false}
 use Rattle.link_messages.specs.Inner.Bytes.{message_bytes}
 use Rattle.link_messages.proofs.Laws.Lengths.{bytes_length}
 use Rattle.link_messages.proofs.Answers.{unlisted, too_short, wrote}
-use borrow.Author.Rules.{rules}
 use mathlib.Core.Path.{ap}
 use mathlib.Core.Bool.{not}
 use Rattle.link_messages.proofs.write.Goals as goal

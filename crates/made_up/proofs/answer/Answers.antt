@@ -3,7 +3,6 @@ use native.Mathlib.Omega.{arith}
 use Rattle.wire.proofs.Laws.Puts.{puts_length}
 use Rattle.drive_records.proofs.Laws.Records.{record_length}
 use Rattle.made_up.proofs.Recorded.{too_short, both-written}
-use borrow.Author.Rules.{rules}
 use Rattle.made_up.proofs.answer.Goals as goal
 
 pub returns-then-out-lt32 : goal.returns-then-out-lt32

@@ -1,6 +1,5 @@
 -- A call is made of its fields.
 use Rattle.made_up.specs.Made.{call_at}
-use borrow.Author.Rules.{rules}
 use Rattle.made_up.proofs.call_at.Goals as goal
 
 pub returns : goal.returns

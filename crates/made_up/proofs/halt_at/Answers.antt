@@ -1,5 +1,4 @@
 -- The stop is made of its fields.
-use borrow.Author.Rules.{rules}
 use Rattle.made_up.proofs.halt_at.Goals as goal
 
 pub returns : goal.returns

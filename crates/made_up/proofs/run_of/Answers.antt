@@ -1,6 +1,5 @@
 -- The run is made of its fields.
 use Rattle.made_up.specs.Made.{made_of}
-use borrow.Author.Rules.{rules}
 use Rattle.made_up.proofs.run_of.Goals as goal
 
 pub returns : goal.returns

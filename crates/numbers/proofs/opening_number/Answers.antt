@@ -1,5 +1,4 @@
 -- The number of each refused opening.
-use borrow.Author.Rules.{rules}
 use Rattle.numbers.proofs.opening_number.Goals as goal
 
 pub returns-in-Plan : goal.returns-in-Plan

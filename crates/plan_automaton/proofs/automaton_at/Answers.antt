@@ -1,6 +1,5 @@
 -- The state count, the initial state, and what follows.
 use Rattle.plan.specs.Moves.{automaton_at}
-use borrow.Author.Rules.{rules}
 use Rattle.plan_automaton.proofs.automaton_at.Goals as goal
 
 pub returns-in-Refused : goal.returns-in-Refused

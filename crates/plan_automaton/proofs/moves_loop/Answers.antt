@@ -1,11 +1,9 @@
 use native.Mathlib.Omega.{arith}
-use mathlib.Core.Path.{◌≡◌, sym, ◌∙◌}
-use Prim.Native.Nat.{◌-◌, ◌≤◌}
-use lib.ListN.{length, replicate, length-set}
+use mathlib.Core.Path.{sym, ◌∙◌}
+use Prim.Native.Nat.{◌-◌}
+use lib.ListN.{length, length-set}
 use native.Mathlib.Nat.{sub-zero}
 use Rattle.plan_automaton.proofs.Loops.{moves_done, moves_refused, moves_next}
-use Rattle.plan.specs.Moves.{moves_loop}
-use Rattle.plan.specs.Plan.{past_move}
 use borrow.Author.Rules.{rules}
 use Rattle.plan_automaton.proofs.moves_loop.Goals as goal
 

@@ -1,13 +1,9 @@
 -- The loop over the transitions: the whole answer is the answer of what is left.
-use native.Mathlib.Omega.{arith}
-use mathlib.Core.Path.{◌≡◌, sym, ◌∙◌}
+use mathlib.Core.Path.{◌≡◌}
 use Prim.Native.Nat.{◌-◌, ◌≤◌}
-use lib.ListN.{length, replicate, length-set}
-use native.Mathlib.Nat.{sub-zero}
-use Rattle.plan_automaton.proofs.Loops.{moves_done, moves_refused, moves_next}
+use lib.ListN.{length, replicate}
 use Rattle.plan.specs.Moves.{moves_loop}
 use Rattle.plan.specs.Plan.{past_move}
-use borrow.Author.Rules.{rules}
 use Rattle.plan_automaton.proofs.moves_loop.Given as goal
 
 abbrev pub invariant-loop-i : goal.invariant-loop-i

@@ -1,5 +1,4 @@
 -- A refused automaton is all zeros.
-use borrow.Author.Rules.{rules}
 use Rattle.plan_automaton.proofs.no_automaton.Goals as goal
 
 pub returns : goal.returns

@@ -1,5 +1,4 @@
 -- All zeros.
-use borrow.Author.Rules.{rules}
 use Rattle.plan_automaton.proofs.zero_automaton.Goals as goal
 
 pub returns : goal.returns

@@ -6,7 +6,6 @@ use Rattle.plan_fields.proofs.There.{byte_there, byte_short}
 use Rattle.plan.specs.declared.fields.Field.{Field}
 use Rattle.plan.specs.declared.Fault.{Fault}
 use Rattle.plan.specs.Fields.{byte_at}
-use borrow.Author.Rules.{rules}
 use Rattle.plan_fields.proofs.byte_in.Goals as goal
 
 pub returns-then-x-low : goal.returns-then-x-low

@@ -1,6 +1,5 @@
 -- A count is a field of 1 to `most`.
 use mathlib.Core.Path.{◌∙◌}
-use borrow.Author.Rules.{rules}
 use Rattle.plan_fields.proofs.count_at.Goals as goal
 
 pub returns : goal.returns

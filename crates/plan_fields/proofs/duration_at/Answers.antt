@@ -2,7 +2,6 @@
 use borrow.Author.Tests.{eq-eqb, ne_eqb}
 use Rattle.plan.specs.Nodes.{duration_at}
 use Rattle.wire.specs.Number.{optional}
-use borrow.Author.Rules.{rules}
 use Rattle.plan_fields.proofs.duration_at.Goals as goal
 
 pub returns-then-m-eq1 : goal.returns-then-m-eq1

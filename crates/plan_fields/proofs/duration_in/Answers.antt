@@ -5,7 +5,6 @@ use Rattle.wire.proofs.Laws.Fields.{short, too_low, too_high, in_range}
 use Rattle.plan_fields.proofs.There.{long_there, long_short}
 use Rattle.plan.specs.declared.fields.DurationField.{DurationField}
 use Rattle.plan.specs.declared.Fault.{Fault}
-use borrow.Author.Rules.{rules}
 use Rattle.plan_fields.proofs.duration_in.Goals as goal
 
 pub returns-then-x-lt1 : goal.returns-then-x-lt1

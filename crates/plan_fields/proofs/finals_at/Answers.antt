@@ -9,7 +9,6 @@ use Rattle.plan.specs.declared.fields.FinalsField.{FinalsField}
 use Rattle.plan.specs.declared.Fault.{Fault}
 use Rattle.plan.specs.Moves.{finals_at}
 use borrow.Author.Tests.{ltb-false}
-use borrow.Author.Rules.{rules}
 use Rattle.plan_fields.proofs.finals_at.Goals as goal
 
 pub overflow_add-result : goal.overflow_add-result

@@ -6,7 +6,6 @@ use Rattle.plan_fields.proofs.There.{short_there, short_short}
 use Rattle.plan.specs.declared.fields.MoveCount.{MoveCount}
 use Rattle.plan.specs.declared.Fault.{Fault}
 use Rattle.plan.specs.Moves.{move_count_at}
-use borrow.Author.Rules.{rules}
 use Rattle.plan_fields.proofs.move_count_at.Goals as goal
 
 pub overflow_add-result : goal.overflow_add-result

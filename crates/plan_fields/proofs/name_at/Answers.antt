@@ -1,6 +1,5 @@
 -- A name is a field below the number of things.
 use mathlib.Core.Path.{◌∙◌}
-use borrow.Author.Rules.{rules}
 use Rattle.plan_fields.proofs.name_at.Goals as goal
 
 pub returns : goal.returns

@@ -1,7 +1,6 @@
 -- A count that is present iff its bit stands.
 use Rattle.plan.specs.Fields.{byte_at, optional_count}
 use Rattle.wire.specs.Number.{optional}
-use borrow.Author.Rules.{rules}
 use Rattle.plan_fields.proofs.optional_count.Goals as goal
 
 pub returns-then-stands : goal.returns-then-stands

@@ -1,5 +1,4 @@
 -- The two fields of an action, by their answers.
-use borrow.Author.Rules.{rules}
 use Rattle.plan_nodes.proofs.action_at.Goals as goal
 
 pub returns-in-Refused : goal.returns-in-Refused

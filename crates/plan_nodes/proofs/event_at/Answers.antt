@@ -1,5 +1,4 @@
 -- The field of the kind, by the field's answer.
-use borrow.Author.Rules.{rules}
 use Rattle.plan_nodes.proofs.event_at.Goals as goal
 
 pub returns-in-Refused : goal.returns-in-Refused

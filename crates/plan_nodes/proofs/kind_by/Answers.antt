@@ -1,6 +1,5 @@
 -- The fields of the kind that the map asks for.
 use Rattle.plan.specs.Nodes.{kind_by}
-use borrow.Author.Rules.{rules}
 use Rattle.plan_nodes.proofs.kind_by.Goals as goal
 
 pub returns-in-Action : goal.returns-in-Action

@@ -1,5 +1,4 @@
 -- A refused node is all zeros.
-use borrow.Author.Rules.{rules}
 use Rattle.plan_nodes.proofs.no_node.Goals as goal
 
 pub returns : goal.returns

@@ -1,6 +1,5 @@
 -- A node: its map, its kind, and what follows.
 use Rattle.plan.specs.Nodes.{node_at}
-use borrow.Author.Rules.{rules}
 use Rattle.plan_nodes.proofs.node_at.Goals as goal
 
 pub returns-in-Refused : goal.returns-in-Refused

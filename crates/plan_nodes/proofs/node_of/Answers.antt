@@ -1,5 +1,4 @@
 -- A node is made of its kind, its duration and its predecessors.
-use borrow.Author.Rules.{rules}
 use Rattle.plan_nodes.proofs.node_of.Goals as goal
 
 pub returns-in-Refused : goal.returns-in-Refused

@@ -1,6 +1,5 @@
 -- The duration, and the predecessors.
 use Rattle.plan.specs.Nodes.{node_with}
-use borrow.Author.Rules.{rules}
 use Rattle.plan_nodes.proofs.node_with.Goals as goal
 
 pub returns-in-Refused : goal.returns-in-Refused

@@ -2,7 +2,6 @@
 use mathlib.Core.Path.{sym, ◌∙◌}
 use Rattle.plan.specs.Nodes.{preds_at}
 use Rattle.plan_fields.proofs.Laws.Read.{count_most}
-use borrow.Author.Rules.{rules}
 use Rattle.plan_nodes.proofs.preds_at.Goals as goal
 
 pub preds_loop-requires : goal.preds_loop-requires

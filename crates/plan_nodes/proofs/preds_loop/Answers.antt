@@ -1,10 +1,9 @@
 use native.Mathlib.Omega.{arith}
-use mathlib.Core.Path.{◌≡◌, sym, ◌∙◌}
-use Prim.Native.Nat.{◌-◌, ◌≤◌}
-use lib.ListN.{length, replicate, length-set}
+use mathlib.Core.Path.{sym, ◌∙◌}
+use Prim.Native.Nat.{◌-◌}
+use lib.ListN.{length, length-set}
 use native.Mathlib.Nat.{sub-zero}
 use Rattle.plan_nodes.proofs.Loops.{preds_done, preds_refused, preds_fall, preds_next}
-use Rattle.plan.specs.Nodes.{preds_loop}
 use Rattle.plan_fields.proofs.Laws.Read.{byte_most}
 use borrow.Author.Rules.{rules}
 use Rattle.plan_nodes.proofs.preds_loop.Goals as goal

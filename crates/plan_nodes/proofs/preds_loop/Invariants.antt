@@ -1,13 +1,8 @@
 -- The loop over the predecessors: the whole answer is the answer of what is left.
-use native.Mathlib.Omega.{arith}
-use mathlib.Core.Path.{◌≡◌, sym, ◌∙◌}
+use mathlib.Core.Path.{◌≡◌}
 use Prim.Native.Nat.{◌-◌, ◌≤◌}
-use lib.ListN.{length, replicate, length-set}
-use native.Mathlib.Nat.{sub-zero}
-use Rattle.plan_nodes.proofs.Loops.{preds_done, preds_refused, preds_fall, preds_next}
+use lib.ListN.{length, replicate}
 use Rattle.plan.specs.Nodes.{preds_loop}
-use Rattle.plan_fields.proofs.Laws.Read.{byte_most}
-use borrow.Author.Rules.{rules}
 use Rattle.plan_nodes.proofs.preds_loop.Given as goal
 
 abbrev pub invariant-loop-i : goal.invariant-loop-i

@@ -1,7 +1,6 @@
 -- A plan is accepted where its last section ends the bytes.
 use borrow.Author.Tests.{eq-eqb, ne_eqb}
 use Rattle.plan.specs.Reading.{ended_at}
-use borrow.Author.Rules.{rules}
 use Rattle.plan_read.proofs.ended_at.Goals as goal
 
 pub returns-then-at-bytes : goal.returns-then-at-bytes

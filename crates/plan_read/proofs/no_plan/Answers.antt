@@ -1,5 +1,4 @@
 -- A refused plan is all zeros.
-use borrow.Author.Rules.{rules}
 use Rattle.plan_read.proofs.no_plan.Goals as goal
 
 pub returns : goal.returns

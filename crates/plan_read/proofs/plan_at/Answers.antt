@@ -1,7 +1,6 @@
 -- The resource count, and what follows.
 use Rattle.plan.specs.Reading.{plan_at}
 use Rattle.wire.proofs.Laws.Maps.{bit_zero}
-use borrow.Author.Rules.{rules}
 use Rattle.plan_read.proofs.plan_at.Goals as goal
 
 pub returns-in-Refused : goal.returns-in-Refused

@@ -1,6 +1,5 @@
 -- The map of sections, and what follows.
 use Rattle.plan.specs.Reading.{read_plan}
-use borrow.Author.Rules.{rules}
 use Rattle.plan_read.proofs.read.Goals as goal
 
 pub returns-in-Refused : goal.returns-in-Refused

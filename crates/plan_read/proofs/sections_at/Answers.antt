@@ -1,7 +1,6 @@
 -- The map of sections: its rule, then the automaton's bit.
 use borrow.Author.Tests.{eq-eqb, ne_eqb}
 use Rattle.plan.specs.Reading.{sections_at}
-use borrow.Author.Rules.{rules}
 use Rattle.plan_read.proofs.sections_at.Goals as goal
 
 pub returns-then-m-eq1 : goal.returns-then-m-eq1

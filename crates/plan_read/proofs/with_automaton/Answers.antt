@@ -1,6 +1,5 @@
 -- What follows the automaton.
 use Rattle.plan.specs.Reading.{with_automaton}
-use borrow.Author.Rules.{rules}
 use Rattle.plan_read.proofs.with_automaton.Goals as goal
 
 pub returns-in-Refused : goal.returns-in-Refused

@@ -2,7 +2,6 @@
 use mathlib.Core.Path.{◌∙◌}
 use Rattle.plan_read.proofs.Steps.{after_events, activities_refused, after_activities}
 use Rattle.plan.specs.Reading.{with_events}
-use borrow.Author.Rules.{rules}
 use Rattle.plan_read.proofs.with_events.Goals as goal
 
 pub returns-in-Refused : goal.returns-in-Refused

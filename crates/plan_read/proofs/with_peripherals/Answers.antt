@@ -3,7 +3,6 @@ use Rattle.plan_read.proofs.Steps.{after_peripherals}
 use mathlib.Core.Path.{◌∙◌}
 use Rattle.plan.specs.Reading.{with_peripherals}
 use Rattle.plan_sections.proofs.Laws.Counts.{events_most}
-use borrow.Author.Rules.{rules}
 use Rattle.plan_read.proofs.with_peripherals.Goals as goal
 
 pub with_events-requires : goal.with_events-requires

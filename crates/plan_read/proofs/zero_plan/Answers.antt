@@ -1,5 +1,4 @@
 -- All zeros.
-use borrow.Author.Rules.{rules}
 use Rattle.plan_read.proofs.zero_plan.Goals as goal
 
 pub returns : goal.returns

@@ -2,7 +2,6 @@
 use mathlib.Core.Path.{sym, ◌∙◌}
 use Rattle.plan.specs.Sections.{activities_at}
 use Rattle.plan_fields.proofs.Laws.Read.{count_most}
-use borrow.Author.Rules.{rules}
 use Rattle.plan_sections.proofs.activities_at.Goals as goal
 
 pub activities_loop-requires : goal.activities_loop-requires

@@ -1,13 +1,10 @@
 -- The loop over activities and nodes: the whole answer is the answer of what is left.
-use native.Mathlib.Omega.{arith}
-use mathlib.Core.Path.{◌≡◌, sym, ◌∙◌}
+use mathlib.Core.Path.{◌≡◌}
 use Prim.Native.Nat.{◌+◌, ◌*◌, ◌-◌, ◌≤◌}
-use lib.ListN.{length, replicate, length-set}
-use native.Mathlib.Nat.{sub-zero}
-use Rattle.plan_sections.proofs.Loops.{rest, turned}
+use lib.ListN.{length, replicate}
+use Rattle.plan_sections.proofs.Loops.{rest}
 use Rattle.plan.specs.Nodes.{zero_node}
-use Rattle.plan.specs.Sections.{activities_loop, nodes_then}
-use borrow.Author.Rules.{rules}
+use Rattle.plan.specs.Sections.{activities_loop}
 use Rattle.plan_sections.proofs.activities_loop.Given as goal
 
 abbrev pub invariant-loop-f : goal.invariant-loop-f

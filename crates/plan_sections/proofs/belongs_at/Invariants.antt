@@ -1,15 +1,11 @@
 -- The loop over the numbers: the whole answer is the answer of what is left.
-use native.Mathlib.Omega.{arith}
-use mathlib.Core.Path.{◌≡◌, sym, ◌∙◌}
+use mathlib.Core.Path.{◌≡◌}
 use Prim.Native.Nat.{◌-◌, ◌≤◌}
 use Rattle.plan.specs.declared.Fault.{Fault}
 use Rattle.plan.specs.declared.fields.Step.{Step}
-use lib.ListN.{length, length-set}
-use native.Mathlib.Nat.{sub-zero}
-use Rattle.plan_sections.proofs.Loops.{numbers_done, numbers_refused, numbers_next}
+use lib.ListN.{length}
 use Rattle.plan.specs.Fields.{numbers_then}
 use Rattle.plan.specs.Sections.{belongs_at, no_peripherals}
-use borrow.Author.Rules.{rules}
 use Rattle.plan_sections.proofs.belongs_at.Given as goal
 
 abbrev pub invariant-loop-i : goal.invariant-loop-i

@@ -2,7 +2,6 @@
 use mathlib.Core.Path.{sym, ◌∙◌}
 use Rattle.plan.specs.Sections.{events_at}
 use Rattle.plan_fields.proofs.Laws.Read.{count_most}
-use borrow.Author.Rules.{rules}
 use Rattle.plan_sections.proofs.events_at.Goals as goal
 
 pub outcomes_at-requires : goal.outcomes_at-requires

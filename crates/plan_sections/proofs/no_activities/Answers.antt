@@ -1,5 +1,4 @@
 -- Refused activities are all zeros.
-use borrow.Author.Rules.{rules}
 use Rattle.plan_sections.proofs.no_activities.Goals as goal
 
 pub returns : goal.returns

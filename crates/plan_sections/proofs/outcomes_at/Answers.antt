@@ -1,12 +1,11 @@
 use native.Mathlib.Omega.{arith}
-use mathlib.Core.Path.{◌≡◌, sym, ◌∙◌}
-use Prim.Native.Nat.{◌-◌, ◌≤◌}
+use mathlib.Core.Path.{sym, ◌∙◌}
+use Prim.Native.Nat.{◌-◌}
 use Rattle.plan.specs.declared.Fault.{Fault}
 use Rattle.plan.specs.declared.fields.Step.{Step}
 use lib.ListN.{length, length-set}
 use native.Mathlib.Nat.{sub-zero}
 use Rattle.plan_sections.proofs.Loops.{numbers_done, numbers_refused, numbers_next}
-use Rattle.plan.specs.Fields.{numbers_then}
 use Rattle.plan.specs.Sections.{outcomes_at, no_events}
 use borrow.Author.Rules.{rules}
 use Rattle.plan_sections.proofs.outcomes_at.Goals as goal

@@ -2,7 +2,6 @@
 use mathlib.Core.Path.{sym, ◌∙◌}
 use Rattle.plan.specs.Sections.{peripherals_at}
 use Rattle.plan_fields.proofs.Laws.Read.{count_most}
-use borrow.Author.Rules.{rules}
 use Rattle.plan_sections.proofs.peripherals_at.Goals as goal
 
 pub belongs_at-requires : goal.belongs_at-requires

@@ -1,6 +1,5 @@
 -- `check_call` goes through the checks in their order.
 use borrow.Author.Tests.{not-true, not-false}
-use borrow.Author.Rules.{rules}
 use mathlib.Core.Path.{ap}
 use mathlib.Core.Bool.{not}
 use Rattle.run_checks.proofs.check_call.Goals as goal

@@ -1,5 +1,4 @@
 -- `check_late` stops a run with a late node, naming the one with the earliest start.
-use borrow.Author.Rules.{rules}
 use Rattle.run_checks.proofs.check_late.Goals as goal
 
 pub returns-in-Nothing : goal.returns-in-Nothing

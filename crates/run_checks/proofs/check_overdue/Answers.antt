@@ -1,5 +1,4 @@
 -- `check_overdue` stops a run with an overdue node, naming the one with the earliest completion.
-use borrow.Author.Rules.{rules}
 use Rattle.run_checks.proofs.check_overdue.Goals as goal
 
 pub returns-in-Nothing : goal.returns-in-Nothing

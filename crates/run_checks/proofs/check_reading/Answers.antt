@@ -3,7 +3,6 @@ use mathlib.Core.Path.{sym, ap}
 use borrow.Author.Tests.{lt-ltb, le-ltb}
 use Rattle.run_window.specs.declared.Seen.{Seen}
 use Rattle.run_checks.specs.Order.{timely_by}
-use borrow.Author.Rules.{rules}
 use Rattle.run_checks.proofs.check_reading.Goals as goal
 
 pub returns-then-m : goal.returns-then-m

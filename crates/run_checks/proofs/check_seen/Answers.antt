@@ -1,6 +1,5 @@
 -- `check_seen` looks at what is overdue, and then at what is late.
 use mathlib.Core.Path.{sym}
-use borrow.Author.Rules.{rules}
 use Rattle.run_checks.proofs.check_seen.Goals as goal
 
 pub returns : goal.returns

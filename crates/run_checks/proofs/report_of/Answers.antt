@@ -1,5 +1,4 @@
 -- `report_of` refuses a node that the window lacks, and then one that is not started.
-use borrow.Author.Rules.{rules}
 use Rattle.run_checks.proofs.report_of.Goals as goal
 
 pub returns-in-Nothing : goal.returns-in-Nothing

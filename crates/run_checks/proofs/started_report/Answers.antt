@@ -1,6 +1,5 @@
 -- `started_report` refuses a node that is not started.
 use mathlib.Core.Path.{sym, ◌∙◌}
-use borrow.Author.Rules.{rules}
 use Rattle.run_checks.proofs.started_report.Goals as goal
 
 pub returns-then-is_started : goal.returns-then-is_started

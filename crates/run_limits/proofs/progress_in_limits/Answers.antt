@@ -1,5 +1,4 @@
 -- `progress_in_limits` is what it is defined to be. Assumes nothing.
-use borrow.Author.Rules.{rules}
 use Rattle.run_limits.specs.Progress.{progress_in_limits}
 use Rattle.run_limits.proofs.progress_in_limits.Goals as goal
 

@@ -9,7 +9,6 @@ use Rattle.run_path.proofs.Laws.Stepping.{next_leads}
 use Rattle.run_loading.specs.Loading.{loading, load}
 use Rattle.run_loading.specs.Inner.Loading.{Loadable}
 use Rattle.run_loading.proofs.Laws.Loading.{first_failed, first_placed}
-use borrow.Author.Rules.{rules}
 use Rattle.run_loading.proofs.first.Goals as goal
 
 pub next_of-next-requires : goal.next_of-next-requires

@@ -1,25 +1,16 @@
 -- `further` loads path after path. The outer loop's invariant: the whole answer is the answer of the paths that are left; the inner
 -- loop puts a path's entries into the lowest free places.
-use mathlib.Core.Path.{◌≡◌, refl, sym, ap, ◌∙◌}
-use mathlib.Core.Bool.{true, false}
+use mathlib.Core.Path.{◌≡◌}
 use mathlib.Core.List.{List}
-use Prim.Native.Nat.{◌-◌, ◌≤◌, ◌<◌}
+use Prim.Native.Nat.{◌-◌, ◌≤◌}
 use native.Mathlib.Omega.{arith}
-use lib.ListN.{length, take, length-set}
+use lib.ListN.{length, take}
 use lib.Seq.{length-take-le}
-use Rattle.basis.proofs.Laws.Lists.{unmapped, next_entry}
-use Rattle.run_window.specs.Window.{vacant, vacancies}
-use Rattle.run_window.proofs.Laws.Placed.{vacancies_length}
-use Rattle.run_window.proofs.Laws.Placing.{Placing, placing_starts, placing_within, placing_held, placing_free, placing_done}
+use Rattle.run_window.proofs.Laws.Placing.{Placing}
 use Rattle.run_window.specs.declared.Entry.{Entry}
 use Rattle.run_path.specs.declared.Pathed.{Pathed}
-use Rattle.run_path.proofs.Laws.Collecting.{pathed_long}
-use Rattle.run_outcomes.proofs.Laws.Outcomes.{plan_awaits}
-use Rattle.run_loading.specs.declared.Loading.{Loading}
-use Rattle.run_loading.specs.Loading.{loading, load, further}
-use Rattle.run_loading.specs.Inner.Loading.{Loads, Loadable, failure_by, has_failed}
-use Rattle.run_loading.proofs.Laws.Loading.{load_failed, load_fits, load_placed, loaded_keeps, way_loads, further_over, turn_rests, turn_fails, turn_goes}
-use borrow.Author.Rules.{rules}
+use Rattle.run_loading.specs.Loading.{further}
+use Rattle.run_loading.specs.Inner.Loading.{Loads}
 use Rattle.run_loading.proofs.further.Given as goal
 
 -- the entries of a path that are placed

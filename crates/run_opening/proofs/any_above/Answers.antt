@@ -1,8 +1,6 @@
-use mathlib.Core.Path.{◌≡◌, sym, ◌∙◌}
-use Prim.Native.Nat.{◌-◌, ◌≤◌}
+use mathlib.Core.Path.{sym, ◌∙◌}
+use Prim.Native.Nat.{◌-◌}
 use borrow.Author.Tests.{lt-ltb, le-ltb}
-use lib.ListN.{length, drop}
-use Rattle.run_opening.specs.Given.{any_above}
 use Rattle.run_opening.proofs.Shortest.{above_here, above_past, above_none}
 use borrow.Author.Rules.{rules}
 use Rattle.run_opening.proofs.any_above.Goals as goal

@@ -1,11 +1,8 @@
 -- `any_above` is what it is defined to be. The loop's invariant: the availabilities that are passed change nothing.
-use mathlib.Core.Path.{◌≡◌, sym, ◌∙◌}
+use mathlib.Core.Path.{◌≡◌}
 use Prim.Native.Nat.{◌-◌, ◌≤◌}
-use borrow.Author.Tests.{lt-ltb, le-ltb}
 use lib.ListN.{length, drop}
 use Rattle.run_opening.specs.Given.{any_above}
-use Rattle.run_opening.proofs.Shortest.{above_here, above_past, above_none}
-use borrow.Author.Rules.{rules}
 use Rattle.run_opening.proofs.any_above.Given as goal
 
 abbrev pub invariant-loop-i : goal.invariant-loop-i

@@ -1,6 +1,5 @@
 -- `is_short` is what it is defined to be.
 use mathlib.Core.Path.{sym, ◌∙◌}
-use borrow.Author.Rules.{rules}
 use Rattle.run_opening.proofs.is_short.Goals as goal
 
 pub returns-then-is_work : goal.returns-then-is_work

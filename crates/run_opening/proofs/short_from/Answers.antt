@@ -1,11 +1,8 @@
-use mathlib.Core.Path.{◌≡◌, sym, ◌∙◌}
-use Prim.Native.Nat.{◌+◌, ◌-◌, ◌*◌, ◌≤◌, ◌<◌}
+use mathlib.Core.Path.{sym, ◌∙◌}
+use Prim.Native.Nat.{◌-◌, ◌*◌, ◌≤◌, ◌<◌}
 use native.Mathlib.Omega.{arith}
-use Rattle.basis.specs.Parts.{part}
-use Rattle.plan.specs.Plan.{past_node, size_of, activity_of}
-use Rattle.run_opening.specs.Short.{any_short, short_from}
+use Rattle.plan.specs.Plan.{size_of}
 use Rattle.run_opening.proofs.Shortest.{short_starts, short_here, short_past, short_none, low_starts, low_here, low_past, low_none}
-use borrow.Author.Rules.{rules}
 use Rattle.run_opening.proofs.short_from.Goals as goal
 
 pub loop-a-init : goal.loop-a-init

@@ -1,13 +1,10 @@
 -- `short_from` is the lowest activity that is too short. The loops' invariants: the activities, and the nodes of one, that are
 -- passed change nothing.
-use mathlib.Core.Path.{◌≡◌, sym, ◌∙◌}
-use Prim.Native.Nat.{◌+◌, ◌-◌, ◌*◌, ◌≤◌, ◌<◌}
-use native.Mathlib.Omega.{arith}
+use mathlib.Core.Path.{◌≡◌}
+use Prim.Native.Nat.{◌+◌, ◌-◌, ◌*◌, ◌≤◌}
 use Rattle.basis.specs.Parts.{part}
 use Rattle.plan.specs.Plan.{past_node, size_of, activity_of}
 use Rattle.run_opening.specs.Short.{any_short, short_from}
-use Rattle.run_opening.proofs.Shortest.{short_starts, short_here, short_past, short_none, low_starts, low_here, low_past, low_none}
-use borrow.Author.Rules.{rules}
 use Rattle.run_opening.proofs.short_from.Given as goal
 
 abbrev pub invariant-loop-n : goal.invariant-loop-n

@@ -1,5 +1,4 @@
 -- `by_choice` goes by the transition of an outcome, or waits.
-use borrow.Author.Rules.{rules}
 use Rattle.run_outcomes.proofs.by_choice.Goals as goal
 
 pub returns-in-Nothing : goal.returns-in-Nothing

@@ -1,5 +1,4 @@
 -- `by_told` goes by the outcome that was reported, or waits.
-use borrow.Author.Rules.{rules}
 use Rattle.run_outcomes.proofs.by_told.Goals as goal
 
 pub returns-in-Nothing : goal.returns-in-Nothing

@@ -1,6 +1,5 @@
 use native.Mathlib.Nat.{add-zero}
 use borrow.Author.Tests.{lt-ltb, le-ltb}
-use borrow.Author.Rules.{rules}
 use Rattle.run_outcomes.proofs.oldest_told.Goals as goal
 
 pub returns-then-g-i-gt0 : goal.returns-then-g-i-gt0

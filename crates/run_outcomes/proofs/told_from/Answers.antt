@@ -1,7 +1,6 @@
-use mathlib.Core.Path.{◌≡◌, sym, ◌∙◌, ap}
-use Prim.Native.Nat.{◌-◌, ◌≤◌}
+use mathlib.Core.Path.{sym, ◌∙◌, ap}
+use Prim.Native.Nat.{◌-◌}
 use lib.ListN.{set}
-use Rattle.run_outcomes.specs.Told.{told_from}
 use Rattle.run_outcomes.proofs.Telling.{told_starts, told_here, told_past, told_none}
 use borrow.Author.Rules.{rules}
 use Rattle.run_outcomes.proofs.told_from.Goals as goal

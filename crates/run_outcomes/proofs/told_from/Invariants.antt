@@ -1,9 +1,6 @@
-use mathlib.Core.Path.{◌≡◌, sym, ◌∙◌, ap}
+use mathlib.Core.Path.{◌≡◌}
 use Prim.Native.Nat.{◌-◌, ◌≤◌}
-use lib.ListN.{set}
 use Rattle.run_outcomes.specs.Told.{told_from}
-use Rattle.run_outcomes.proofs.Telling.{told_starts, told_here, told_past, told_none}
-use borrow.Author.Rules.{rules}
 use Rattle.run_outcomes.proofs.told_from.Given as goal
 
 abbrev pub invariant-loop-i : goal.invariant-loop-i

@@ -3,7 +3,6 @@ use mathlib.Core.Path.{sym, ◌∙◌, ap}
 use Rattle.times.specs.declared.Told.{Told}
 use Rattle.run_outcomes.specs.Way.{by_told}
 use Rattle.run_outcomes.proofs.Onward.{way_ended, way_goes, way_waits}
-use borrow.Author.Rules.{rules}
 use Rattle.run_outcomes.proofs.way_on.Goals as goal
 
 pub next_of-next-requires : goal.next_of-next-requires

@@ -1,7 +1,6 @@
 -- `emitted` meets its contract. Assumes nothing.
 use mathlib.Core.Path.{sym, ap, ◌∙◌, subst}
 use native.Mathlib.Omega.{arith}
-use borrow.Author.Rules.{rules}
 use Rattle.plan.specs.Limits.{OutputNames}
 use Rattle.run_path.specs.Inner.Path.{emitted_of}
 use Rattle.run_path.proofs.emitted.Goals as goal

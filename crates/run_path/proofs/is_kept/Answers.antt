@@ -1,7 +1,6 @@
 -- `is_kept` meets its contract: there is an entry, and a place for it. Assumes nothing.
 use mathlib.Core.Path.{sym, ap, ◌∙◌}
 use mathlib.Core.Bool.{Bool, false, cond}
-use borrow.Author.Rules.{rules}
 use lib.Dec.{ltb}
 use Rattle.run_path.proofs.is_kept.Goals as goal
 

@@ -1,31 +1,13 @@
 -- `path` meets its contract. The outer loop's invariant: the path is the part so far and then the path from what the state does
 -- next; the inner loops copy an activity out of the plan, and put the entries of its nodes after those before. Assumes nothing.
-use mathlib.Core.Path.{◌≡◌, refl, sym, ap, ◌∙◌, subst}
-use mathlib.Core.Bool.{false}
-use mathlib.Core.List.{List, [], ◌∷◌}
-use mathlib.Core.Logic.{⊎_elim}
-use Prim.Native.Nat.{ℕ, ◌+◌, ◌-◌, ◌*◌, ◌≤◌, ◌<◌}
-use native.Mathlib.Omega.{arith}
-use borrow.Author.Rules.{rules}
-use lib.ListN.{length, get_or, set, replicate}
-use types.Run.{OneOf}
-use denote.Enum.Declared.{tag_of}
+use mathlib.Core.Path.{◌≡◌}
+use Prim.Native.Nat.{◌-◌, ◌≤◌}
+use lib.ListN.{length}
 use Rattle.automaton.specs.contracts.Next as next-type
-use Rattle.automaton.specs.declared.Next.{Next}
-use Rattle.plan.specs.Plan.{past_node, size_of, move}
-use Rattle.plan.specs.Limits.{OutputNames}
-use Rattle.plan.specs.declared.Plan.{Plan}
-use Rattle.plan.specs.declared.Node.{Node}
-use Rattle.plan.specs.declared.Activity.{Activity}
-use Rattle.run_window.specs.declared.Entry.{Entry}
 use Rattle.activity.specs.Inner.Copied.{filled}
-use Rattle.activity.proofs.Laws.Copied.{filled_more}
-use Rattle.run_path.specs.Path.{Path, taken_by, path_from}
-use Rattle.run_path.specs.Pathed.{pathed}
-use Rattle.run_path.specs.declared.Pathed.{Pathed}
-use Rattle.run_path.specs.Inner.Path.{stored, emitted_of, emitted_count}
-use Rattle.run_path.proofs.Laws.Stepping.{advanced_is, Walking, walking_starts, walking_ended, walking_waits, walking_over, named, walking_stops, walking_on}
-use Rattle.run_path.proofs.Laws.Storing.{number_below, size_below, emitted_as, step_taken, entries_are, kept_below, Storing, storing_starts, storing_kept, storing_passed, storing_ends, stored_beyond, taken_past, taken_whole}
+use Rattle.run_path.specs.Path.{path_from}
+use Rattle.run_path.proofs.Laws.Stepping.{Walking}
+use Rattle.run_path.proofs.Laws.Storing.{Storing}
 use Rattle.run_path.proofs.path.Given as goal
 
 abbrev pub invariant-loop-n : goal.invariant-loop-n

@@ -1,7 +1,6 @@
 -- `is_due` tells whether a node is loaded and its start on the clock has come.
 use mathlib.Core.Path.{ap}
 use Rattle.run_window.specs.Window.{is_held, is_due}
-use borrow.Author.Rules.{rules}
 use Rattle.run_window.proofs.is_due.Goals as goal
 
 pub to_clock-start-requires : goal.to_clock-start-requires

@@ -3,7 +3,6 @@ use mathlib.Core.Path.{ap}
 use Rattle.run_window.specs.Window.{is_held, is_late}
 use native.Mathlib.Omega.{arith}
 use Rattle.time.specs.declared.Clock.{Clock}
-use borrow.Author.Rules.{rules}
 use Rattle.run_window.proofs.is_late.Goals as goal
 
 pub to_clock-start-requires : goal.to_clock-start-requires

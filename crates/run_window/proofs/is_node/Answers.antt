@@ -3,7 +3,6 @@ use mathlib.Core.Path.{sym, ◌∙◌}
 use borrow.Author.Tests.{eq-eqb, ne_eqb}
 use Rattle.run_window.specs.Window.{is_node}
 use Rattle.run_window.proofs.Laws.Tests.{free_unheld, unfree_held}
-use borrow.Author.Rules.{rules}
 use Rattle.run_window.proofs.is_node.Goals as goal
 
 pub returns-then-is_free : goal.returns-then-is_free

@@ -1,7 +1,6 @@
 -- `is_overdue` tells whether a node is started and its completion on the clock has come.
 use mathlib.Core.Path.{ap}
 use Rattle.run_window.specs.Window.{is_held, is_overdue}
-use borrow.Author.Rules.{rules}
 use Rattle.run_window.proofs.is_overdue.Goals as goal
 
 pub to_clock-end-requires : goal.to_clock-end-requires

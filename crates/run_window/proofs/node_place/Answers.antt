@@ -1,5 +1,4 @@
 -- `node_place` is where the node stands among those of the plan.
-use borrow.Author.Rules.{rules}
 use Rattle.run_window.proofs.node_place.Goals as goal
 
 pub returns : goal.returns

@@ -1,7 +1,6 @@
 -- The word, then the times and the newline.
 use Rattle.timetable_lines.proofs.Laws.Lines.{free_is}
 use Rattle.wire.proofs.Laws.Puts.{puts_join}
-use borrow.Author.Rules.{rules}
 use Rattle.timetable_lines.proofs.put_free.Goals as goal
 
 pub returns : goal.returns

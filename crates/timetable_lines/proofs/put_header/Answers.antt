@@ -1,6 +1,5 @@
 -- The whole line at once.
 use Rattle.timetable_text.specs.Text.{line}
-use borrow.Author.Rules.{rules}
 use Rattle.timetable_lines.proofs.put_header.Goals as goal
 
 pub returns : goal.returns

@@ -3,7 +3,6 @@ use Rattle.timetable_text.proofs.Laws.Digits.{decimal_length}
 use Rattle.timetable_text.specs.Text.{line}
 use Rattle.wire.proofs.Laws.Puts.{puts_join}
 use native.Mathlib.Omega.{arith}
-use borrow.Author.Rules.{rules}
 use Rattle.timetable_lines.proofs.put_refused.Goals as goal
 
 pub put_after_space-c-requires : goal.put_after_space-c-requires

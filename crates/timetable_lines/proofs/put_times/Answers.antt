@@ -1,11 +1,10 @@
-use Rattle.timetable_lines.specs.Inner.Lines.{spaced, Remains}
+use Rattle.timetable_lines.specs.Inner.Lines.{spaced}
 use Rattle.timetable_lines.proofs.Laws.Lines.{spaced_turn, spaced_end, remains_all, remains_less}
 use Rattle.timetable_text.proofs.Laws.Digits.{decimal_length}
 use Rattle.times.specs.Times.{specified}
-use Rattle.basis.specs.Parts.{part}
 use lib.ListN.{length, get_or}
-use Prim.Native.Nat.{◌+◌, ◌*◌, ◌-◌, ◌≤◌, ◌<◌}
-use mathlib.Core.Path.{◌≡◌, refl, ◌∙◌}
+use Prim.Native.Nat.{◌-◌}
+use mathlib.Core.Path.{refl, ◌∙◌}
 use native.Mathlib.Nat.{sub-zero}
 use native.Mathlib.Omega.{arith}
 use borrow.Author.Rules.{rules}

@@ -1,15 +1,10 @@
 -- The loop over the times: what is left is put after what was put.
 use Rattle.timetable_lines.specs.Inner.Lines.{spaced, Remains}
-use Rattle.timetable_lines.proofs.Laws.Lines.{spaced_turn, spaced_end, remains_all, remains_less}
-use Rattle.timetable_text.proofs.Laws.Digits.{decimal_length}
 use Rattle.times.specs.Times.{specified}
 use Rattle.basis.specs.Parts.{part}
-use lib.ListN.{length, get_or}
+use lib.ListN.{length}
 use Prim.Native.Nat.{◌+◌, ◌*◌, ◌-◌, ◌≤◌, ◌<◌}
-use mathlib.Core.Path.{◌≡◌, refl, ◌∙◌}
-use native.Mathlib.Nat.{sub-zero}
-use native.Mathlib.Omega.{arith}
-use borrow.Author.Rules.{rules}
+use mathlib.Core.Path.{◌≡◌}
 use Rattle.timetable_lines.proofs.put_times.Given as goal
 
 abbrev pub invariant-loop-i : goal.invariant-loop-i

@@ -1,8 +1,7 @@
 use mathlib.Core.Path.{refl}
-use Prim.Native.Nat.{◌-◌, ◌≤◌}
+use Prim.Native.Nat.{◌-◌}
 use native.Mathlib.Omega.{arith}
-use Rattle.timetable_steps.proofs.Laws.Steps.{Copies, copies-more, emits}
-use borrow.Author.Rules.{rules}
+use Rattle.timetable_steps.proofs.Laws.Steps.{copies-more, emits}
 use Rattle.timetable_steps.proofs.activities_of.Goals as goal
 
 pub emitted-empty-requires : goal.emitted-empty-requires

@@ -1,9 +1,6 @@
 -- `activities_of` meets its contract. The loop's invariant: the first a activities are copied. Assumes nothing.
-use mathlib.Core.Path.{refl}
 use Prim.Native.Nat.{◌-◌, ◌≤◌}
-use native.Mathlib.Omega.{arith}
-use Rattle.timetable_steps.proofs.Laws.Steps.{Copies, copies-more, emits}
-use borrow.Author.Rules.{rules}
+use Rattle.timetable_steps.proofs.Laws.Steps.{Copies}
 use Rattle.timetable_steps.proofs.activities_of.Given as goal
 
 abbrev pub invariant-loop-a : goal.invariant-loop-a

@@ -6,7 +6,6 @@ use native.Mathlib.Omega.{arith}
 use Rattle.plan.specs.Plan.{move}
 use Rattle.timetable_steps.specs.declared.Step.{Step}
 use Rattle.timetable_steps.specs.Inner.Steps.{Below, chosen_step}
-use borrow.Author.Rules.{rules}
 use Rattle.timetable_steps.proofs.chosen_step.Goals as goal
 
 pub returns-in-Nothing : goal.returns-in-Nothing

@@ -1,7 +1,6 @@
 -- `column_of` meets its contract. Assumes nothing.
 use native.Mathlib.Omega.{arith}
 use borrow.Author.Tests.{lt-ltb, le-ltb}
-use borrow.Author.Rules.{rules}
 use Rattle.timetable_steps.proofs.column_of.Goals as goal
 
 pub returns-then-o-lt8 : goal.returns-then-o-lt8

@@ -4,7 +4,6 @@ use Prim.Native.Nat.{ℕ, ◌≤◌, ◌<◌}
 use lib.ListN.{get_or}
 use Rattle.timetable_steps.specs.Inner.Steps.{chosen_step}
 use Rattle.timetable_steps.proofs.Laws.Steps.{below, heard_had, heard_lacked}
-use borrow.Author.Rules.{rules}
 use Rattle.timetable_steps.proofs.heard_step.Goals as goal
 
 pub returns-in-Nothing : goal.returns-in-Nothing

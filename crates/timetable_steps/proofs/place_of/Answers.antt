@@ -1,7 +1,6 @@
 -- `place_of` meets its contract. Assumes nothing.
 use native.Mathlib.Omega.{arith}
 use borrow.Author.Tests.{lt-ltb, le-ltb}
-use borrow.Author.Rules.{rules}
 use Rattle.timetable_steps.proofs.place_of.Goals as goal
 
 pub returns-then-a-lt32 : goal.returns-then-a-lt32

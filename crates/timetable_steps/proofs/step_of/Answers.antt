@@ -6,7 +6,6 @@ use native.Mathlib.Omega.{arith}
 use Rattle.plan.specs.Plan.{move}
 use Rattle.timetable_steps.specs.declared.Step.{Step}
 use Rattle.timetable_steps.proofs.Laws.Steps.{goes_below, step_as}
-use borrow.Author.Rules.{rules}
 use Rattle.timetable_steps.proofs.step_of.Goals as goal
 
 pub next_of-next-requires : goal.next_of-next-requires

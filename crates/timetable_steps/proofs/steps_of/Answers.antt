@@ -1,9 +1,8 @@
-use mathlib.Core.Path.{◌≡◌, refl, ap, ◌∙◌}
-use Prim.Native.Nat.{◌-◌, ◌*◌, ◌/◌, ◌≤◌}
+use mathlib.Core.Path.{refl, ap, ◌∙◌}
+use Prim.Native.Nat.{◌-◌, ◌/◌}
 use native.Mathlib.Omega.{arith}
 use Rattle.timetable_steps.specs.Inner.Steps.{step_of}
-use Rattle.timetable_steps.proofs.Laws.Steps.{Filled, named, filled_more, looks}
-use borrow.Author.Rules.{rules}
+use Rattle.timetable_steps.proofs.Laws.Steps.{named, filled_more, looks}
 use Rattle.timetable_steps.proofs.steps_of.Goals as goal
 
 pub loop-k-init : goal.loop-k-init

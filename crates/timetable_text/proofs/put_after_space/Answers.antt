@@ -1,5 +1,4 @@
 -- The space, then the number.
-use borrow.Author.Rules.{rules}
 use Rattle.wire.proofs.Laws.Puts.{puts_join}
 use Rattle.timetable_text.proofs.put_after_space.Goals as goal
 

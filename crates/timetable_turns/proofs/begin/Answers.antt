@@ -1,7 +1,6 @@
 -- `begin` meets its contract: the plan is judged, and its first line is put. Assumes nothing.
 use native.Mathlib.Omega.{arith}
 use Rattle.timetable_turns.proofs.Begins.{begins}
-use borrow.Author.Rules.{rules}
 use Rattle.timetable_turns.proofs.begin.Goals as goal
 
 pub returns : goal.returns

@@ -3,7 +3,6 @@ use mathlib.Core.Path.{sym, ap}
 use Rattle.timetable_turns.specs.Inner.Turn.{first_text}
 use Rattle.timetable_text.proofs.Laws.Lent.{lends_as}
 use Rattle.timetable_turns.proofs.Begins.{lends_refused}
-use borrow.Author.Rules.{rules}
 use Rattle.timetable_turns.proofs.first_line.Goals as goal
 
 pub returns-in-Accepted : goal.returns-in-Accepted

@@ -2,7 +2,6 @@
 use native.Mathlib.Omega.{arith}
 use Rattle.timetable_lines.proofs.Laws.Lines.{refused_length}
 use Rattle.timetable_text.proofs.Laws.Lent.{lends_front, front_there}
-use borrow.Author.Rules.{rules}
 use Rattle.timetable_turns.proofs.refused_line.Goals as goal
 
 pub lend-requires : goal.lend-requires

@@ -6,7 +6,6 @@ use native.Mathlib.Omega.{arith}
 use borrow.Author.Tests.{le-leb, lt-leb}
 use mathlib.Core.Path.{ap}
 use Rattle.wire.specs.Number.{field_at}
-use borrow.Author.Rules.{rules}
 use Rattle.wire.proofs.byte_at.Goals as goal
 
 pub returns-then-at-bytes : goal.returns-then-at-bytes

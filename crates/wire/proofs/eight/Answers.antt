@@ -1,7 +1,6 @@
 -- A number of eight bytes is made of two numbers of four.
 use native.Mathlib.Omega.{arith}
 use Rattle.wire.proofs.Laws.Fields.{little_eight}
-use borrow.Author.Rules.{rules}
 use Rattle.wire.proofs.eight.Goals as goal
 
 pub returns : goal.returns

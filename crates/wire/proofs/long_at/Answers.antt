@@ -2,7 +2,6 @@
 use borrow.Author.Tests.{leb-true}
 use mathlib.Core.Path.{sym, ◌∙◌}
 use Rattle.wire.specs.Number.{field_at}
-use borrow.Author.Rules.{rules}
 use Rattle.wire.proofs.long_at.Goals as goal
 
 pub four-requires : goal.four-requires

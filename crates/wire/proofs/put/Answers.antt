@@ -1,7 +1,6 @@
 -- A byte is put where the buffer has the place, and the buffer is kept where it has not.
 use mathlib.Core.Path.{sym}
 use lib.Seq.{set_out}
-use borrow.Author.Rules.{rules}
 use Rattle.wire.proofs.put.Goals as goal
 
 pub returns-else-at-out : goal.returns-else-at-out

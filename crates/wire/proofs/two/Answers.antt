@@ -1,7 +1,6 @@
 -- A number of two bytes is made of two bytes, each below 256.
 use Prim.Native.Nat.{◌+◌}
 use native.Mathlib.Omega.{arith}
-use borrow.Author.Rules.{rules}
 use Rattle.wire.proofs.two.Goals as goal
 
 pub overflow_mul-result : goal.overflow_mul-result

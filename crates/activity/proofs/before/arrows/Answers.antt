@@ -1,15 +1,12 @@
-use Prim.Native.Nat.{ℕ, ◌<◌, ◌≤◌, ◌-◌}
-use mathlib.Core.Path.{◌≡◌, refl, subst}
-use mathlib.Core.Logic.{◌↔◌, ⊎_elim}
+use Prim.Native.Nat.{ℕ, ◌<◌, ◌-◌}
+use mathlib.Core.Path.{refl, subst}
+use mathlib.Core.Logic.{⊎_elim}
 use native.Mathlib.Omega.{arith}
 use borrow.Author.Count.{below_more}
 use lib.ListN.{length, get_or, length-set}
 use lib.Seq.{get_or-set_same, get_or-set_other}
-use Rattle.basis.specs.Lists.{Among}
-use Rattle.plan.specs.Plan.{past_node, predecessors}
 use Rattle.activity.specs.Inner.Bits.{Bit}
 use Rattle.activity.proofs.Laws.Bits.{no_bit, lt-or-ge, zeros}
-use Rattle.activity.specs.Inner.Closure.{Rel}
 use Rattle.activity.proofs.Places.{count_of, arrow_of}
 use borrow.Author.Rules.{rules}
 use Rattle.activity.proofs.before.arrows.Goals as goal

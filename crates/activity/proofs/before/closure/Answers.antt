@@ -1,11 +1,9 @@
-use Prim.Native.Nat.{◌≤◌, ◌-◌}
+use Prim.Native.Nat.{◌-◌}
 use mathlib.Core.Path.{◌≡◌}
-use mathlib.Core.List.{List}
 use native.Mathlib.Omega.{arith}
 use lib.ListN.{length}
 use Rattle.plan.specs.Plan.{nodes_of}
-use Rattle.plan.specs.declared.Node.{Node}
-use Rattle.activity.proofs.Laws.Closure.{Closing, opening, passing, shut}
+use Rattle.activity.proofs.Laws.Closure.{opening, passing, shut}
 use Rattle.activity.proofs.Places.{count_of}
 use borrow.Author.Rules.{rules}
 use Rattle.activity.proofs.before.closure.Goals as goal

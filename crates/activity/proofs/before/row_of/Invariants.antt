@@ -1,14 +1,9 @@
 -- `before::row_of` meets its contract. The loop's invariant: the bits that stand are the first j predecessors. Assumes nothing.
 use Prim.Native.Nat.{ℕ, ◌<◌, ◌≤◌, ◌-◌}
-use mathlib.Core.Path.{◌≡◌, refl, sym, ap, ◌∙◌}
-use mathlib.Core.Logic.{◌↔◌, inl, inr, ⊎_elim}
-use native.Mathlib.Nat.{eq-or-lt_of_le}
-use native.Mathlib.Omega.{arith}
+use mathlib.Core.Path.{◌≡◌}
+use mathlib.Core.Logic.{◌↔◌}
 use lib.ListN.{get_or}
 use Rattle.activity.specs.Inner.Bits.{Bit}
-use Rattle.activity.proofs.Laws.Bits.{no_bit}
-use Rattle.activity.proofs.Places.{listed}
-use borrow.Author.Rules.{rules}
 use Rattle.activity.proofs.before.row_of.Given as goal
 
 abbrev pub invariant-loop-j : goal.invariant-loop-j

@@ -1,7 +1,6 @@
 -- `nodes::action_number` meets its contract: at each return, what holds and the first thing that does not. Assumes nothing.
 use Rattle.basis.proofs.Laws.Tells.{granted, refuted}
 use Rattle.activity.proofs.Numbering.{action_unordered, action_unheld, action_good}
-use borrow.Author.Rules.{rules}
 use mathlib.Core.Path.{ap}
 use mathlib.Core.Bool.{not}
 use Rattle.activity.proofs.nodes.action_number.Goals as goal

@@ -1,7 +1,6 @@
-use Prim.Native.Nat.{◌<◌, ◌≤◌, ◌-◌}
+use Prim.Native.Nat.{◌-◌}
 use mathlib.Core.Path.{◌≡◌}
 use native.Mathlib.Omega.{arith}
-use Rattle.activity.specs.Inner.Sight.{Marks}
 use Rattle.activity.specs.Inner.Closure.{Rel}
 use Rattle.activity.proofs.Marking.{nothing_marked, one_more_marked}
 use borrow.Author.Rules.{rules}

@@ -1,11 +1,7 @@
 -- `nodes::after` meets its contract. The loop's invariant: the word marks the nodes below m that n is before. Assumes nothing.
 use Prim.Native.Nat.{◌<◌, ◌≤◌, ◌-◌}
-use mathlib.Core.Path.{◌≡◌}
-use native.Mathlib.Omega.{arith}
 use Rattle.activity.specs.Inner.Sight.{Marks}
 use Rattle.activity.specs.Inner.Closure.{Rel}
-use Rattle.activity.proofs.Marking.{nothing_marked, one_more_marked}
-use borrow.Author.Rules.{rules}
 use Rattle.activity.proofs.nodes.after.Given as goal
 
 abbrev pub invariant-loop-m : goal.invariant-loop-m

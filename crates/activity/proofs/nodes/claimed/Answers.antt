@@ -1,7 +1,6 @@
 -- `nodes::claimed` meets its contract: the words of the claims and of the nodes before n have a common bit. Assumes nothing.
 use Rattle.basis.proofs.Laws.Tells.{tells_iff}
 use Rattle.activity.proofs.Seeing.{seen_claimed}
-use borrow.Author.Rules.{rules}
 use Rattle.activity.proofs.nodes.claimed.Goals as goal
 
 pub returns : goal.returns

@@ -3,7 +3,6 @@ use Prim.Native.Nat.{ℕ}
 use Rattle.basis.proofs.Laws.Tells.{granted, refuted}
 use Rattle.activity.specs.Rules.{Before}
 use Rattle.activity.proofs.Numbering.{event_first, event_unordered, event_good}
-use borrow.Author.Rules.{rules}
 use mathlib.Core.Path.{ap}
 use mathlib.Core.Bool.{not}
 use Rattle.activity.proofs.nodes.event_number.Goals as goal

@@ -1,7 +1,6 @@
 -- `nodes::in_line` meets its contract: what the words say of the other nodes like n. Assumes nothing.
 use Rattle.basis.proofs.Laws.Tells.{tells_iff}
 use Rattle.activity.proofs.Seeing.{seen_in_line}
-use borrow.Author.Rules.{rules}
 use Rattle.activity.proofs.nodes.in_line.Goals as goal
 
 pub returns : goal.returns

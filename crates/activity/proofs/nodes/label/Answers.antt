@@ -1,5 +1,4 @@
 -- `nodes::label` meets its contract, arm by arm. Assumes nothing.
-use borrow.Author.Rules.{rules}
 use Rattle.activity.proofs.nodes.label.Goals as goal
 
 pub returns-in-Action : goal.returns-in-Action

@@ -1,12 +1,10 @@
-use Prim.Native.Nat.{ℕ, ◌<◌, ◌≤◌, ◌-◌}
-use mathlib.Core.Path.{◌≡◌, refl, ◌∙◌}
+use Prim.Native.Nat.{◌-◌}
+use mathlib.Core.Path.{refl, ◌∙◌}
 use native.Mathlib.Omega.{arith}
 use borrow.Author.Count.{below_more}
 use lib.ListN.{length, get_or, length-set}
 use lib.Seq.{get_or-set_same, get_or-set_other}
-use Rattle.plan.specs.Plan.{past_node}
 use Rattle.activity.proofs.Places.{labels_of}
-use Rattle.activity.specs.Inner.Sight.{label_of}
 use borrow.Author.Rules.{rules}
 use Rattle.activity.proofs.nodes.labels.Goals as goal
 

@@ -1,14 +1,9 @@
 -- `nodes::labels` meets its contract. The loop's invariant: the labels below n are written. Assumes nothing.
 use Prim.Native.Nat.{ℕ, ◌<◌, ◌≤◌, ◌-◌}
-use mathlib.Core.Path.{◌≡◌, refl, ◌∙◌}
-use native.Mathlib.Omega.{arith}
-use borrow.Author.Count.{below_more}
-use lib.ListN.{length, get_or, length-set}
-use lib.Seq.{get_or-set_same, get_or-set_other}
+use mathlib.Core.Path.{◌≡◌}
+use lib.ListN.{length, get_or}
 use Rattle.plan.specs.Plan.{past_node}
-use Rattle.activity.proofs.Places.{labels_of}
 use Rattle.activity.specs.Inner.Sight.{label_of}
-use borrow.Author.Rules.{rules}
 use Rattle.activity.proofs.nodes.labels.Given as goal
 
 abbrev pub invariant-loop-n : goal.invariant-loop-n

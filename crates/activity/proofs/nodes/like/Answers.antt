@@ -1,9 +1,8 @@
-use Prim.Native.Nat.{◌<◌, ◌≤◌, ◌-◌}
+use Prim.Native.Nat.{◌-◌}
 use mathlib.Core.Path.{◌≡◌}
 use native.Mathlib.Omega.{arith}
 use lib.ListN.{get_or}
 use Rattle.basis.proofs.Laws.Tells.{tells_eqb}
-use Rattle.activity.specs.Inner.Sight.{Marks}
 use Rattle.activity.proofs.Marking.{nothing_marked, one_more_marked}
 use borrow.Author.Rules.{rules}
 use Rattle.activity.proofs.nodes.like.Goals as goal

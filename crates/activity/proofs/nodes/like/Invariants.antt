@@ -1,12 +1,8 @@
 -- `nodes::like` meets its contract. The loop's invariant: the word marks the nodes below m with the label. Assumes nothing.
 use Prim.Native.Nat.{◌<◌, ◌≤◌, ◌-◌}
 use mathlib.Core.Path.{◌≡◌}
-use native.Mathlib.Omega.{arith}
 use lib.ListN.{get_or}
-use Rattle.basis.proofs.Laws.Tells.{tells_eqb}
 use Rattle.activity.specs.Inner.Sight.{Marks}
-use Rattle.activity.proofs.Marking.{nothing_marked, one_more_marked}
-use borrow.Author.Rules.{rules}
 use Rattle.activity.proofs.nodes.like.Given as goal
 
 abbrev pub invariant-loop-m : goal.invariant-loop-m

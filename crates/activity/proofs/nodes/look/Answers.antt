@@ -3,7 +3,6 @@ use mathlib.Core.Path.{sym, ap, ◌∙◌}
 use Prim.Native.Nat.{ℕ, ◌*◌, ◌+◌}
 use Rattle.activity.specs.Inner.Sight.{label_of, held_of}
 use Rattle.activity.proofs.Seeing.{label_marks, after_marks}
-use borrow.Author.Rules.{rules}
 use Rattle.activity.proofs.nodes.look.Goals as goal
 
 pub returns : goal.returns

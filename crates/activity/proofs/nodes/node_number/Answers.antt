@@ -1,13 +1,8 @@
 -- `nodes::node_number` meets its contract: a node on a cycle, or what the function of its kind says. Assumes nothing.
 use mathlib.Core.Path.{subst}
-use mathlib.Core.List.{List}
-use Prim.Native.Nat.{ℕ}
 use Rattle.basis.proofs.Laws.Tells.{told_true, told_false}
-use Rattle.plan.specs.declared.Node.{Node}
-use Rattle.activity.specs.Rules.{Is, Before}
-use Rattle.activity.specs.Inner.Sight.{Seen}
+use Rattle.activity.specs.Rules.{Is}
 use Rattle.activity.proofs.Numbering.{on_cycle}
-use borrow.Author.Rules.{rules}
 use Rattle.activity.proofs.nodes.node_number.Goals as goal
 
 pub returns-then-has : goal.returns-then-has

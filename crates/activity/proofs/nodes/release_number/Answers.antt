@@ -1,7 +1,6 @@
 -- `nodes::release_number` meets its contract: at each return, what holds and the first thing that does not. Assumes nothing.
 use Rattle.basis.proofs.Laws.Tells.{granted, refuted, told_true, told_false}
 use Rattle.activity.proofs.Numbering.{release_end, end_twice, end_unpaired, end_passed, end_good}
-use borrow.Author.Rules.{rules}
 use mathlib.Core.Path.{ap}
 use mathlib.Core.Bool.{not}
 use Rattle.activity.proofs.nodes.release_number.Goals as goal

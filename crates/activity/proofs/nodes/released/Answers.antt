@@ -1,7 +1,6 @@
 -- `nodes::released` meets its contract: the words of the releases and of the nodes after n have a common bit. Assumes nothing.
 use Rattle.basis.proofs.Laws.Tells.{tells_iff}
 use Rattle.activity.proofs.Seeing.{seen_released}
-use borrow.Author.Rules.{rules}
 use Rattle.activity.proofs.nodes.released.Goals as goal
 
 pub returns : goal.returns

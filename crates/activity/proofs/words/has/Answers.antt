@@ -1,5 +1,4 @@
 -- `words::has` meets its contract: the machine's shift and remainder read bit m. Assumes nothing.
-use borrow.Author.Rules.{rules}
 use Prim.Native.Nat.{◌/◌, ◌^◌, ◌%◌}
 use Rattle.basis.proofs.Laws.Tells.{tells_eqb}
 use Rattle.activity.proofs.words.has.Goals as goal

@@ -1,5 +1,4 @@
 -- `words::step` meets its contract: one word of a pass through node k. Assumes nothing.
-use borrow.Author.Rules.{rules}
 use mathlib.Core.Logic.{inl, inr, ⊎_elim}
 use Rattle.basis.proofs.Laws.Tells.{told_true, told_false}
 use Rattle.activity.proofs.Laws.Bits.{or_iff}

@@ -1,5 +1,4 @@
 -- `words::with` meets its contract: `|` with a power of two sets bit m and no other. Assumes nothing.
-use borrow.Author.Rules.{rules}
 use mathlib.Core.Logic.{inl, inr, ⊎_elim}
 use Prim.Native.Nat.{◌*◌, ◌^◌, ◌%◌}
 use Rattle.activity.proofs.Laws.Bits.{or_iff, shl_iff}

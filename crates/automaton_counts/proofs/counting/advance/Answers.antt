@@ -1,11 +1,9 @@
 use Rattle.automaton.proofs.Laws.Passes.{advance_starts, advance_from, advance_steps}
-use Rattle.automaton.specs.Inner.Passes.{Advanced}
 use Rattle.automaton_counts.proofs.Laws.Emits.{gives_few}
 use Rattle.automaton_counts.specs.Inner.Emits.{gives}
-use Prim.Native.Nat.{◌+◌, ◌*◌, ◌-◌, ◌≤◌}
+use Prim.Native.Nat.{◌+◌, ◌*◌, ◌-◌}
 use mathlib.Core.Path.{◌≡◌}
 use native.Mathlib.Omega.{arith}
-use borrow.Author.Rules.{rules}
 use Rattle.automaton_counts.proofs.counting.advance.Goals as goal
 
 pub loop-e-init : goal.loop-e-init

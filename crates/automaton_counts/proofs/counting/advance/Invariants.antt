@@ -1,12 +1,7 @@
 -- `advance` sets the counts of one state event by event.
-use Rattle.automaton.proofs.Laws.Passes.{advance_starts, advance_from, advance_steps}
 use Rattle.automaton.specs.Inner.Passes.{Advanced}
-use Rattle.automaton_counts.proofs.Laws.Emits.{gives_few}
 use Rattle.automaton_counts.specs.Inner.Emits.{gives}
-use Prim.Native.Nat.{◌+◌, ◌*◌, ◌-◌, ◌≤◌}
-use mathlib.Core.Path.{◌≡◌}
-use native.Mathlib.Omega.{arith}
-use borrow.Author.Rules.{rules}
+use Prim.Native.Nat.{◌-◌, ◌≤◌}
 use Rattle.automaton_counts.proofs.counting.advance.Given as goal
 
 abbrev pub invariant-loop-e : goal.invariant-loop-e

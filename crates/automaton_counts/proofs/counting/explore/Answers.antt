@@ -1,7 +1,4 @@
-use Rattle.basis.specs.Tests.{falses}
-use Rattle.automaton_counts.specs.Inner.Emits.{gives}
 use Rattle.automaton.proofs.Laws.Passes.{going_starts, going_round, going_ends}
-use Rattle.automaton.specs.Inner.Passes.{Going}
 use borrow.Author.Tests.{not-true, not-false}
 use mathlib.Core.Bool.{false}
 use mathlib.Core.Path.{◌≡◌}

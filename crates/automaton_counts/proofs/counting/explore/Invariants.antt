@@ -1,13 +1,8 @@
 -- Each pass of `explore` that reaches a state leaves fewer; what the last one leaves is known.
 use Rattle.basis.specs.Tests.{falses}
 use Rattle.automaton_counts.specs.Inner.Emits.{gives}
-use Rattle.automaton.proofs.Laws.Passes.{going_starts, going_round, going_ends}
 use Rattle.automaton.specs.Inner.Passes.{Going}
-use borrow.Author.Tests.{not-true, not-false}
 use mathlib.Core.Bool.{false}
-use mathlib.Core.Path.{◌≡◌}
-use native.Mathlib.Omega.{arith}
-use borrow.Author.Rules.{rules}
 use Rattle.automaton_counts.proofs.counting.explore.Given as goal
 
 abbrev pub invariant-loop-a : goal.invariant-loop-a

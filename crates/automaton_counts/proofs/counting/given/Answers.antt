@@ -7,7 +7,6 @@ use Rattle.plan.specs.declared.Output.{Output}
 use Prim.Native.Nat.{ℕ, ◌+◌, ◌*◌}
 use mathlib.Core.Path.{sym, ap, subst, ◌∙◌}
 use native.Mathlib.Omega.{arith}
-use borrow.Author.Rules.{rules}
 use Rattle.automaton_counts.proofs.counting.given.Goals as goal
 
 pub bounds-emits-place : goal.bounds-emits-place

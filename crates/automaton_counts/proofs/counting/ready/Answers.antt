@@ -9,7 +9,6 @@ use Rattle.plan.specs.declared.Input.{Input}
 use Prim.Native.Nat.{ℕ, ◌+◌, ◌*◌}
 use mathlib.Core.Path.{sym, subst}
 use native.Mathlib.Omega.{arith}
-use borrow.Author.Rules.{rules}
 use Rattle.automaton_counts.proofs.counting.ready.Goals as goal
 
 pub bounds-counts-place : goal.bounds-counts-place

@@ -4,7 +4,6 @@ use Rattle.automaton.specs.Inner.Counts.{one}
 use Rattle.plan.specs.declared.Input.{Input}
 use borrow.Author.Tests.{eq-eqb, ne_eqb}
 use mathlib.Core.Path.{sym, ap, ◌∙◌}
-use borrow.Author.Rules.{rules}
 use Rattle.automaton_counts.proofs.counting.taken.Goals as goal
 
 pub returns-then-u8_to_usize-e : goal.returns-then-u8_to_usize-e

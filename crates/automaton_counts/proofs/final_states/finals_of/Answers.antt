@@ -1,11 +1,9 @@
-use Rattle.basis.specs.Tests.{flag}
-use Rattle.plan.specs.Plan.{final_bit}
 use lib.Seq.{get_or-set_same, get_or-set_other}
 use lib.ListN.{length, length-set}
 use borrow.Author.Count.{below_more}
 use mathlib.Core.Bool.{false}
-use Prim.Native.Nat.{ℕ, ◌-◌, ◌≤◌, ◌<◌}
-use mathlib.Core.Path.{◌≡◌, refl}
+use Prim.Native.Nat.{◌-◌}
+use mathlib.Core.Path.{refl}
 use native.Mathlib.Omega.{arith}
 use borrow.Author.Rules.{rules}
 use Rattle.automaton_counts.proofs.final_states.finals_of.Goals as goal

@@ -1,14 +1,9 @@
 -- `finals_of` copies the bits one by one.
 use Rattle.basis.specs.Tests.{flag}
 use Rattle.plan.specs.Plan.{final_bit}
-use lib.Seq.{get_or-set_same, get_or-set_other}
-use lib.ListN.{length, length-set}
-use borrow.Author.Count.{below_more}
-use mathlib.Core.Bool.{false}
+use lib.ListN.{length}
 use Prim.Native.Nat.{ℕ, ◌-◌, ◌≤◌, ◌<◌}
-use mathlib.Core.Path.{◌≡◌, refl}
-use native.Mathlib.Omega.{arith}
-use borrow.Author.Rules.{rules}
+use mathlib.Core.Path.{◌≡◌}
 use Rattle.automaton_counts.proofs.final_states.finals_of.Given as goal
 
 abbrev pub invariant-loop-i : goal.invariant-loop-i

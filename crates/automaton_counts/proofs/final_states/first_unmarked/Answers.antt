@@ -1,11 +1,9 @@
-use mathlib.Core.Path.{◌≡◌, sym, ◌∙◌}
-use Prim.Native.Nat.{◌-◌, ◌≤◌}
+use mathlib.Core.Path.{sym, ◌∙◌}
+use Prim.Native.Nat.{◌-◌}
 use native.Mathlib.Omega.{arith}
 use borrow.Author.Tests.{not-true, not-false}
 use Rattle.basis.specs.Tests.{flag}
-use Rattle.automaton.specs.Number.{lowest}
 use Rattle.automaton.proofs.Laws.Lowest.{scan_starts, scan_passes, scan_stops, scan_ends}
-use borrow.Author.Rules.{rules}
 use mathlib.Core.Path.{ap}
 use mathlib.Core.Bool.{not}
 use Rattle.automaton_counts.proofs.final_states.first_unmarked.Goals as goal

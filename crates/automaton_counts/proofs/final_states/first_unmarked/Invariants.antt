@@ -1,12 +1,8 @@
 -- `first_unmarked` scans the flags from state 0 on.
-use mathlib.Core.Path.{◌≡◌, sym, ◌∙◌}
+use mathlib.Core.Path.{◌≡◌}
 use Prim.Native.Nat.{◌-◌, ◌≤◌}
-use native.Mathlib.Omega.{arith}
-use borrow.Author.Tests.{not-true, not-false}
 use Rattle.basis.specs.Tests.{flag}
 use Rattle.automaton.specs.Number.{lowest}
-use Rattle.automaton.proofs.Laws.Lowest.{scan_starts, scan_passes, scan_stops, scan_ends}
-use borrow.Author.Rules.{rules}
 use Rattle.automaton_counts.proofs.final_states.first_unmarked.Given as goal
 
 abbrev pub invariant-loop-s : goal.invariant-loop-s

@@ -1,12 +1,10 @@
 use Rattle.basis.proofs.Laws.Bools.{clash}
 use Rattle.automaton.proofs.Laws.Passes.{back_stay, back_store}
-use Rattle.automaton.specs.Inner.Passes.{Backing}
 use Rattle.automaton_counts.proofs.Tools.{moved, move_ok}
 use borrow.Author.Tests.{not-true, not-false}
-use Prim.Native.Nat.{◌-◌, ◌≤◌}
+use Prim.Native.Nat.{◌-◌}
 use mathlib.Core.Path.{◌≡◌, sym, ◌∙◌}
 use native.Mathlib.Omega.{arith}
-use borrow.Author.Rules.{rules}
 use mathlib.Core.Path.{ap}
 use mathlib.Core.Bool.{not}
 use Rattle.automaton_counts.proofs.final_states.mark_back.Goals as goal

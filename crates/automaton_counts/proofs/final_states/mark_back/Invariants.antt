@@ -1,13 +1,6 @@
 -- `mark_back` keeps what `Backing` says of the marked states, one transition after the other.
-use Rattle.basis.proofs.Laws.Bools.{clash}
-use Rattle.automaton.proofs.Laws.Passes.{back_stay, back_store}
 use Rattle.automaton.specs.Inner.Passes.{Backing}
-use Rattle.automaton_counts.proofs.Tools.{moved, move_ok}
-use borrow.Author.Tests.{not-true, not-false}
 use Prim.Native.Nat.{◌-◌, ◌≤◌}
-use mathlib.Core.Path.{◌≡◌, sym, ◌∙◌}
-use native.Mathlib.Omega.{arith}
-use borrow.Author.Rules.{rules}
 use Rattle.automaton_counts.proofs.final_states.mark_back.Given as goal
 
 abbrev pub invariant-loop-i : goal.invariant-loop-i

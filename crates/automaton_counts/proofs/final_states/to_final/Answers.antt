@@ -1,12 +1,8 @@
-use Rattle.basis.specs.Tests.{falses}
 use Rattle.automaton.proofs.Laws.Works.{back_done}
 use Rattle.automaton.proofs.Laws.Passes.{same_back, back_starts, back_round, back_ends}
-use Rattle.automaton.specs.Inner.Passes.{Backing}
 use borrow.Author.Tests.{not-true, not-false}
 use mathlib.Core.Bool.{false}
 use mathlib.Core.Path.{◌≡◌}
-use borrow.Author.Rules.{rules}
-use mathlib.Core.Path.{ap}
 use mathlib.Core.Bool.{not}
 use Rattle.automaton_counts.proofs.final_states.to_final.Goals as goal
 

@@ -1,7 +1,6 @@
 -- An answer that is read is written.
 use mathlib.Core.Path.{ap, ◌∙◌}
 use Rattle.exports.specs.Messages.{sent_code, answer_code, answer_buffer}
-use borrow.Author.Rules.{rules}
 use Rattle.exports.proofs.messages.answer_back.Goals as goal
 
 pub returns-in-Reply : goal.returns-in-Reply

@@ -1,7 +1,6 @@
 -- A call that is read is written.
 use mathlib.Core.Path.{ap, ◌∙◌}
 use Rattle.exports.specs.Messages.{sent_code, call_code, call_buffer}
-use borrow.Author.Rules.{rules}
 use Rattle.exports.proofs.messages.call_back.Goals as goal
 
 pub returns-in-Call : goal.returns-in-Call

@@ -1,7 +1,6 @@
 -- The answer of link_drive as a number.
 use mathlib.Core.Path.{ap, ◌∙◌}
 use Rattle.exports.specs.Codes.{recorded_code}
-use borrow.Author.Rules.{rules}
 use Rattle.exports.proofs.messages.jidlekuvo_link.Goals as goal
 
 pub returns : goal.returns

@@ -1,7 +1,6 @@
 -- By the direction.
 use borrow.Author.Tests.{eq-eqb, ne_eqb}
 use Rattle.exports.specs.Messages.{message_code, message_buffer}
-use borrow.Author.Rules.{rules}
 use Rattle.exports.proofs.messages.jidlekuvo_message.Goals as goal
 
 pub returns-then-direction-eq0 : goal.returns-then-direction-eq0

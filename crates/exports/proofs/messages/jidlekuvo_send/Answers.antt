@@ -3,7 +3,6 @@ use mathlib.Core.Path.{ap, ◌∙◌}
 use lib.ListN.{length}
 use borrow.Author.Tests.{eq-eqb, ne_eqb}
 use Rattle.exports.specs.Messages.{sent_code, send_code, send_buffer}
-use borrow.Author.Rules.{rules}
 use Rattle.exports.proofs.messages.jidlekuvo_send.Goals as goal
 
 pub returns-then-fields-ne17 : goal.returns-then-fields-ne17

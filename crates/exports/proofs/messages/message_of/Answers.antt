@@ -1,6 +1,5 @@
 -- Each field at its offset.
 use Rattle.exports.specs.Messages.{fields_of}
-use borrow.Author.Rules.{rules}
 use Rattle.exports.proofs.messages.message_of.Goals as goal
 
 pub returns : goal.returns

@@ -1,6 +1,5 @@
 -- The bytes, or 61 or 36.
 use Rattle.exports.specs.Messages.{sent_code}
-use borrow.Author.Rules.{rules}
 use Rattle.exports.proofs.messages.sent_code.Goals as goal
 
 pub returns-in-Bytes : goal.returns-in-Bytes

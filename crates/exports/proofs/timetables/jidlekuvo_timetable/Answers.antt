@@ -1,7 +1,6 @@
 -- `jidlekuvo_timetable` meets its contract. Assumes nothing.
 use mathlib.Core.Path.{ap, ◌∙◌}
 use Rattle.exports.specs.Lengths.{length_code}
-use borrow.Author.Rules.{rules}
 use Rattle.exports.proofs.timetables.jidlekuvo_timetable.Goals as goal
 
 pub returns : goal.returns

@@ -1,4 +1,3 @@
-use borrow.Author.Rules.{rules}
 use Rattle.held.proofs.moves.hold_move.Goals as goal
 
 pub returns : goal.returns

@@ -1,12 +1,10 @@
-use borrow.Author.Rules.{rules}
-use native.Mathlib.Omega.{arith}
-use mathlib.Core.Path.{◌≡◌, refl, ◌∙◌}
+use mathlib.Core.Path.{◌≡◌}
 use Prim.Native.Nat.{◌≤◌, ◌-◌}
 use lib.ListN.{length}
 use Rattle.plan.specs.declared.Transition.{Transition}
 use Rattle.held.specs.declared.HeldMove.{HeldMove}
 use Rattle.held.specs.Held.{held_move}
-use Rattle.held.proofs.Filled.{filled, fill_turn, fill_end}
+use Rattle.held.proofs.Filled.{filled}
 use Rattle.held.proofs.moves.hold_moves.Given as goal
 
 abbrev pub invariant-loop-i : goal.invariant-loop-i

@@ -1,12 +1,12 @@
 use borrow.Author.Rules.{rules}
 use native.Mathlib.Omega.{arith}
 use mathlib.Core.Path.{◌≡◌, refl, ◌∙◌}
-use Prim.Native.Nat.{◌≤◌, ◌-◌}
+use Prim.Native.Nat.{◌-◌}
 use lib.ListN.{length}
 use Rattle.plan.specs.declared.Node.{Node}
 use Rattle.held.specs.declared.HeldNode.{HeldNode}
 use Rattle.held.specs.Held.{held_node}
-use Rattle.held.proofs.Filled.{filled, fill_turn, fill_end}
+use Rattle.held.proofs.Filled.{fill_turn, fill_end}
 use Rattle.held.proofs.nodes.hold_nodes.Goals as goal
 
 pub loop-i-preserved : goal.loop-i-preserved

@@ -1,13 +1,11 @@
-use borrow.Author.Rules.{rules}
 use native.Mathlib.Omega.{arith}
-use mathlib.Core.Path.{◌≡◌, refl, sym, ◌∙◌}
+use mathlib.Core.Path.{refl, sym, ◌∙◌}
 use mathlib.Core.List.{map-map}
-use Prim.Native.Nat.{◌≤◌, ◌-◌}
-use lib.ListN.{length}
+use Prim.Native.Nat.{◌-◌}
 use Rattle.held.specs.declared.HeldEntry.{HeldEntry}
 use Rattle.held.specs.Held.{entry_of, held_entry}
 use Rattle.basis.proofs.Laws.Lists.{unmapped}
-use Rattle.held.proofs.Filled.{filled, fill_own, fill_end}
+use Rattle.held.proofs.Filled.{fill_own, fill_end}
 use Rattle.held.proofs.places.fresh.Invariants.{again}
 use Rattle.held.proofs.places.fresh.Goals as goal
 

@@ -1,14 +1,10 @@
 -- `fresh` writes each place of the window anew from what it stands for, where it stands.
-use borrow.Author.Rules.{rules}
-use native.Mathlib.Omega.{arith}
-use mathlib.Core.Path.{◌≡◌, refl, sym, ◌∙◌}
-use mathlib.Core.List.{map-map}
+use mathlib.Core.Path.{◌≡◌}
 use Prim.Native.Nat.{◌≤◌, ◌-◌}
 use lib.ListN.{length}
 use Rattle.held.specs.declared.HeldEntry.{HeldEntry}
 use Rattle.held.specs.Held.{entry_of, held_entry}
-use Rattle.basis.proofs.Laws.Lists.{unmapped}
-use Rattle.held.proofs.Filled.{filled, fill_own, fill_end}
+use Rattle.held.proofs.Filled.{filled}
 use Rattle.held.proofs.places.fresh.Given as goal
 
 abbrev pub again : HeldEntry → HeldEntry

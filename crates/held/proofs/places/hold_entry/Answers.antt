@@ -1,4 +1,3 @@
-use borrow.Author.Rules.{rules}
 use Rattle.held.proofs.places.hold_entry.Goals as goal
 
 pub returns : goal.returns

@@ -1,12 +1,10 @@
-use borrow.Author.Rules.{rules}
-use native.Mathlib.Omega.{arith}
-use mathlib.Core.Path.{◌≡◌, refl, ◌∙◌}
+use mathlib.Core.Path.{◌≡◌}
 use Prim.Native.Nat.{◌≤◌, ◌-◌}
 use lib.ListN.{length}
 use Rattle.times.specs.declared.Instance.{Instance}
 use Rattle.held.specs.declared.HeldInstance.{HeldInstance}
 use Rattle.held.specs.Held.{held_instance}
-use Rattle.held.proofs.Filled.{filled, fill_turn, fill_end}
+use Rattle.held.proofs.Filled.{filled}
 use Rattle.held.proofs.progresses.hold_pending.Given as goal
 
 abbrev pub invariant-loop-i : goal.invariant-loop-i

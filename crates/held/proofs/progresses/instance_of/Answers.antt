@@ -1,4 +1,3 @@
-use borrow.Author.Rules.{rules}
 use Rattle.held.proofs.progresses.instance_of.Goals as goal
 
 pub returns : goal.returns

@@ -1,12 +1,12 @@
 use borrow.Author.Rules.{rules}
 use native.Mathlib.Omega.{arith}
 use mathlib.Core.Path.{◌≡◌, refl, ◌∙◌}
-use Prim.Native.Nat.{◌≤◌, ◌-◌}
+use Prim.Native.Nat.{◌-◌}
 use lib.ListN.{length}
 use Rattle.held.specs.declared.HeldInstance.{HeldInstance}
 use Rattle.times.specs.declared.Instance.{Instance}
 use Rattle.held.specs.Held.{instance_of}
-use Rattle.held.proofs.Filled.{filled, fill_turn, fill_end}
+use Rattle.held.proofs.Filled.{fill_turn, fill_end}
 use Rattle.held.proofs.progresses.pending_of.Goals as goal
 
 pub loop-i-preserved : goal.loop-i-preserved

@@ -1,15 +1,14 @@
 use mathlib.Core.Path.{◌≡◌, ◌∙◌, ap}
 use mathlib.Core.List.{map}
-use Prim.Native.Nat.{◌≤◌, ◌-◌}
+use Prim.Native.Nat.{◌-◌}
 use native.Mathlib.Omega.{arith}
-use lib.ListN.{length, get_or, drop, length-map}
+use lib.ListN.{length, get_or, length-map}
 use Rattle.basis.proofs.Laws.Lists.{unmapped}
-use Rattle.run_window.specs.Window.{vacant, is_free, is_empty}
+use Rattle.run_window.specs.Window.{vacant, is_free}
 use Rattle.run_window.specs.declared.Entry.{Entry}
 use Rattle.run_window.proofs.Laws.Scans.{empty_past, empty_not, empty_all}
 use Rattle.held.specs.Held.{entry_of}
 use Rattle.held_checks.proofs.MappedPlaces.{place_read}
-use borrow.Author.Rules.{rules}
 use Rattle.held_checks.proofs.places.is_empty.Goals as goal
 
 pub loop-i-preserved : goal.loop-i-preserved

@@ -1,16 +1,10 @@
 -- `is_empty` tells whether every place is free, of the window that its numbers stand for.
-use mathlib.Core.Path.{◌≡◌, ◌∙◌, ap}
+use mathlib.Core.Path.{◌≡◌, ap}
 use mathlib.Core.List.{map}
 use Prim.Native.Nat.{◌≤◌, ◌-◌}
-use native.Mathlib.Omega.{arith}
-use lib.ListN.{length, get_or, drop, length-map}
-use Rattle.basis.proofs.Laws.Lists.{unmapped}
-use Rattle.run_window.specs.Window.{vacant, is_free, is_empty}
-use Rattle.run_window.specs.declared.Entry.{Entry}
-use Rattle.run_window.proofs.Laws.Scans.{empty_past, empty_not, empty_all}
+use lib.ListN.{drop}
+use Rattle.run_window.specs.Window.{is_empty}
 use Rattle.held.specs.Held.{entry_of}
-use Rattle.held_checks.proofs.MappedPlaces.{place_read}
-use borrow.Author.Rules.{rules}
 use Rattle.held_checks.proofs.places.is_empty.Given as goal
 
 abbrev pub invariant-loop-i : goal.invariant-loop-i

@@ -22,7 +22,6 @@ use Rattle.held.specs.Held.{entry_of, node_of}
 use Rattle.held_checks.proofs.Mapped.{mapped_at}
 use Rattle.held_checks.proofs.MappedPlaces.{place_read}
 use borrow.Author.Tests.{not-true, not-false}
-use borrow.Author.Rules.{rules}
 use mathlib.Core.Bool.{not}
 use Rattle.held_checks.proofs.places.look_by_rank.Goals as goal
 

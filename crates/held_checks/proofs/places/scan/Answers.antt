@@ -16,7 +16,6 @@ use Rattle.run_window.proofs.Laws.Scans.{Agrees, FirstFrom, scan_none, scan_pass
 use Rattle.held.specs.Held.{entry_of}
 use Rattle.held_checks.proofs.MappedPlaces.{place_read}
 use borrow.Author.Tests.{not-true}
-use borrow.Author.Rules.{rules}
 use mathlib.Core.Bool.{not}
 use Rattle.held_checks.proofs.places.scan.Goals as goal
 

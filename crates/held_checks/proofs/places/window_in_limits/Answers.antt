@@ -1,16 +1,15 @@
 use mathlib.Core.Path.{◌≡◌, sym, ◌∙◌, ap}
 use mathlib.Core.List.{map}
-use Prim.Native.Nat.{◌≤◌, ◌-◌}
+use Prim.Native.Nat.{◌-◌}
 use native.Mathlib.Omega.{arith}
-use lib.ListN.{length, get_or, drop, length-map}
+use lib.ListN.{length, get_or, length-map}
 use Rattle.basis.proofs.Laws.Lists.{unmapped}
 use Rattle.run_window.specs.Window.{vacant}
-use Rattle.run_limits.specs.Window.{entry_in_limits, window_in_limits}
+use Rattle.run_limits.specs.Window.{entry_in_limits}
 use Rattle.run_limits.proofs.Laws.Places.{window_on, window_off, window_end}
 use Rattle.held.specs.Held.{entry_of}
 use Rattle.held_checks.proofs.MappedPlaces.{place_read}
 use borrow.Author.Tests.{not-true, not-false}
-use borrow.Author.Rules.{rules}
 use mathlib.Core.Bool.{not}
 use Rattle.held_checks.proofs.places.window_in_limits.Goals as goal
 

@@ -1,20 +1,13 @@
 -- `plans::moves_in_limits` is what it is defined to be. The loop's invariant: what is passed changes nothing.
 -- Assumes nothing.
 use mathlib.Core.List.{map}
-use mathlib.Core.Path.{◌≡◌, sym, ◌∙◌}
+use mathlib.Core.Path.{◌≡◌}
 use Prim.Native.Nat.{◌-◌, ◌≤◌}
-use native.Mathlib.Omega.{arith}
-use borrow.Author.Tests.{not-true, not-false}
-use borrow.Author.Rules.{rules}
-use lib.ListN.{get_or, length}
+use lib.ListN.{get_or}
 use Rattle.basis.specs.Tests.{every}
-use Rattle.plan.specs.declared.Transition.{Transition}
 use Rattle.plan.specs.Plan.{past_move}
-use Rattle.plan_limits.proofs.Laws.Every.{every_on, every_off, every_end}
-use Rattle.plan_limits.specs.Limits.{move_in_limits, moves_in_limits}
-use Rattle.held.specs.declared.HeldMove.{HeldMove}
+use Rattle.plan_limits.specs.Limits.{move_in_limits}
 use Rattle.held.specs.Held.{move_of}
-use Rattle.held_checks.proofs.Mapped.{mapped_at}
 use Rattle.held_checks.proofs.plans.moves_in_limits.Given as goal
 
 abbrev pub invariant-loop-left : goal.invariant-loop-left

@@ -1,9 +1,8 @@
 use mathlib.Core.List.{map}
 use mathlib.Core.Path.{◌≡◌, sym, ap, ◌∙◌}
-use Prim.Native.Nat.{◌-◌, ◌≤◌, ◌*◌, ◌/◌, ◌%◌}
+use Prim.Native.Nat.{◌-◌, ◌*◌, ◌/◌, ◌%◌}
 use native.Mathlib.Omega.{arith}
 use borrow.Author.Tests.{le-leb, lt-leb, not-true, not-false}
-use borrow.Author.Rules.{rules}
 use lib.ListN.{get_or, length}
 use Rattle.basis.specs.Tests.{every}
 use Rattle.basis.proofs.Laws.Lists.{unmapped}

@@ -1,22 +1,13 @@
 -- `plans::nodes_in_limits` is what it is defined to be. The loop's invariant: what is passed changes nothing.
 -- Assumes nothing.
 use mathlib.Core.List.{map}
-use mathlib.Core.Path.{◌≡◌, sym, ap, ◌∙◌}
+use mathlib.Core.Path.{◌≡◌, ap}
 use Prim.Native.Nat.{◌-◌, ◌≤◌, ◌*◌, ◌/◌, ◌%◌}
-use native.Mathlib.Omega.{arith}
-use borrow.Author.Tests.{le-leb, lt-leb, not-true, not-false}
-use borrow.Author.Rules.{rules}
-use lib.ListN.{get_or, length}
+use lib.ListN.{get_or}
 use Rattle.basis.specs.Tests.{every}
-use Rattle.basis.proofs.Laws.Lists.{unmapped}
-use Rattle.plan.specs.declared.Node.{Node}
 use Rattle.plan.specs.Plan.{past_node}
-use Rattle.plan_limits.proofs.Laws.Every.{every_on, every_off, every_end}
-use Rattle.plan_limits.specs.Limits.{slot_in_limits, nodes_in_limits}
-use Rattle.held.specs.declared.HeldNode.{HeldNode}
+use Rattle.plan_limits.specs.Limits.{slot_in_limits}
 use Rattle.held.specs.Held.{node_of}
-use Rattle.held_checks.specs.Inner.Limits.{nodes_good}
-use Rattle.held_checks.proofs.Mapped.{mapped_at}
 use Rattle.held_checks.proofs.plans.nodes_in_limits.Given as goal
 
 abbrev pub invariant-loop-left : goal.invariant-loop-left

@@ -1,6 +1,5 @@
 -- `plans::numbers_in_limits` is what it is defined to be. Assumes nothing.
 use borrow.Author.Tests.{le-leb, lt-leb}
-use borrow.Author.Rules.{rules}
 use Rattle.held_checks.specs.Inner.Limits.{numbers_in_limits}
 use Rattle.held_checks.proofs.plans.numbers_in_limits.Goals as goal
 

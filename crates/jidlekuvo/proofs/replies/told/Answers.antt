@@ -1,4 +1,3 @@
-use borrow.Author.Rules.{rules}
 use mathlib.Core.Path.{◌∙◌, ap}
 use Rattle.jidlekuvo.specs.Replies.{host_reply, told_of}
 use Rattle.jidlekuvo.proofs.replies.told.Goals as goal

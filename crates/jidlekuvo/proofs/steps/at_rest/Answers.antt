@@ -1,6 +1,5 @@
 -- `at_rest` answers done or wait.
 use mathlib.Core.Path.{sym, ◌∙◌}
-use borrow.Author.Rules.{rules}
 use Rattle.jidlekuvo.proofs.steps.at_rest.Goals as goal
 
 pub returns-then-is_empty : goal.returns-then-is_empty

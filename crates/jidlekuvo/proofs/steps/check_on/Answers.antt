@@ -1,5 +1,4 @@
 -- `check_on` says what the checks say of the run that the numbers stand for.
-use borrow.Author.Rules.{rules}
 use mathlib.Core.Path.{◌≡◌, refl, sym, ◌∙◌, ap, subst}
 use Rattle.run_window.specs.declared.Sought.{Sought}
 use Rattle.run_window.specs.Inner.Search.{SoughtInTime}

@@ -1,5 +1,4 @@
 -- `effect_on` reads the kind of the node that the checks found where it looks at all nodes.
-use borrow.Author.Rules.{rules}
 use native.Mathlib.Omega.{arith}
 use mathlib.Core.Bool.{Bool}
 use mathlib.Core.Path.{◌∙◌, ap}

@@ -1,4 +1,3 @@
-use borrow.Author.Rules.{rules}
 use Rattle.jidlekuvo.proofs.steps.kept.Goals as goal
 
 pub returns : goal.returns

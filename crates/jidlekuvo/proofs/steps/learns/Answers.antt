@@ -1,5 +1,4 @@
 -- `learns` loads into the window that the numbers stand for, from a plan that differs from theirs in its spare room alone.
-use borrow.Author.Rules.{rules}
 use native.Mathlib.Omega.{arith}
 use mathlib.Core.Path.{◌≡◌, refl, sym, ◌∙◌, ap, subst}
 use mathlib.Core.List.{List, map}

@@ -1,5 +1,4 @@
 -- `stored` changes one place of the window.
-use borrow.Author.Rules.{rules}
 use native.Mathlib.Omega.{arith}
 use mathlib.Core.Path.{◌∙◌, ap}
 use mathlib.Core.List.{List, map}

@@ -1,5 +1,4 @@
 -- The message of each call.
-use borrow.Author.Rules.{rules}
 use Rattle.link_calls.proofs.calls.of_call.Goals as goal
 
 pub returns-in-Ask : goal.returns-in-Ask

@@ -11,7 +11,6 @@ use Rattle.link_calls.specs.declared.CallRead.{CallRead}
 use Rattle.link_calls.specs.Calls.{clock}
 use Rattle.link_calls.proofs.Laws.Reads.{call_length, call_unlisted, reads_ask, reads_completion, reads_outcome}
 use Rattle.link_calls.proofs.Offsets.{short, long, one_byte, ask_long, completion_long, outcome_long}
-use borrow.Author.Rules.{rules}
 use mathlib.Core.Bool.{not}
 use Rattle.link_calls.proofs.calls.read_call.Goals as goal
 

@@ -3,7 +3,6 @@ use mathlib.Core.Path.{sym, ◌∙◌}
 use Rattle.link_messages.proofs.Laws.Written.{writes_as}
 use Rattle.link_calls.specs.Calls.{to_board}
 use Rattle.link_calls.proofs.Laws.Listed.{board_permits}
-use borrow.Author.Rules.{rules}
 use Rattle.link_calls.proofs.calls.write_call.Goals as goal
 
 pub returns : goal.returns

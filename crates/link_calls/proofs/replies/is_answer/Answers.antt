@@ -3,7 +3,6 @@ use mathlib.Core.Path.{◌∙◌, ap}
 use mathlib.Core.Logic.{inl, inr, ⊎_elim}
 use borrow.Author.Tests.{ne_eqb}
 use Rattle.link_calls.specs.Replies.{is_reply}
-use borrow.Author.Rules.{rules}
 use Rattle.link_calls.proofs.replies.is_answer.Goals as goal
 
 pub returns-in-22 : goal.returns-in-22

@@ -1,7 +1,6 @@
 -- The message of each reply.
 use mathlib.Core.Path.{◌∙◌, ap}
 use Rattle.link_calls.specs.Replies.{plain}
-use borrow.Author.Rules.{rules}
 use Rattle.link_calls.proofs.replies.of_reply.Goals as goal
 
 pub returns-in-Start : goal.returns-in-Start

@@ -2,7 +2,6 @@
 use mathlib.Core.Path.{◌∙◌, ap}
 use Rattle.run.specs.Numbers.{stop_number}
 use Rattle.link_calls.specs.Replies.{plain, named}
-use borrow.Author.Rules.{rules}
 use Rattle.link_calls.proofs.replies.of_stop.Goals as goal
 
 pub returns-in-Late : goal.returns-in-Late

@@ -11,7 +11,6 @@ use Rattle.link_calls.specs.declared.AnswerRead.{AnswerRead}
 use Rattle.link_calls.specs.Replies.{naming, with_number}
 use Rattle.link_calls.proofs.Laws.Reads.{answer_length, answer_unlisted, reads_start, reads_wait, reads_done, reads_taken, reads_number, reads_node}
 use Rattle.link_calls.proofs.Offsets.{short, long, one_byte, start_long, number_long, node_long}
-use borrow.Author.Rules.{rules}
 use mathlib.Core.Bool.{not}
 use Rattle.link_calls.proofs.replies.read_answer.Goals as goal
 

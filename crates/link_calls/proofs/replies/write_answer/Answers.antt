@@ -1,7 +1,6 @@
 -- The writer of the host's direction.
 use Rattle.link_messages.proofs.Laws.Written.{writes_as}
 use Rattle.link_calls.specs.Replies.{to_host}
-use borrow.Author.Rules.{rules}
 use Rattle.link_calls.proofs.replies.write_answer.Goals as goal
 
 pub returns : goal.returns

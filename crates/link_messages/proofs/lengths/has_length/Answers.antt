@@ -2,7 +2,6 @@
 use native.Mathlib.Omega.{arith}
 use lib.ListN.{length}
 use borrow.Author.Tests.{le-leb, lt-leb}
-use borrow.Author.Rules.{rules}
 use Rattle.link_messages.proofs.lengths.has_length.Goals as goal
 
 pub returns-then-n-eq0 : goal.returns-then-n-eq0

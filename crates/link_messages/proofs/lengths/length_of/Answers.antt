@@ -1,7 +1,6 @@
 -- The widths of the fields that stand, and the map.
 use native.Mathlib.Omega.{arith}
 use Rattle.link_messages.specs.Message.{length_of}
-use borrow.Author.Rules.{rules}
 use Rattle.link_messages.proofs.lengths.length_of.Goals as goal
 
 pub returns : goal.returns

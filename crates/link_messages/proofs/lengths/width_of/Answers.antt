@@ -1,6 +1,5 @@
 -- A bit that stands has its field.
 use native.Mathlib.Omega.{arith}
-use borrow.Author.Rules.{rules}
 use Rattle.link_messages.proofs.lengths.width_of.Goals as goal
 
 pub returns-then-stands : goal.returns-then-stands

@@ -2,7 +2,6 @@
 use native.Mathlib.Omega.{arith}
 use Rattle.wire.proofs.Laws.Fields.{length_bytes}
 use Rattle.wire.proofs.Laws.Puts.{puts_none}
-use borrow.Author.Rules.{rules}
 use Rattle.link_messages.proofs.puts.put_if.Goals as goal
 
 pub returns-then-stands : goal.returns-then-stands

@@ -2,7 +2,6 @@
 use mathlib.Core.Path.{◌∙◌}
 use native.Mathlib.Omega.{arith}
 use Rattle.wire.proofs.Laws.Puts.{puts_join, puts_byte, puts_length}
-use borrow.Author.Rules.{rules}
 use Rattle.link_messages.proofs.puts.put_message.Goals as goal
 
 pub put_if-e-requires : goal.put_if-e-requires

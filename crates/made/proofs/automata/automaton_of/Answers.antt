@@ -1,6 +1,5 @@
 -- The automaton is made of its fields.
 use Rattle.made.specs.Parts.{automaton_of}
-use borrow.Author.Rules.{rules}
 use Rattle.made.proofs.automata.automaton_of.Goals as goal
 
 pub returns : goal.returns

@@ -1,6 +1,5 @@
 -- A transition is made of its fields.
 use Rattle.made.specs.Values.{move_at}
-use borrow.Author.Rules.{rules}
 use Rattle.made.proofs.automata.move_at.Goals as goal
 
 pub returns : goal.returns

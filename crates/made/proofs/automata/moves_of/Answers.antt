@@ -1,11 +1,10 @@
 use mathlib.Core.List.{[]}
-use mathlib.Core.Path.{◌≡◌}
 use native.Mathlib.Omega.{arith}
-use Prim.Native.Nat.{◌+◌, ◌*◌, ◌-◌, ◌≤◌}
+use Prim.Native.Nat.{◌-◌}
 use lib.ListN.{length, length-set}
 use Rattle.made.specs.Layout.{move_size, moves_from}
 use Rattle.made.specs.Values.{move_at}
-use Rattle.made.proofs.Filled.{Fills, fills_none, fills_more, fills_all}
+use Rattle.made.proofs.Filled.{fills_none, fills_more, fills_all}
 use borrow.Author.Rules.{rules}
 use Rattle.made.proofs.automata.moves_of.Goals as goal
 

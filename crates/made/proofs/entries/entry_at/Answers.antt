@@ -1,6 +1,5 @@
 -- A place of the window is made of its fields.
 use Rattle.made.specs.Values.{entry_at}
-use borrow.Author.Rules.{rules}
 use Rattle.made.proofs.entries.entry_at.Goals as goal
 
 pub returns : goal.returns

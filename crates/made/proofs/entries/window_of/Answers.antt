@@ -1,12 +1,11 @@
 use mathlib.Core.List.{[]}
 use Rattle.made.specs.Parts.{window_of}
-use mathlib.Core.Path.{◌≡◌}
 use native.Mathlib.Omega.{arith}
-use Prim.Native.Nat.{◌+◌, ◌*◌, ◌-◌, ◌≤◌}
+use Prim.Native.Nat.{◌-◌}
 use lib.ListN.{length, length-set}
 use Rattle.made.specs.Layout.{entry_size, window_from}
 use Rattle.made.specs.Values.{entry_at}
-use Rattle.made.proofs.Filled.{Fills, fills_none, fills_more, fills_all}
+use Rattle.made.proofs.Filled.{fills_none, fills_more, fills_all}
 use borrow.Author.Rules.{rules}
 use Rattle.made.proofs.entries.window_of.Goals as goal
 

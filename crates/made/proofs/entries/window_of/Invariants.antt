@@ -1,14 +1,10 @@
 -- The loop over the places. Its invariant: the first i stand in the array, and the next begins at `off`.
-use mathlib.Core.List.{[]}
-use Rattle.made.specs.Parts.{window_of}
 use mathlib.Core.Path.{◌≡◌}
-use native.Mathlib.Omega.{arith}
 use Prim.Native.Nat.{◌+◌, ◌*◌, ◌-◌, ◌≤◌}
-use lib.ListN.{length, length-set}
+use lib.ListN.{length}
 use Rattle.made.specs.Layout.{entry_size, window_from}
 use Rattle.made.specs.Values.{entry_at}
-use Rattle.made.proofs.Filled.{Fills, fills_none, fills_more, fills_all}
-use borrow.Author.Rules.{rules}
+use Rattle.made.proofs.Filled.{Fills}
 use Rattle.made.proofs.entries.window_of.Given as goal
 
 abbrev pub invariant-loop-i : goal.invariant-loop-i

@@ -1,6 +1,5 @@
 -- An instance is made of its fields.
 use Rattle.made.specs.Values.{instance_at}
-use borrow.Author.Rules.{rules}
 use Rattle.made.proofs.moments.instance_at.Goals as goal
 
 pub returns : goal.returns

@@ -1,6 +1,5 @@
 -- The progress is made of its fields.
 use Rattle.made.specs.Parts.{progress_of}
-use borrow.Author.Rules.{rules}
 use Rattle.made.proofs.moments.progress_of.Goals as goal
 
 pub returns : goal.returns

@@ -1,6 +1,5 @@
 -- A node is made of its fields.
 use Rattle.made.specs.Values.{node_at}
-use borrow.Author.Rules.{rules}
 use Rattle.made.proofs.nodes.node_at.Goals as goal
 
 pub returns : goal.returns

@@ -1,13 +1,10 @@
 -- The loop over the nodes. Its invariant: the first i stand in the array, and the next begins at `off`.
-use mathlib.Core.List.{[]}
 use mathlib.Core.Path.{◌≡◌}
-use native.Mathlib.Omega.{arith}
 use Prim.Native.Nat.{◌+◌, ◌*◌, ◌-◌, ◌≤◌}
-use lib.ListN.{length, length-set}
+use lib.ListN.{length}
 use Rattle.made.specs.Layout.{node_size, nodes_from}
 use Rattle.made.specs.Values.{node_at}
-use Rattle.made.proofs.Filled.{Fills, fills_none, fills_more, fills_all}
-use borrow.Author.Rules.{rules}
+use Rattle.made.proofs.Filled.{Fills}
 use Rattle.made.proofs.nodes.nodes_of.Given as goal
 
 abbrev pub invariant-loop-i : goal.invariant-loop-i

@@ -1,12 +1,9 @@
 -- The loop over the bytes. Its invariant: the first i stand in the part, and the next stands at `off`.
-use mathlib.Core.List.{[]}
 use mathlib.Core.Path.{◌≡◌}
-use native.Mathlib.Omega.{arith}
 use Prim.Native.Nat.{◌+◌, ◌*◌, ◌-◌, ◌≤◌}
-use lib.ListN.{length, length-set}
+use lib.ListN.{length}
 use Rattle.made.specs.Values.{byte_at}
-use Rattle.made.proofs.Filled.{Fills, fills_none, fills_more, fills_all}
-use borrow.Author.Rules.{rules}
+use Rattle.made.proofs.Filled.{Fills}
 use Rattle.made.proofs.numbers.fill.Given as goal
 
 abbrev pub invariant-loop-i : goal.invariant-loop-i

@@ -1,7 +1,6 @@
 -- A number of four bytes is made of two numbers of two.
 use native.Mathlib.Omega.{arith}
 use Rattle.wire.proofs.Laws.Fields.{little_four}
-use borrow.Author.Rules.{rules}
 use Rattle.made.proofs.numbers.four.Goals as goal
 
 pub returns : goal.returns

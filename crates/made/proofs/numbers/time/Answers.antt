@@ -1,7 +1,6 @@
 -- A time is a number of eight bytes.
 use mathlib.Core.Path.{ap}
 use Prim.Native.Nat.{ℕ}
-use borrow.Author.Rules.{rules}
 use Rattle.made.proofs.numbers.time.Goals as goal
 
 pub returns : goal.returns

@@ -1,6 +1,5 @@
 -- The plan is made of its fields.
 use Rattle.made.specs.Parts.{plan_of}
-use borrow.Author.Rules.{rules}
 use Rattle.made.proofs.plans.plan_of.Goals as goal
 
 pub returns : goal.returns

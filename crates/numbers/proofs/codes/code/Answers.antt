@@ -1,6 +1,5 @@
 use native.Mathlib.Omega.{arith}
 use Rattle.numbers.specs.Codes.{code_of}
-use borrow.Author.Rules.{rules}
 use Rattle.numbers.proofs.codes.code.Goals as goal
 
 pub overflow_mul-result : goal.overflow_mul-result

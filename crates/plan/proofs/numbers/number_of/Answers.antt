@@ -1,5 +1,4 @@
 -- `number_of` meets its contract, fault by fault. Assumes nothing.
-use borrow.Author.Rules.{rules}
 use Rattle.plan.proofs.numbers.number_of.Goals as goal
 
 pub returns-in-Ends : goal.returns-in-Ends

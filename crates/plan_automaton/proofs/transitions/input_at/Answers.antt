@@ -2,7 +2,6 @@
 use borrow.Author.Tests.{eq-eqb, ne_eqb}
 use Rattle.plan.specs.Moves.{input_at}
 use Rattle.wire.proofs.Laws.Maps.{bit_zero}
-use borrow.Author.Rules.{rules}
 use Rattle.plan_automaton.proofs.transitions.input_at.Goals as goal
 
 pub returns-then-m-eq1 : goal.returns-then-m-eq1

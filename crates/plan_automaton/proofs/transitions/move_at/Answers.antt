@@ -1,6 +1,5 @@
 -- A transition: its map, and what follows.
 use Rattle.plan.specs.Moves.{move_at}
-use borrow.Author.Rules.{rules}
 use Rattle.plan_automaton.proofs.transitions.move_at.Goals as goal
 
 pub returns-in-Refused : goal.returns-in-Refused

@@ -1,6 +1,5 @@
 -- A transition's states, and what follows.
 use Rattle.plan.specs.Moves.{move_from}
-use borrow.Author.Rules.{rules}
 use Rattle.plan_automaton.proofs.transitions.move_from.Goals as goal
 
 pub returns-in-Refused : goal.returns-in-Refused

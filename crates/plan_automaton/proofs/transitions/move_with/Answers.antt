@@ -1,6 +1,5 @@
 -- A transition's input and output.
 use Rattle.plan.specs.Moves.{move_with}
-use borrow.Author.Rules.{rules}
 use Rattle.plan_automaton.proofs.transitions.move_with.Goals as goal
 
 pub returns-in-Refused : goal.returns-in-Refused

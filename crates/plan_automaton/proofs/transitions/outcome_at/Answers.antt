@@ -2,7 +2,6 @@
 use native.Mathlib.Omega.{arith}
 use mathlib.Core.Path.{sym, ◌∙◌}
 use Rattle.plan_fields.proofs.Laws.Read.{byte_most}
-use borrow.Author.Rules.{rules}
 use Rattle.plan_automaton.proofs.transitions.outcome_at.Goals as goal
 
 pub bounds-outcomes-w : goal.bounds-outcomes-w

@@ -1,7 +1,6 @@
 -- An output is present iff bit 1 stands.
 use borrow.Author.Tests.{eq-eqb, ne_eqb}
 use Rattle.plan.specs.Moves.{output_at}
-use borrow.Author.Rules.{rules}
 use Rattle.plan_automaton.proofs.transitions.output_at.Goals as goal
 
 pub returns-in-Refused : goal.returns-in-Refused

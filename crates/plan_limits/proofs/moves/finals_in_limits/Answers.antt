@@ -3,7 +3,6 @@ use mathlib.Core.Path.{◌≡◌, sym}
 use Prim.Native.Nat.{◌^◌}
 use native.Mathlib.Omega.{arith}
 use borrow.Author.Tests.{lt-ltb}
-use borrow.Author.Rules.{rules}
 use lib.Pow.{pow_pos}
 use Rattle.plan_limits.proofs.Laws.Shift.{quotient_zero}
 use Rattle.plan_limits.proofs.moves.finals_in_limits.Goals as goal

@@ -1,6 +1,5 @@
 -- `moves::input_names` is what it is defined to be. Assumes nothing.
 use borrow.Author.Tests.{lt-ltb, le-ltb}
-use borrow.Author.Rules.{rules}
 use Rattle.plan_limits.proofs.moves.input_names.Goals as goal
 
 pub returns-then-e-events : goal.returns-then-e-events

@@ -1,7 +1,6 @@
 -- `moves::move_in_limits` is what it is defined to be. Assumes nothing.
 use mathlib.Core.Path.{sym, ◌∙◌}
 use borrow.Author.Tests.{lt-ltb, le-ltb, not-true, not-false}
-use borrow.Author.Rules.{rules}
 use Rattle.plan_limits.specs.Limits.{move_in_limits}
 use mathlib.Core.Path.{ap}
 use mathlib.Core.Bool.{not}

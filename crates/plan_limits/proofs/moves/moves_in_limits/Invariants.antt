@@ -1,14 +1,10 @@
 -- `moves::moves_in_limits` is what it is defined to be. The loop's invariant: what is passed changes nothing.
 -- Assumes nothing.
-use mathlib.Core.Path.{◌≡◌, sym, ◌∙◌}
+use mathlib.Core.Path.{◌≡◌}
 use Prim.Native.Nat.{◌≤◌}
-use native.Mathlib.Omega.{arith}
-use borrow.Author.Tests.{not-true, not-false}
-use borrow.Author.Rules.{rules}
 use lib.ListN.{get_or}
 use Rattle.basis.specs.Tests.{every}
-use Rattle.plan_limits.proofs.Laws.Every.{every_on, every_off, every_end}
-use Rattle.plan_limits.specs.Limits.{move_in_limits, moves_in_limits}
+use Rattle.plan_limits.specs.Limits.{move_in_limits}
 use Rattle.plan.specs.Plan.{past_move}
 use Rattle.plan_limits.proofs.moves.moves_in_limits.Given as goal
 

@@ -1,5 +1,4 @@
 -- `moves::output_names` is what it is defined to be. Assumes nothing.
-use borrow.Author.Rules.{rules}
 use Rattle.plan_limits.proofs.moves.output_names.Goals as goal
 
 pub returns-in-Activity : goal.returns-in-Activity

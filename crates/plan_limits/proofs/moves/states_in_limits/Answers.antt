@@ -1,6 +1,5 @@
 -- `moves::states_in_limits` is what it is defined to be. Assumes nothing.
 use borrow.Author.Tests.{le-leb, lt-leb, lt-ltb, le-ltb}
-use borrow.Author.Rules.{rules}
 use Rattle.plan_limits.proofs.moves.states_in_limits.Goals as goal
 
 pub returns-then-states-lt1 : goal.returns-then-states-lt1

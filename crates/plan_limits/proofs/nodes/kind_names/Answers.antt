@@ -1,5 +1,4 @@
 -- `nodes::kind_names` is what it is defined to be. Assumes nothing.
-use borrow.Author.Rules.{rules}
 use Rattle.plan_limits.proofs.nodes.kind_names.Goals as goal
 
 pub returns-in-Action : goal.returns-in-Action

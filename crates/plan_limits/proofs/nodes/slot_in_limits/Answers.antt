@@ -1,6 +1,5 @@
 -- `nodes::slot_in_limits` is what it is defined to be. Assumes nothing.
 use borrow.Author.Tests.{le-leb, lt-leb}
-use borrow.Author.Rules.{rules}
 use Rattle.plan_limits.specs.Limits.{slot_in_limits}
 use Rattle.plan_limits.proofs.nodes.slot_in_limits.Goals as goal
 

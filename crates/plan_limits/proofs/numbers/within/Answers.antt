@@ -1,12 +1,10 @@
-use mathlib.Core.Path.{◌≡◌, sym}
-use Prim.Native.Nat.{◌≤◌}
+use mathlib.Core.Path.{sym}
 use native.Mathlib.Omega.{arith}
 use borrow.Author.Tests.{le-leb, lt-leb, lt-ltb, le-ltb}
 use lib.ListN.{get_or}
 use Rattle.basis.specs.Tests.{every}
 use Rattle.plan_limits.specs.Limits.{is_within, within}
 use Rattle.plan_limits.proofs.Laws.Every.{every_on, every_off, every_end}
-use borrow.Author.Rules.{rules}
 use Rattle.plan_limits.proofs.numbers.within.Goals as goal
 
 pub returns-then-numbers-i : goal.returns-then-numbers-i

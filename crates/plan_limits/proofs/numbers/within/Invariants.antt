@@ -1,14 +1,10 @@
 -- `numbers::within` is what it is defined to be. The loop's invariant: the numbers that are passed change nothing.
 -- Assumes nothing.
-use mathlib.Core.Path.{◌≡◌, sym}
+use mathlib.Core.Path.{◌≡◌}
 use Prim.Native.Nat.{◌≤◌}
-use native.Mathlib.Omega.{arith}
-use borrow.Author.Tests.{le-leb, lt-leb, lt-ltb, le-ltb}
 use lib.ListN.{get_or}
 use Rattle.basis.specs.Tests.{every}
 use Rattle.plan_limits.specs.Limits.{is_within, within}
-use Rattle.plan_limits.proofs.Laws.Every.{every_on, every_off, every_end}
-use borrow.Author.Rules.{rules}
 use Rattle.plan_limits.proofs.numbers.within.Given as goal
 
 abbrev pub invariant-loop-left : goal.invariant-loop-left

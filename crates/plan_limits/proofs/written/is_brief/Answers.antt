@@ -1,5 +1,4 @@
 -- `written::is_brief` is what it is defined to be. Assumes nothing.
-use borrow.Author.Rules.{rules}
 use Rattle.plan_limits.proofs.written.is_brief.Goals as goal
 
 pub returns-in-Action : goal.returns-in-Action

@@ -1,15 +1,10 @@
 -- `written::is_rising` is what it is defined to be. The loop's invariant: what is passed changes nothing.
 -- Assumes nothing.
-use mathlib.Core.Path.{◌≡◌, sym}
+use mathlib.Core.Path.{◌≡◌}
 use Prim.Native.Nat.{◌≤◌, ◌+◌, ◌-◌}
-use native.Mathlib.Omega.{arith}
-use borrow.Author.Tests.{lt-ltb, le-ltb}
-use borrow.Author.Rules.{rules}
-use lib.ListN.{get_or, length, get_or-eq_default}
+use lib.ListN.{get_or}
 use lib.Dec.{ltb}
 use Rattle.basis.specs.Tests.{every}
-use Rattle.plan_limits.proofs.Laws.Every.{every_on, every_off, every_end, every_not}
-use Rattle.plan_limits.specs.Limits.{is_rising}
 use Rattle.plan_limits.proofs.written.is_rising.Given as goal
 
 abbrev pub invariant-loop-left : goal.invariant-loop-left

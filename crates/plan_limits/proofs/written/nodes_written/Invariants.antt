@@ -1,14 +1,10 @@
 -- `written::nodes_written` is what it is defined to be. The loop's invariant: what is passed changes nothing.
 -- Assumes nothing.
-use mathlib.Core.Path.{◌≡◌, sym, ◌∙◌}
+use mathlib.Core.Path.{◌≡◌}
 use Prim.Native.Nat.{◌≤◌, ◌*◌, ◌/◌, ◌%◌}
-use native.Mathlib.Omega.{arith}
-use borrow.Author.Tests.{not-true, not-false}
-use borrow.Author.Rules.{rules}
 use lib.ListN.{get_or}
 use Rattle.basis.specs.Tests.{every}
-use Rattle.plan_limits.proofs.Laws.Every.{every_on, every_off, every_end}
-use Rattle.plan_limits.specs.Limits.{slot_written, nodes_written}
+use Rattle.plan_limits.specs.Limits.{slot_written}
 use Rattle.plan.specs.Plan.{past_node}
 use Rattle.plan_limits.proofs.written.nodes_written.Given as goal
 

@@ -1,7 +1,6 @@
 -- `written::slot_written` is what it is defined to be. Assumes nothing.
 use mathlib.Core.Path.{sym, ◌∙◌}
 use borrow.Author.Tests.{le-leb, lt-leb, not-true, not-false}
-use borrow.Author.Rules.{rules}
 use Rattle.plan_limits.specs.Limits.{slot_written}
 use mathlib.Core.Path.{ap}
 use mathlib.Core.Bool.{not}

@@ -1,6 +1,5 @@
 -- The node count of an activity, by its answers.
 use Rattle.plan_sections.specs.Inner.Parts.{count_part}
-use borrow.Author.Rules.{rules}
 use Rattle.plan_sections.proofs.parts.count_part.Goals as goal
 
 pub returns-in-Refused : goal.returns-in-Refused

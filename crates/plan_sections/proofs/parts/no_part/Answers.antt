@@ -1,5 +1,4 @@
 -- A refused part is all zeros.
-use borrow.Author.Rules.{rules}
 use Rattle.plan_sections.proofs.parts.no_part.Goals as goal
 
 pub returns : goal.returns

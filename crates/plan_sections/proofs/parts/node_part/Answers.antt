@@ -1,6 +1,5 @@
 -- A node, by its answers.
 use Rattle.plan_sections.specs.Inner.Parts.{node_part}
-use borrow.Author.Rules.{rules}
 use Rattle.plan_sections.proofs.parts.node_part.Goals as goal
 
 pub returns-in-Refused : goal.returns-in-Refused

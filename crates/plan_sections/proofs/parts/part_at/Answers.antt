@@ -3,7 +3,6 @@ use native.Mathlib.Omega.{arith}
 use mathlib.Core.Path.{◌≡◌}
 use Prim.Native.Nat.{suc, ◌-◌}
 use Rattle.plan_sections.specs.Inner.Parts.{part_at}
-use borrow.Author.Rules.{rules}
 use Rattle.plan_sections.proofs.parts.part_at.Goals as goal
 
 pub returns-then-left-gt0 : goal.returns-then-left-gt0

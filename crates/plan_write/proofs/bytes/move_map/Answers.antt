@@ -2,7 +2,6 @@
 use native.Mathlib.Omega.{arith}
 use Rattle.plan_write.proofs.Laws.Sums.{move_sum}
 use Rattle.plan_file.specs.PlanFile.{move_map, input_bit, output_bit}
-use borrow.Author.Rules.{rules}
 use Rattle.plan_write.proofs.bytes.move_map.Goals as goal
 
 pub returns : goal.returns

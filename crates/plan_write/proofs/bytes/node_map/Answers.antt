@@ -6,7 +6,6 @@ use Rattle.wire.specs.Number.{present}
 use Rattle.plan_write.specs.Inner.Bits.{digit}
 use Rattle.plan_write.proofs.Laws.Sums.{node_sum}
 use Rattle.plan_file.specs.PlanFile.{node_map}
-use borrow.Author.Rules.{rules}
 use Rattle.plan_write.proofs.bytes.node_map.Goals as goal
 
 pub returns : goal.returns

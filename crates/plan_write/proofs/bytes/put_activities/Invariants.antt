@@ -1,16 +1,11 @@
 -- The loop over activities and nodes: what is left is put after what was put.
-use native.Mathlib.Omega.{arith}
-use mathlib.Core.Path.{◌≡◌, refl, ◌∙◌}
+use mathlib.Core.Path.{◌≡◌}
 use Prim.Native.Nat.{ℕ, ◌+◌, ◌*◌, ◌-◌, ◌≤◌, ◌<◌}
-use Rattle.wire.proofs.Laws.Puts.{puts_byte}
-use Rattle.plan_write.proofs.Laws.Left.{Left, left_begin, left_next, left_done, to_put, node_turn, activity_turn, activity_end, few_here, few_next}
+use Rattle.plan_write.proofs.Laws.Left.{Left, to_put}
 use lib.ListN.{length, get_or}
-use native.Mathlib.Nat.{sub-zero}
 use Rattle.plan.specs.Plan.{past_node}
 use Rattle.plan.specs.Limits.{InLimits}
 use Rattle.plan_write.specs.Inner.Bytes.{activity_bytes}
-use Rattle.plan_write.proofs.Laws.Printed.{node_length}
-use borrow.Author.Rules.{rules}
 use Rattle.plan_write.proofs.bytes.put_activities.Given as goal
 
 abbrev pub invariant-loop-left : goal.invariant-loop-left

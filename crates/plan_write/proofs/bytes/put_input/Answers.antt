@@ -2,7 +2,6 @@
 use native.Mathlib.Omega.{arith}
 use Rattle.wire.proofs.Laws.Puts.{puts_none, puts_join, puts_byte}
 use Rattle.plan_write.specs.Inner.Bytes.{input_bytes}
-use borrow.Author.Rules.{rules}
 use Rattle.plan_write.proofs.bytes.put_input.Goals as goal
 
 pub returns-in-Nothing : goal.returns-in-Nothing

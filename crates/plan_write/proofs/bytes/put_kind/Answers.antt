@@ -2,7 +2,6 @@
 use native.Mathlib.Omega.{arith}
 use Rattle.wire.proofs.Laws.Puts.{puts_join, puts_byte}
 use Rattle.plan_write.specs.Inner.Bytes.{kind_bytes}
-use borrow.Author.Rules.{rules}
 use Rattle.plan_write.proofs.bytes.put_kind.Goals as goal
 
 pub returns-in-Action : goal.returns-in-Action

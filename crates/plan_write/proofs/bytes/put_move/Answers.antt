@@ -6,7 +6,6 @@ use Rattle.plan_write.proofs.Laws.Printed.{move_print, input_length}
 use Rattle.wire.specs.Number.{bytes_of}
 use Rattle.wire.proofs.Laws.Puts.{puts_join, puts_byte}
 use Rattle.plan_write.proofs.Laws.Left.{puts_as}
-use borrow.Author.Rules.{rules}
 use Rattle.plan_write.proofs.bytes.put_move.Goals as goal
 
 pub put_output-requires : goal.put_output-requires

@@ -1,16 +1,12 @@
 -- The loop over the transitions: what is left is put after what was put.
-use native.Mathlib.Omega.{arith}
-use mathlib.Core.Path.{◌≡◌, refl, ◌∙◌}
+use mathlib.Core.Path.{◌≡◌}
 use Prim.Native.Nat.{◌+◌, ◌*◌, ◌-◌, ◌≤◌, ◌<◌}
-use Rattle.plan_write.proofs.Laws.Left.{Left, left_begin, left_next, left_done, moves_turn, moves_end}
-use lib.ListN.{length, get_or}
-use native.Mathlib.Nat.{sub-zero}
+use Rattle.plan_write.proofs.Laws.Left.{Left}
+use lib.ListN.{length}
 use Rattle.basis.specs.Parts.{part}
 use Rattle.plan.specs.Plan.{past_move, moves_of}
 use Rattle.format.specs.Inner.Flat.{flat}
 use Rattle.plan_write.specs.Inner.Bytes.{move_bytes}
-use Rattle.plan_write.proofs.Laws.Printed.{move_length}
-use borrow.Author.Rules.{rules}
 use Rattle.plan_write.proofs.bytes.put_moves.Given as goal
 
 abbrev pub invariant-loop-i : goal.invariant-loop-i

@@ -2,7 +2,6 @@
 use native.Mathlib.Omega.{arith}
 use Rattle.wire.proofs.Laws.Puts.{puts_join}
 use Rattle.plan_write.proofs.Laws.Printed.{plan_print}
-use borrow.Author.Rules.{rules}
 use Rattle.plan_write.proofs.bytes.put_plan.Goals as goal
 
 pub put_activities-b-requires : goal.put_activities-b-requires

@@ -6,7 +6,6 @@ use Rattle.wire.proofs.Laws.Fields.{length_optional}
 use Rattle.wire.proofs.Laws.Puts.{puts_join, puts_byte}
 use Rattle.plan_file.specs.PlanFile.{section_map}
 use Rattle.plan_write.proofs.Laws.Left.{puts_as}
-use borrow.Author.Rules.{rules}
 use Rattle.plan_write.proofs.bytes.put_sections.Goals as goal
 
 pub put_named-c-requires : goal.put_named-c-requires

@@ -5,7 +5,6 @@ use Prim.Native.Nat.{ℕ}
 use Rattle.wire.specs.Number.{present}
 use Rattle.plan_write.specs.Inner.Bits.{digit}
 use Rattle.plan_write.proofs.Laws.Sums.{section_sum}
-use borrow.Author.Rules.{rules}
 use Rattle.plan_write.proofs.bytes.section_map.Goals as goal
 
 pub returns : goal.returns

@@ -1,6 +1,5 @@
 -- `ask` is a call.
 use Rattle.run.specs.Calls.{call_of}
-use borrow.Author.Rules.{rules}
 use Rattle.run.proofs.Run.ask.Goals as goal
 
 pub returns : goal.returns

@@ -10,7 +10,6 @@ use Rattle.run.specs.Calls.{call_of}
 use Rattle.run.specs.Inner.Effects.{acted, Named}
 use Rattle.run.proofs.Laws.Acting.{call_acted, call_named, rests_acted, stores_acted}
 use Rattle.run.proofs.Laws.Loaded.{storing, answer_by, learnt_parts}
-use borrow.Author.Rules.{rules}
 use Rattle.run.proofs.Run.call.Goals as goal
 
 pub returns-in-Stays : goal.returns-in-Stays

@@ -1,6 +1,5 @@
 -- `completion` is a call.
 use Rattle.run.specs.Calls.{call_of}
-use borrow.Author.Rules.{rules}
 use Rattle.run.proofs.Run.completion.Goals as goal
 
 pub returns : goal.returns

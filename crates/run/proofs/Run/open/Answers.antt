@@ -2,7 +2,6 @@
 use mathlib.Core.Path.{sym, ◌∙◌}
 use native.Mathlib.Omega.{arith}
 use Rattle.run.proofs.Opens.{judged_limits, opens_plan, refuses_plan}
-use borrow.Author.Rules.{rules}
 use Rattle.run.proofs.Run.open.Goals as goal
 
 pub returns-in-Refused : goal.returns-in-Refused

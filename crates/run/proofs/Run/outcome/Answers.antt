@@ -1,6 +1,5 @@
 -- `outcome` is a call.
 use Rattle.run.specs.Calls.{call_of}
-use borrow.Author.Rules.{rules}
 use Rattle.run.proofs.Run.outcome.Goals as goal
 
 pub returns : goal.returns

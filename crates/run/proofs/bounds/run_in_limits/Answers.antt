@@ -3,7 +3,6 @@ use mathlib.Core.Path.{sym, ◌∙◌}
 use borrow.Author.Tests.{not-true, not-false, le-leb, lt-leb}
 use Rattle.run.specs.Limits.{run_in_limits}
 use Rattle.run.specs.Inner.Checks.{stored_in_limits}
-use borrow.Author.Rules.{rules}
 use mathlib.Core.Path.{ap}
 use mathlib.Core.Bool.{not}
 use Rattle.run.proofs.bounds.run_in_limits.Goals as goal

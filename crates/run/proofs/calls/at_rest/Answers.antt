@@ -1,7 +1,6 @@
 -- `at_rest` answers done or wait.
 use mathlib.Core.Path.{sym, ◌∙◌}
 use native.Mathlib.Omega.{arith}
-use borrow.Author.Rules.{rules}
 use Rattle.run.proofs.calls.at_rest.Goals as goal
 
 pub is_final-requires : goal.is_final-requires

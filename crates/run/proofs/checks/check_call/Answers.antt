@@ -7,7 +7,6 @@ use Rattle.basis.proofs.Laws.Lists.{unmapped}
 use Rattle.run.specs.Inner.Checks.{check_of}
 use Rattle.run.proofs.Laws.Checking.{timed}
 use Rattle.run.proofs.Laws.Acting.{place_below}
-use borrow.Author.Rules.{rules}
 use Rattle.run.proofs.checks.check_call.Goals as goal
 
 pub run_in_limits-limits-requires : goal.run_in_limits-limits-requires

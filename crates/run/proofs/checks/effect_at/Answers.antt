@@ -5,7 +5,6 @@ use Rattle.run_window.specs.declared.Sought.{Sought}
 use Rattle.run.specs.declared.Checked.{Checked}
 use Rattle.run.specs.Inner.Effects.{checked_of, effect_of}
 use Rattle.run.proofs.Laws.Acting.{sought_timely}
-use borrow.Author.Rules.{rules}
 use Rattle.run.proofs.checks.effect_at.Goals as goal
 
 pub check_call-checked-requires : goal.check_call-checked-requires

@@ -1,5 +1,4 @@
 -- `completes` clears the place of an action, and refuses the others.
-use borrow.Author.Rules.{rules}
 use Rattle.run.proofs.effects.completes.Goals as goal
 
 pub returns-in-Action : goal.returns-in-Action

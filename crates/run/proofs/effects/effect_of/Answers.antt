@@ -1,5 +1,4 @@
 -- `effect_of` goes by what the checks say.
-use borrow.Author.Rules.{rules}
 use Rattle.run.proofs.effects.effect_of.Goals as goal
 
 pub returns-in-Goes : goal.returns-in-Goes

@@ -4,7 +4,6 @@ use borrow.Author.Tests.{eq-eqb, ne_eqb}
 use Rattle.run_window.specs.declared.Entry.{Entry}
 use Rattle.run.specs.declared.Reply.{Reply}
 use Rattle.run.specs.declared.Effect.{Effect}
-use borrow.Author.Rules.{rules}
 use Rattle.run.proofs.effects.hears.Goals as goal
 
 pub returns-then-most-eq1 : goal.returns-then-most-eq1

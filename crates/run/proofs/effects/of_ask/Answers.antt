@@ -1,5 +1,4 @@
 -- `of_ask` starts the node that was found.
-use borrow.Author.Rules.{rules}
 use Rattle.run.proofs.effects.of_ask.Goals as goal
 
 pub returns-in-At : goal.returns-in-At

@@ -4,7 +4,6 @@ use Rattle.run_checks.specs.declared.Report.{Report}
 use Rattle.run_checks.specs.Inner.Report.{on_report}
 use Rattle.run_checks.proofs.Laws.Checks.{reported_said}
 use Rattle.run.specs.Inner.Effects.{refusing, completes_by, learns_as}
-use borrow.Author.Rules.{rules}
 use Rattle.run.proofs.effects.of_call.Goals as goal
 
 pub returns-in-Completion : goal.returns-in-Completion

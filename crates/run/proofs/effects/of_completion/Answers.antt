@@ -1,5 +1,4 @@
 -- `of_completion` goes by what the report names.
-use borrow.Author.Rules.{rules}
 use Rattle.run.proofs.effects.of_completion.Goals as goal
 
 pub returns-in-Refuses : goal.returns-in-Refuses

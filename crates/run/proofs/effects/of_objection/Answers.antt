@@ -1,5 +1,4 @@
 -- `of_objection` is what the checks object to.
-use borrow.Author.Rules.{rules}
 use Rattle.run.proofs.effects.of_objection.Goals as goal
 
 pub returns-in-Refuses : goal.returns-in-Refuses

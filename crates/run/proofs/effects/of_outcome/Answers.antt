@@ -1,5 +1,4 @@
 -- `of_outcome` goes by what the report names.
-use borrow.Author.Rules.{rules}
 use Rattle.run.proofs.effects.of_outcome.Goals as goal
 
 pub returns-in-Refuses : goal.returns-in-Refuses

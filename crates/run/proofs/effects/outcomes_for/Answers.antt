@@ -4,7 +4,6 @@ use native.Mathlib.Omega.{arith}
 use lib.ListN.{length}
 use Rattle.basis.proofs.Laws.Lists.{unmapped}
 use Rattle.run.proofs.Unlearnt.{no_outcomes, get_d_past}
-use borrow.Author.Rules.{rules}
 use borrow.Enum.Refused.{opened}
 use Rattle.run.proofs.effects.outcomes_for.Goals as goal
 

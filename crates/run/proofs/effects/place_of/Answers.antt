@@ -1,6 +1,5 @@
 -- `place_of` is where the node stands among those of the plan.
 use mathlib.Core.Path.{sym}
-use borrow.Author.Rules.{rules}
 use Rattle.run.proofs.effects.place_of.Goals as goal
 
 pub returns-in-At : goal.returns-in-At

@@ -1,5 +1,4 @@
 -- `sought_by` says what a call looks for.
-use borrow.Author.Rules.{rules}
 use Rattle.run.proofs.effects.sought_by.Goals as goal
 
 pub returns-in-Ask : goal.returns-in-Ask

@@ -1,5 +1,4 @@
 -- `halt_after` keeps a stop where loading failed.
-use borrow.Author.Rules.{rules}
 use Rattle.run.proofs.learning.halt_after.Goals as goal
 
 pub returns-in-Full : goal.returns-in-Full

@@ -1,5 +1,4 @@
 -- `load_after` clears the reported place and loads with the parts of the run.
-use borrow.Author.Rules.{rules}
 use mathlib.Core.Path.{◌∙◌, ap}
 use lib.ListN.{set}
 use Rattle.run_window.specs.declared.Entry.{Entry}

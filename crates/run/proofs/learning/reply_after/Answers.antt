@@ -1,5 +1,4 @@
 -- `reply_after` answers taken unless loading failed.
-use borrow.Author.Rules.{rules}
 use Rattle.run.proofs.learning.reply_after.Goals as goal
 
 pub returns-in-Full : goal.returns-in-Full

@@ -1,5 +1,4 @@
 -- `after_first` is what it is defined to be.
-use borrow.Author.Rules.{rules}
 use Rattle.run.proofs.openings.after_first.Goals as goal
 
 pub returns-in-None : goal.returns-in-None

@@ -14,7 +14,6 @@ use Rattle.run_opening.specs.Short.{short_from}
 use Rattle.run.specs.Opening.{fresh, unopened, begin}
 use Rattle.run.specs.Inner.Calls.{first_path}
 use Rattle.run.proofs.Opens.{first_loads, begins, none_short, one_short}
-use borrow.Author.Rules.{rules}
 use Rattle.run.proofs.openings.first_path.Goals as goal
 
 abbrev first : Plan → Clock → ℕ → List ℕ → Run

@@ -1,5 +1,4 @@
 -- `unopened` is what it is defined to be.
-use borrow.Author.Rules.{rules}
 use Rattle.run.proofs.openings.unopened.Goals as goal
 
 pub returns : goal.returns

@@ -1,5 +1,4 @@
 -- `zero_run` is what it is defined to be.
-use borrow.Author.Rules.{rules}
 use Rattle.run.proofs.openings.zero_run.Goals as goal
 
 pub returns : goal.returns

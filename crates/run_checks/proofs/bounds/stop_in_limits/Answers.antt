@@ -1,5 +1,4 @@
 -- `stop_in_limits` is what it is defined to be.
-use borrow.Author.Rules.{rules}
 use Rattle.run_checks.proofs.bounds.stop_in_limits.Goals as goal
 
 pub returns-in-Late : goal.returns-in-Late

@@ -1,12 +1,8 @@
 -- `places::window_in_limits` is what it is defined to be. The loop's invariant: what is passed changes nothing.
 -- Assumes nothing.
-use mathlib.Core.Path.{◌≡◌, sym, ◌∙◌}
+use mathlib.Core.Path.{◌≡◌}
 use Prim.Native.Nat.{◌≤◌, ◌-◌}
-use native.Mathlib.Omega.{arith}
-use borrow.Author.Tests.{not-true, not-false}
-use borrow.Author.Rules.{rules}
 use lib.ListN.{length, drop}
-use Rattle.run_limits.proofs.Laws.Places.{window_on, window_off, window_end}
 use Rattle.run_limits.specs.Window.{window_in_limits}
 use Rattle.run_limits.proofs.places.window_in_limits.Given as goal
 

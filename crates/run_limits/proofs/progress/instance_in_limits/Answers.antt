@@ -1,6 +1,5 @@
 -- `progress::instance_in_limits` is what it is defined to be. Assumes nothing.
 use borrow.Author.Tests.{le-leb, lt-leb, lt-ltb, le-ltb}
-use borrow.Author.Rules.{rules}
 use Rattle.run_limits.specs.Progress.{instance_in_limits}
 use Rattle.run_limits.proofs.progress.instance_in_limits.Goals as goal
 

@@ -1,14 +1,10 @@
 -- `progress::pending_in_limits` is what it is defined to be. The loop's invariant: what is passed changes nothing.
 -- Assumes nothing.
-use mathlib.Core.Path.{◌≡◌, sym, ◌∙◌}
+use mathlib.Core.Path.{◌≡◌}
 use Prim.Native.Nat.{◌≤◌, ◌*◌, ◌/◌, ◌%◌}
-use native.Mathlib.Omega.{arith}
-use borrow.Author.Tests.{not-true, not-false}
-use borrow.Author.Rules.{rules}
 use lib.ListN.{get_or}
 use Rattle.basis.specs.Tests.{every}
-use Rattle.plan_limits.proofs.Laws.Every.{every_on, every_off, every_end}
-use Rattle.run_limits.specs.Progress.{place_in_limits, pending_in_limits}
+use Rattle.run_limits.specs.Progress.{place_in_limits}
 use Rattle.times.specs.Queues.{no_instance}
 use Rattle.run_limits.proofs.progress.pending_in_limits.Given as goal
 

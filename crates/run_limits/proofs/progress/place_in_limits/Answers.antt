@@ -1,6 +1,5 @@
 -- `progress::place_in_limits` is what it is defined to be. Assumes nothing.
 use borrow.Author.Tests.{le-leb, lt-leb}
-use borrow.Author.Rules.{rules}
 use Rattle.run_limits.specs.Progress.{place_in_limits}
 use Rattle.run_limits.proofs.progress.place_in_limits.Goals as goal
 

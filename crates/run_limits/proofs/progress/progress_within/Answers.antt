@@ -1,6 +1,5 @@
 -- `progress_within` is what it is defined to be. Assumes nothing.
 use borrow.Author.Tests.{le-leb, lt-leb}
-use borrow.Author.Rules.{rules}
 use Rattle.run_limits.proofs.progress.progress_within.Goals as goal
 
 pub returns-then-resources-gt16 : goal.returns-then-resources-gt16

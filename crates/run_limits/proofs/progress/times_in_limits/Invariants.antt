@@ -1,14 +1,9 @@
 -- `progress::times_in_limits` is what it is defined to be. The loop's invariant: what is passed changes nothing.
 -- Assumes nothing.
-use mathlib.Core.Path.{◌≡◌, sym}
+use mathlib.Core.Path.{◌≡◌}
 use Prim.Native.Nat.{◌≤◌}
-use native.Mathlib.Omega.{arith}
-use borrow.Author.Tests.{le-leb, lt-leb}
-use borrow.Author.Rules.{rules}
 use lib.Dec.{leb}
 use Rattle.basis.specs.Tests.{every}
-use Rattle.plan_limits.proofs.Laws.Every.{every_on, every_off, every_end}
-use Rattle.run_limits.specs.Progress.{times_in_limits}
 use Rattle.times.specs.Times.{at}
 use Rattle.time.specs.Time.{horizon}
 use Rattle.run_limits.proofs.progress.times_in_limits.Given as goal

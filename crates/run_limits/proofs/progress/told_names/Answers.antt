@@ -1,5 +1,4 @@
 -- `progress::told_names` is what it is defined to be. Assumes nothing.
-use borrow.Author.Rules.{rules}
 use Rattle.run_limits.proofs.progress.told_names.Goals as goal
 
 pub returns-in-Outcome : goal.returns-in-Outcome

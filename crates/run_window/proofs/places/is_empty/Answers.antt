@@ -1,11 +1,9 @@
 use mathlib.Core.Path.{◌≡◌}
-use Prim.Native.Nat.{◌≤◌, ◌-◌}
+use Prim.Native.Nat.{◌-◌}
 use native.Mathlib.Omega.{arith}
-use lib.ListN.{length, drop}
-use Rattle.run_window.specs.Window.{is_empty}
+use lib.ListN.{length}
 use Rattle.basis.proofs.Laws.Lists.{unmapped}
 use Rattle.run_window.proofs.Laws.Scans.{empty_past, empty_not, empty_all}
-use borrow.Author.Rules.{rules}
 use Rattle.run_window.proofs.places.is_empty.Goals as goal
 
 pub loop-i-preserved : goal.loop-i-preserved

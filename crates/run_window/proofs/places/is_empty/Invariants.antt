@@ -1,12 +1,8 @@
 -- `is_empty` tells whether every place is free: the whole window is empty exactly where the rest is.
 use mathlib.Core.Path.{◌≡◌}
 use Prim.Native.Nat.{◌≤◌, ◌-◌}
-use native.Mathlib.Omega.{arith}
-use lib.ListN.{length, drop}
+use lib.ListN.{drop}
 use Rattle.run_window.specs.Window.{is_empty}
-use Rattle.basis.proofs.Laws.Lists.{unmapped}
-use Rattle.run_window.proofs.Laws.Scans.{empty_past, empty_not, empty_all}
-use borrow.Author.Rules.{rules}
 use Rattle.run_window.proofs.places.is_empty.Given as goal
 
 abbrev pub invariant-loop-i : goal.invariant-loop-i

@@ -1,11 +1,10 @@
 use mathlib.Core.Path.{◌≡◌, sym}
-use Prim.Native.Nat.{◌≤◌, ◌-◌}
+use Prim.Native.Nat.{◌-◌}
 use native.Mathlib.Nat.{zero-add}
 use native.Mathlib.Omega.{arith}
 use lib.ListN.{length}
 use Rattle.basis.proofs.Laws.Lists.{unmapped}
-use Rattle.run_window.proofs.Laws.Scans.{FromOn, where_past, where_here, where_nowhere}
-use borrow.Author.Rules.{rules}
+use Rattle.run_window.proofs.Laws.Scans.{where_past, where_here, where_nowhere}
 use Rattle.run_window.proofs.places.place_of.Goals as goal
 
 pub loop-lowest-init : goal.loop-lowest-init

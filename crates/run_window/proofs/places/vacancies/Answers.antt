@@ -1,11 +1,9 @@
 use mathlib.Core.Path.{◌≡◌, ◌∙◌}
-use Prim.Native.Nat.{◌+◌, ◌≤◌}
 use native.Mathlib.Omega.{arith}
-use lib.ListN.{length, drop}
+use lib.ListN.{length}
 use Rattle.run_window.specs.Window.{vacancies}
 use Rattle.basis.proofs.Laws.Lists.{unmapped}
 use Rattle.run_window.proofs.Laws.Scans.{vacancies_none, vacancies_here, vacancies_past}
-use borrow.Author.Rules.{rules}
 use Rattle.run_window.proofs.places.vacancies.Goals as goal
 
 pub loop-i-init : goal.loop-i-init

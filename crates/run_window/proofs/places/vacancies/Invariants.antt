@@ -1,12 +1,8 @@
 -- `vacancies` counts the free places: from the back, the count so far is that of the places passed.
-use mathlib.Core.Path.{◌≡◌, ◌∙◌}
+use mathlib.Core.Path.{◌≡◌}
 use Prim.Native.Nat.{◌+◌, ◌≤◌}
-use native.Mathlib.Omega.{arith}
-use lib.ListN.{length, drop}
+use lib.ListN.{drop}
 use Rattle.run_window.specs.Window.{vacancies}
-use Rattle.basis.proofs.Laws.Lists.{unmapped}
-use Rattle.run_window.proofs.Laws.Scans.{vacancies_none, vacancies_here, vacancies_past}
-use borrow.Author.Rules.{rules}
 use Rattle.run_window.proofs.places.vacancies.Given as goal
 
 abbrev pub invariant-loop-i : goal.invariant-loop-i

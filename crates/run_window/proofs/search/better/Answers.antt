@@ -1,6 +1,5 @@
 -- `better` keeps the entry at a place, unless what was found behind it goes before it.
 use mathlib.Core.Path.{sym, ◌∙◌}
-use borrow.Author.Rules.{rules}
 use Rattle.run_window.proofs.search.better.Goals as goal
 
 pub returns-then-goes_before : goal.returns-then-goes_before

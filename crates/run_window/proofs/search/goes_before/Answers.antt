@@ -1,5 +1,4 @@
 -- `goes_before` is the order of ties among what is sought.
-use borrow.Author.Rules.{rules}
 use Rattle.run_window.proofs.search.goes_before.Goals as goal
 
 pub returns-in-Overdue : goal.returns-in-Overdue

@@ -1,6 +1,5 @@
 -- `is_noticed` tells whether an entry is overdue, late, or what is sought.
 use mathlib.Core.Path.{sym, ◌∙◌}
-use borrow.Author.Rules.{rules}
 use Rattle.run_window.proofs.search.is_noticed.Goals as goal
 
 pub returns-then-is_overdue : goal.returns-then-is_overdue

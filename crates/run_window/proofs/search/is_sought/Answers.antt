@@ -1,7 +1,6 @@
 -- `is_sought` is the test of what is sought.
 use mathlib.Core.Path.{subst}
 use Rattle.run_window.specs.Inner.Search.{SoughtInTime}
-use borrow.Author.Rules.{rules}
 use Rattle.run_window.proofs.search.is_sought.Goals as goal
 
 pub is_overdue-requires : goal.is_overdue-requires

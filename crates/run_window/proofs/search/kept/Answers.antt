@@ -1,6 +1,5 @@
 -- `kept` keeps the entry at a place where it is sought, unless what was found behind it goes before it.
 use mathlib.Core.Path.{sym, ◌∙◌}
-use borrow.Author.Rules.{rules}
 use Rattle.run_window.proofs.search.kept.Goals as goal
 
 pub returns-then-is_sought : goal.returns-then-is_sought

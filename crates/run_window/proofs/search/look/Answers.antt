@@ -1,7 +1,6 @@
 -- `look` goes by ranks only where a start ties.
 use mathlib.Core.Path.{subst}
 use Rattle.run_window.specs.Inner.Search.{Scanned}
-use borrow.Author.Rules.{rules}
 use Rattle.run_window.proofs.search.look.Goals as goal
 
 pub returns-in-Untied : goal.returns-in-Untied

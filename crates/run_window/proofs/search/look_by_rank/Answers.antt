@@ -1,5 +1,5 @@
 use mathlib.Core.Path.{◌≡◌, sym, ◌∙◌, ap}
-use Prim.Native.Nat.{ℕ, ◌-◌, ◌≤◌, ◌<◌}
+use Prim.Native.Nat.{ℕ, ◌-◌, ◌<◌}
 use native.Mathlib.Omega.{arith}
 use lib.ListN.{length, get_or}
 use Rattle.plan.specs.Plan.{past_node}
@@ -12,7 +12,6 @@ use Rattle.basis.proofs.Laws.Bools.{or-false}
 use Rattle.basis.proofs.Laws.Lists.{unmapped}
 use Rattle.run_window.proofs.Laws.Scans.{ranked_from, ranked_none, ranked_turn, ranked_passed, ranked_found}
 use borrow.Author.Tests.{not-true, not-false}
-use borrow.Author.Rules.{rules}
 use mathlib.Core.Bool.{not}
 use Rattle.run_window.proofs.search.look_by_rank.Goals as goal
 

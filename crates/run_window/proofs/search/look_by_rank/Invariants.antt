@@ -1,19 +1,10 @@
 -- `look_by_rank` finds the first of each kind: from the back, the best so far is the first of the places passed.
-use mathlib.Core.Path.{◌≡◌, sym, ◌∙◌, ap}
-use Prim.Native.Nat.{ℕ, ◌-◌, ◌≤◌, ◌<◌}
-use native.Mathlib.Omega.{arith}
-use lib.ListN.{length, get_or}
-use Rattle.plan.specs.Plan.{past_node}
-use Rattle.run_window.specs.declared.Found.{Found}
+use mathlib.Core.Path.{◌≡◌}
+use Prim.Native.Nat.{◌-◌, ◌≤◌}
 use Rattle.run_window.specs.declared.Sought.{Sought}
 use Rattle.run_window.specs.Window.{rank}
 use Rattle.run_window.specs.Inner.Search.{ranked}
-use Rattle.run_window.proofs.Laws.Sought.{noticed_held}
-use Rattle.basis.proofs.Laws.Bools.{or-false}
-use Rattle.basis.proofs.Laws.Lists.{unmapped}
-use Rattle.run_window.proofs.Laws.Scans.{ranked_from, ranked_none, ranked_turn, ranked_passed, ranked_found}
-use borrow.Author.Tests.{not-true, not-false}
-use borrow.Author.Rules.{rules}
+use Rattle.run_window.proofs.Laws.Scans.{ranked_from}
 use Rattle.run_window.proofs.search.look_by_rank.Given as goal
 
 abbrev pub invariant-loop-i : goal.invariant-loop-i

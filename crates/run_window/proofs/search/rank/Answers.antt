@@ -1,5 +1,4 @@
 -- `rank` puts events, claims and releases after all peripherals.
-use borrow.Author.Rules.{rules}
 use Rattle.run_window.proofs.search.rank.Goals as goal
 
 pub returns-in-Claim : goal.returns-in-Claim

@@ -1,5 +1,4 @@
 -- `served` is the order of ask and 41.
-use borrow.Author.Rules.{rules}
 use borrow.Author.Tests.{eq-eqb, ne_eqb}
 use Rattle.run_window.specs.Window.{precedes}
 use Rattle.run_window.proofs.search.served.Goals as goal

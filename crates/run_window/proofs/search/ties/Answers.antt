@@ -1,5 +1,4 @@
 -- `ties` tells whether an entry that is sought has the same start as what was found behind it.
-use borrow.Author.Rules.{rules}
 use borrow.Author.Tests.{eq-eqb, ne_eqb}
 use Rattle.run_window.proofs.search.ties.Goals as goal
 

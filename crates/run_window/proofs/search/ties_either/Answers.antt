@@ -1,6 +1,5 @@
 -- `ties_either` tells of a tie among those that are late, or among what is sought.
 use mathlib.Core.Path.{sym, ◌∙◌}
-use borrow.Author.Rules.{rules}
 use Rattle.run_window.proofs.search.ties_either.Goals as goal
 
 pub returns-then-ties : goal.returns-then-ties

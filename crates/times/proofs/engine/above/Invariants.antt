@@ -1,12 +1,7 @@
 -- `above` meets its contract. The loop's invariant: the answer for all times is the answer for those that are left. Assumes nothing.
-use mathlib.Core.Path.{◌≡◌, sym, ◌∙◌}
+use mathlib.Core.Path.{◌≡◌}
 use Prim.Native.Nat.{◌≤◌, ◌-◌}
-use native.Mathlib.Nat.{sub-zero}
-use native.Mathlib.Omega.{arith}
-use borrow.Author.Tests.{lt-ltb, le-ltb}
-use borrow.Author.Rules.{rules}
 use Rattle.times.specs.Engine.{above_of}
-use Rattle.times.proofs.Laws.Loops.{above_here, above_on, above_end}
 use Rattle.times.proofs.engine.above.Given as goal
 
 abbrev pub invariant-loop-i : goal.invariant-loop-i

@@ -7,7 +7,6 @@ use Rattle.times.specs.Inner.Times.{Timeable, Leaving}
 use Rattle.times.specs.Engine.{held_of}
 use Rattle.times.specs.Queues.{processed_of, floor_of}
 use Rattle.times.specs.declared.Progress.{Progress}
-use borrow.Author.Rules.{rules}
 use Rattle.times.proofs.engine.advance.Goals as goal
 
 pub floor-c-requires : goal.floor-c-requires

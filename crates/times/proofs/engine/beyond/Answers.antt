@@ -1,7 +1,6 @@
 -- `beyond` meets its contract, test by test. Assumes nothing.
 use mathlib.Core.Path.{sym, ◌∙◌}
 use borrow.Author.Tests.{lt-ltb, le-ltb}
-use borrow.Author.Rules.{rules}
 use Rattle.times.specs.Engine.{beyond_of}
 use Rattle.times.proofs.engine.beyond.Goals as goal
 

@@ -1,14 +1,11 @@
-use mathlib.Core.Path.{◌≡◌, sym, ◌∙◌, subst}
-use Prim.Native.Nat.{◌≤◌, ◌<◌, ◌-◌}
+use mathlib.Core.Path.{sym, ◌∙◌, subst}
+use Prim.Native.Nat.{◌<◌, ◌-◌}
 use native.Mathlib.Nat.{sub-zero}
 use native.Mathlib.Omega.{arith}
-use borrow.Author.Rules.{rules}
 use lib.ListN.{get_or}
-use Rattle.basis.specs.Parts.{part}
 use Rattle.plan.specs.Plan.{past_node, nodes_of}
 use Rattle.times.proofs.Laws.Leaves.{leaves, leaves_end, leaves_action, leaves_claim, leaves_release, leaves_joined, leaves_dropped}
 use Rattle.times.proofs.Laws.Rounds.{kind_fits}
-use Rattle.times.specs.Engine.{left_of}
 use Rattle.times.specs.Limits.{KindFits}
 use Rattle.times.specs.Times.{at}
 use Rattle.times.proofs.engine.left.Goals as goal

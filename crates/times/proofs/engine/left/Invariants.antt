@@ -1,17 +1,9 @@
 -- `left` meets its contract. The loop's invariant: what all nodes leave is what those leave that are left; one case for each kind of node. Assumes nothing.
-use mathlib.Core.Path.{◌≡◌, sym, ◌∙◌, subst}
-use Prim.Native.Nat.{◌≤◌, ◌<◌, ◌-◌}
-use native.Mathlib.Nat.{sub-zero}
-use native.Mathlib.Omega.{arith}
-use borrow.Author.Rules.{rules}
-use lib.ListN.{get_or}
+use mathlib.Core.Path.{◌≡◌}
+use Prim.Native.Nat.{◌≤◌, ◌-◌}
 use Rattle.basis.specs.Parts.{part}
-use Rattle.plan.specs.Plan.{past_node, nodes_of}
-use Rattle.times.proofs.Laws.Leaves.{leaves, leaves_end, leaves_action, leaves_claim, leaves_release, leaves_joined, leaves_dropped}
-use Rattle.times.proofs.Laws.Rounds.{kind_fits}
+use Rattle.plan.specs.Plan.{nodes_of}
 use Rattle.times.specs.Engine.{left_of}
-use Rattle.times.specs.Limits.{KindFits}
-use Rattle.times.specs.Times.{at}
 use Rattle.times.proofs.engine.left.Given as goal
 
 abbrev pub invariant-loop-j : goal.invariant-loop-j

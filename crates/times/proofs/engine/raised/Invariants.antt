@@ -1,11 +1,7 @@
 -- `raised` meets its contract. The loop's invariant: all raised is those raised that are left. Assumes nothing.
-use mathlib.Core.Path.{◌≡◌, sym, ◌∙◌}
+use mathlib.Core.Path.{◌≡◌}
 use Prim.Native.Nat.{◌≤◌, ◌-◌}
-use native.Mathlib.Nat.{sub-zero}
-use native.Mathlib.Omega.{arith}
-use borrow.Author.Rules.{rules}
 use Rattle.times.specs.Engine.{raised_of}
-use Rattle.times.proofs.Laws.Loops.{raised_on, raised_end}
 use Rattle.times.proofs.engine.raised.Given as goal
 
 abbrev pub invariant-loop-i : goal.invariant-loop-i

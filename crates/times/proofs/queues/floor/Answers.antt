@@ -2,7 +2,6 @@
 use mathlib.Core.Path.{subst}
 use Prim.Native.Nat.{◌<◌}
 use native.Mathlib.Omega.{arith}
-use borrow.Author.Rules.{rules}
 use Rattle.times.proofs.Laws.Taken.{floor_nothing, floor_oldest, floor_none}
 use Rattle.times.specs.Limits.{InputFits}
 use Rattle.times.specs.Queues.{floor_of}

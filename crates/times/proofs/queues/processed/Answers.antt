@@ -1,6 +1,6 @@
 use mathlib.Core.List.{List}
 use mathlib.Core.Path.{◌≡◌, refl, sym, ap, ◌∙◌, subst}
-use Prim.Native.Nat.{ℕ, ◌+◌, ◌*◌, ◌-◌, ◌≤◌, ◌<◌}
+use Prim.Native.Nat.{ℕ, ◌+◌, ◌*◌, ◌-◌, ◌<◌}
 use native.Mathlib.Omega.{arith}
 use lib.ListN.{get_or, set}
 use Rattle.times.specs.declared.Instance.{Instance}
@@ -10,7 +10,6 @@ use Rattle.times.proofs.Laws.Loops.{shifted_on, shifted_end}
 use Rattle.times.proofs.Laws.Taken.{processed_nothing, processed_oldest, processed_none}
 use Rattle.times.specs.Limits.{InputFits}
 use Rattle.times.specs.Queues.{no_instance, pending_of, shifted_of}
-use borrow.Author.Rules.{rules}
 use Rattle.times.proofs.queues.processed.Goals as goal
 
 pub returns-in_default : goal.returns-in_default

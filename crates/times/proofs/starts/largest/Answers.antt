@@ -1,14 +1,9 @@
-use mathlib.Core.Path.{◌≡◌, ap, ◌∙◌}
+use mathlib.Core.Path.{ap, ◌∙◌}
 use mathlib.Core.List.{List}
-use Prim.Native.Nat.{ℕ, ◌≤◌, ◌<◌, ◌-◌, max}
+use Prim.Native.Nat.{ℕ, ◌<◌, ◌-◌}
 use native.Mathlib.Nat.{sub-zero}
 use native.Mathlib.Omega.{arith}
-use borrow.Author.Rules.{rules}
 use lib.ListN.{get_or}
-use Rattle.basis.specs.Parts.{part}
-use Rattle.time.specs.declared.Specified.{Specified}
-use Rattle.times.specs.Times.{largest_of}
-use Rattle.times.specs.Inner.Times.{numbers}
 use Rattle.times.proofs.Laws.Loops.{largest_on, largest_end}
 use Rattle.times.proofs.Laws.Turns.{number_at}
 use Rattle.times.proofs.starts.largest.Goals as goal

@@ -1,17 +1,11 @@
 -- `largest` meets its contract. The loop's invariant: the largest of all is the larger of `best` and of those that are left. Assumes nothing.
-use mathlib.Core.Path.{◌≡◌, ap, ◌∙◌}
+use mathlib.Core.Path.{◌≡◌}
 use mathlib.Core.List.{List}
-use Prim.Native.Nat.{ℕ, ◌≤◌, ◌<◌, ◌-◌, max}
-use native.Mathlib.Nat.{sub-zero}
-use native.Mathlib.Omega.{arith}
-use borrow.Author.Rules.{rules}
-use lib.ListN.{get_or}
+use Prim.Native.Nat.{◌≤◌, ◌-◌, max}
 use Rattle.basis.specs.Parts.{part}
 use Rattle.time.specs.declared.Specified.{Specified}
 use Rattle.times.specs.Times.{largest_of}
 use Rattle.times.specs.Inner.Times.{numbers}
-use Rattle.times.proofs.Laws.Loops.{largest_on, largest_end}
-use Rattle.times.proofs.Laws.Turns.{number_at}
 use Rattle.times.proofs.starts.largest.Given as goal
 
 abbrev pub invariant-loop-j : goal.invariant-loop-j

@@ -1,12 +1,9 @@
-use mathlib.Core.Path.{◌≡◌, sym, ap, ◌∙◌}
-use Prim.Native.Nat.{◌≤◌, ◌-◌}
+use mathlib.Core.Path.{sym, ap, ◌∙◌}
+use Prim.Native.Nat.{◌-◌}
 use native.Mathlib.Nat.{sub-zero}
 use native.Mathlib.Omega.{arith}
 use borrow.Author.Tests.{not-true, not-false}
-use borrow.Author.Rules.{rules}
-use Rattle.basis.specs.Parts.{part}
 use Rattle.basis.specs.Tests.{flag}
-use Rattle.times.specs.Times.{ready_of}
 use Rattle.times.proofs.Laws.Loops.{ready_not, ready_on, ready_end}
 use mathlib.Core.Bool.{not}
 use Rattle.times.proofs.starts.ready.Goals as goal

@@ -1,14 +1,8 @@
 -- `ready` meets its contract. The loop's invariant: the answer for all predecessors is the answer for those that are left. Assumes nothing.
-use mathlib.Core.Path.{◌≡◌, sym, ap, ◌∙◌}
+use mathlib.Core.Path.{◌≡◌}
 use Prim.Native.Nat.{◌≤◌, ◌-◌}
-use native.Mathlib.Nat.{sub-zero}
-use native.Mathlib.Omega.{arith}
-use borrow.Author.Tests.{not-true, not-false}
-use borrow.Author.Rules.{rules}
 use Rattle.basis.specs.Parts.{part}
-use Rattle.basis.specs.Tests.{flag}
 use Rattle.times.specs.Times.{ready_of}
-use Rattle.times.proofs.Laws.Loops.{ready_not, ready_on, ready_end}
 use Rattle.times.proofs.starts.ready.Given as goal
 
 abbrev pub invariant-loop-j : goal.invariant-loop-j

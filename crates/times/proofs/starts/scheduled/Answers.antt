@@ -1,5 +1,5 @@
 use mathlib.Core.Path.{◌≡◌, sym, ap, ◌∙◌, subst}
-use Prim.Native.Nat.{ℕ, ◌+◌, ◌*◌, ◌-◌, ◌≤◌, ◌<◌}
+use Prim.Native.Nat.{ℕ, ◌+◌, ◌-◌, ◌<◌}
 use native.Mathlib.Omega.{arith}
 use borrow.Author.Tests.{not-true, not-false}
 use lib.ListN.{get_or, set}
@@ -10,7 +10,6 @@ use Rattle.times.specs.Times.{specified}
 use Rattle.times.specs.Inner.Times.{Sound, numbers, Rounding}
 use Rattle.times.proofs.Laws.Rounds.{stored_placed, arrows_fit, kind_fits, visit_done, visit_waits, visit_placed, start_small, room, placed_sound}
 use Rattle.times.proofs.Laws.Turns.{start_found, claim_low, event_low, number_set, rounding_starts, rounding_turn, rounding_stops, rounding_next, rounding_done}
-use borrow.Author.Rules.{rules}
 use mathlib.Core.Bool.{not}
 use Rattle.times.proofs.starts.scheduled.Goals as goal
 

@@ -3,7 +3,6 @@ use mathlib.Core.Path.{sym, ap, ◌∙◌}
 use Rattle.plan.specs.declared.Kind.{Kind}
 use Rattle.times.specs.Times.{specified}
 use Rattle.times.specs.Inner.Times.{start_on}
-use borrow.Author.Rules.{rules}
 use Rattle.times.proofs.starts.starting.Goals as goal
 
 pub returns-in-Action : goal.returns-in-Action

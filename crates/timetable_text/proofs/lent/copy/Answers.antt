@@ -1,8 +1,5 @@
-use mathlib.Core.Path.{◌≡◌, refl, ◌∙◌}
-use Prim.Native.Nat.{◌+◌, ◌-◌, ◌≤◌, ◌<◌}
+use mathlib.Core.Path.{refl, ◌∙◌}
 use native.Mathlib.Omega.{arith}
-use lib.ListN.{length, take}
-use lib.Seq.{sets, slice}
 use Rattle.timetable_text.proofs.Copying.{copy_next, copy_done}
 use borrow.Author.Rules.{rules}
 use Rattle.timetable_text.proofs.lent.copy.Goals as goal

@@ -1,11 +1,8 @@
 -- The loop copies one byte more each turn. Assumes nothing.
-use mathlib.Core.Path.{◌≡◌, refl, ◌∙◌}
+use mathlib.Core.Path.{◌≡◌}
 use Prim.Native.Nat.{◌+◌, ◌-◌, ◌≤◌, ◌<◌}
-use native.Mathlib.Omega.{arith}
 use lib.ListN.{length, take}
 use lib.Seq.{sets, slice}
-use Rattle.timetable_text.proofs.Copying.{copy_next, copy_done}
-use borrow.Author.Rules.{rules}
 use Rattle.timetable_text.proofs.lent.copy.Given as goal
 
 abbrev pub invariant-loop-i : goal.invariant-loop-i

@@ -2,7 +2,6 @@
 use native.Mathlib.Omega.{arith}
 use Rattle.wire.proofs.Laws.Puts.{puts_none}
 use Rattle.timetable_turns.proofs.Taking.{turns_shut, closes_by}
-use borrow.Author.Rules.{rules}
 use Rattle.timetable_turns.proofs.turns.close.Goals as goal
 
 pub put_ended-next-requires : goal.put_ended-next-requires

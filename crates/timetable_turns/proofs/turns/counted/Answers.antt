@@ -1,5 +1,4 @@
 -- `counted` meets its contract. Assumes nothing.
-use borrow.Author.Rules.{rules}
 use Rattle.timetable_turns.proofs.turns.counted.Goals as goal
 
 pub returns-then-heard : goal.returns-then-heard

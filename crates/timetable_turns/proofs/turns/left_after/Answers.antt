@@ -1,5 +1,4 @@
 -- `left_after` meets its contract. Assumes nothing.
-use borrow.Author.Rules.{rules}
 use Rattle.timetable_turns.proofs.turns.left_after.Goals as goal
 
 pub returns : goal.returns

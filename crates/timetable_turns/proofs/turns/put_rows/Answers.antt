@@ -1,9 +1,7 @@
-use mathlib.Core.Path.{◌≡◌, sym, ◌∙◌}
-use Prim.Native.Nat.{◌-◌, ◌≤◌, ◌<◌}
+use mathlib.Core.Path.{sym, ◌∙◌}
+use Prim.Native.Nat.{◌-◌, ◌<◌}
 use native.Mathlib.Omega.{arith}
-use borrow.Author.Rules.{rules}
-use lib.ListN.{length}
-use Rattle.timetable_turns.proofs.Rows.{Putting, putting_row, putting_none, putting_ends}
+use Rattle.timetable_turns.proofs.Rows.{putting_row, putting_none, putting_ends}
 use Rattle.timetable_turns.proofs.turns.put_rows.Goals as goal
 
 pub loop-n-preserved-then-is_work : goal.loop-n-preserved-then-is_work

@@ -1,10 +1,8 @@
 -- `put_rows` meets its contract. The loop's invariant: what puts the rows that are left, puts all of them. Assumes nothing.
-use mathlib.Core.Path.{◌≡◌, sym, ◌∙◌}
-use Prim.Native.Nat.{◌-◌, ◌≤◌, ◌<◌}
-use native.Mathlib.Omega.{arith}
-use borrow.Author.Rules.{rules}
+use mathlib.Core.Path.{◌≡◌}
+use Prim.Native.Nat.{◌-◌, ◌≤◌}
 use lib.ListN.{length}
-use Rattle.timetable_turns.proofs.Rows.{Putting, putting_row, putting_none, putting_ends}
+use Rattle.timetable_turns.proofs.Rows.{Putting}
 use Rattle.timetable_turns.proofs.turns.put_rows.Given as goal
 
 abbrev pub invariant-loop-n : goal.invariant-loop-n

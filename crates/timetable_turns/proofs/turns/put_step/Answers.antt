@@ -3,7 +3,6 @@ use mathlib.Core.Path.{refl, sym, subst}
 use native.Mathlib.Omega.{arith}
 use Rattle.timetable_turns.specs.Inner.Answers.{Drafts}
 use Rattle.timetable_turns.proofs.Taking.{turns_closing, turns_taking, turns_stops, turns_goes}
-use borrow.Author.Rules.{rules}
 use Rattle.timetable_turns.proofs.turns.put_step.Goals as goal
 
 pub close-requires : goal.close-requires

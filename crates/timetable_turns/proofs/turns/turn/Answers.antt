@@ -5,7 +5,6 @@ use Rattle.timetable_turns.specs.Inner.Turn.{Open}
 use Rattle.timetable_turns.proofs.Laws.InLimits.{turn_open}
 use Rattle.timetable_turns.proofs.Laws.Short.{turn_short}
 use Rattle.timetable_text.proofs.Laws.Lent.{lends_front, front_there}
-use borrow.Author.Rules.{rules}
 use Rattle.timetable_turns.proofs.turns.turn.Goals as goal
 
 pub turn_by-drafted-requires : goal.turn_by-drafted-requires

@@ -5,7 +5,6 @@ use Rattle.run_path.specs.Inner.Path.{emitted_of}
 use Rattle.timetable_steps.proofs.Laws.Steps.{named}
 use Rattle.timetable_turns.proofs.Laws.Stepping.{turn_parts, step_output, step_fitting}
 use Rattle.timetable_turns.proofs.Taking.{turns_as}
-use borrow.Author.Rules.{rules}
 use Rattle.timetable_turns.proofs.turns.turn_by.Goals as goal
 
 pub step_of-step-requires : goal.step_of-step-requires

@@ -2,7 +2,6 @@
 use mathlib.Core.Path.{sym}
 use native.Mathlib.Omega.{arith}
 use Rattle.timetable_turns.proofs.Laws.Whole.{head_there, head_none}
-use borrow.Author.Rules.{rules}
 use Rattle.timetable_turns.proofs.whole.heard_at.Goals as goal
 
 pub returns-then-at-input : goal.returns-then-at-input

@@ -5,7 +5,6 @@ use native.Mathlib.Omega.{arith}
 use lib.ListN.{take, drop, length-take}
 use Rattle.timetable_turns.specs.Timetable.{text_of_plan}
 use Rattle.timetable_turns.proofs.Placing.{puts_as, size_few, stands_first, puts_table}
-use borrow.Author.Rules.{rules}
 use Rattle.timetable_turns.proofs.whole.put_table.Goals as goal
 
 pub copy-at-requires : goal.copy-at-requires

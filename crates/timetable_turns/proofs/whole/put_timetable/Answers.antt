@@ -3,7 +3,6 @@ use mathlib.Core.Path.{sym}
 use native.Mathlib.Omega.{arith}
 use Rattle.timetable_turns.proofs.Laws.Whole.{whole_none, whole_cut, whole_plan}
 use Rattle.timetable_turns.proofs.Placing.{puts_as}
-use borrow.Author.Rules.{rules}
 use Rattle.timetable_turns.proofs.whole.put_timetable.Goals as goal
 
 pub returns-then-input-lt2 : goal.returns-then-input-lt2

@@ -2,7 +2,6 @@
 use native.Mathlib.Omega.{arith}
 use lib.Seq.{length-take-le}
 use Rattle.timetable_turns.proofs.Placing.{next_few, stands_on, fewer_left, remains_on}
-use borrow.Author.Rules.{rules}
 use Rattle.timetable_turns.proofs.whole.put_turn.Goals as goal
 
 pub turn_by-drafted-requires : goal.turn_by-drafted-requires

@@ -1,12 +1,7 @@
-use mathlib.Core.Path.{◌≡◌, refl, ◌∙◌}
-use Prim.Native.Nat.{◌≤◌}
+use mathlib.Core.Path.{refl, ◌∙◌}
 use native.Mathlib.Omega.{arith}
-use lib.ListN.{length}
-use Rattle.timetable_lines.specs.Inner.Lines.{Remains}
 use Rattle.timetable_lines.proofs.Laws.Lines.{remains_all}
-use Rattle.timetable_turns.specs.Inner.Whole.{left_text, Standing}
 use Rattle.timetable_turns.proofs.Placing.{remains_none}
-use borrow.Author.Rules.{rules}
 use Rattle.timetable_turns.proofs.whole.put_turns.Goals as goal
 
 pub loop-w-init : goal.loop-w-init

@@ -2,7 +2,6 @@
 use native.Mathlib.Omega.{arith}
 use Rattle.timetable_turns.specs.Timetable.{timetable_of}
 use Rattle.timetable_text.proofs.Laws.Lent.{lends_past, lends_short}
-use borrow.Author.Rules.{rules}
 use Rattle.timetable_turns.proofs.whole.timetable.Goals as goal
 
 pub returns-then-size-out : goal.returns-then-size-out

@@ -1,10 +1,6 @@
 use native.Mathlib.Omega.{arith}
-use mathlib.Core.Path.{◌≡◌, refl, ◌∙◌}
-use Prim.Native.Nat.{◌+◌, ◌-◌, ◌≤◌, ◌<◌}
-use lib.ListN.{length}
-use lib.Seq.{sets}
+use mathlib.Core.Path.{refl, ◌∙◌}
 use native.Mathlib.Nat.{sub-zero}
-use Rattle.wire.specs.Number.{number_bytes}
 use Rattle.wire.proofs.Turns.{list_next, list_done}
 use borrow.Author.Rules.{rules}
 use Rattle.wire.proofs.puts.put_list.Goals as goal

@@ -1,13 +1,9 @@
 -- The loop over the numbers: what is left is put after what was put.
-use native.Mathlib.Omega.{arith}
-use mathlib.Core.Path.{◌≡◌, refl, ◌∙◌}
+use mathlib.Core.Path.{◌≡◌}
 use Prim.Native.Nat.{◌+◌, ◌-◌, ◌≤◌, ◌<◌}
 use lib.ListN.{length}
 use lib.Seq.{sets}
-use native.Mathlib.Nat.{sub-zero}
 use Rattle.wire.specs.Number.{number_bytes}
-use Rattle.wire.proofs.Turns.{list_next, list_done}
-use borrow.Author.Rules.{rules}
 use Rattle.wire.proofs.puts.put_list.Given as goal
 
 abbrev pub invariant-loop-i : goal.invariant-loop-i

@@ -1,9 +1,6 @@
 use native.Mathlib.Omega.{arith}
-use mathlib.Core.Path.{◌≡◌, refl, ◌∙◌}
-use Prim.Native.Nat.{◌+◌, ◌-◌, ◌≤◌, ◌<◌}
-use lib.ListN.{length}
-use lib.Seq.{sets}
-use Rattle.wire.specs.Number.{bytes_of}
+use mathlib.Core.Path.{refl, ◌∙◌}
+use Prim.Native.Nat.{◌-◌}
 use Rattle.wire.proofs.Turns.{number_next, number_done}
 use borrow.Author.Rules.{rules}
 use Rattle.wire.proofs.puts.put_number.Goals as goal

@@ -1,12 +1,9 @@
 -- The loop over the bytes of a number: what is left is put after what was put.
-use native.Mathlib.Omega.{arith}
-use mathlib.Core.Path.{◌≡◌, refl, ◌∙◌}
-use Prim.Native.Nat.{◌+◌, ◌-◌, ◌≤◌, ◌<◌}
+use mathlib.Core.Path.{◌≡◌}
+use Prim.Native.Nat.{◌+◌, ◌≤◌, ◌<◌}
 use lib.ListN.{length}
 use lib.Seq.{sets}
 use Rattle.wire.specs.Number.{bytes_of}
-use Rattle.wire.proofs.Turns.{number_next, number_done}
-use borrow.Author.Rules.{rules}
 use Rattle.wire.proofs.puts.put_number.Given as goal
 
 abbrev pub invariant-loop-left : goal.invariant-loop-left

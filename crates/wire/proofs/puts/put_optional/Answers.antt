@@ -5,7 +5,6 @@ use borrow.Author.Tests.{eq-eqb, ne_eqb}
 use Rattle.wire.specs.Number.{optional_bytes}
 use Rattle.wire.proofs.Laws.Puts.{puts_none}
 use Prim.Native.Nat.{◌%◌}
-use borrow.Author.Rules.{rules}
 use Rattle.wire.proofs.puts.put_optional.Goals as goal
 
 pub returns-then-x-eq0 : goal.returns-then-x-eq0

@@ -2,7 +2,6 @@
 use borrow.Author.Tests.{eq-eqb, ne_eqb}
 use Rattle.wire.specs.Number.{optional_bytes}
 use Rattle.wire.proofs.Laws.Puts.{puts_none}
-use borrow.Author.Rules.{rules}
 use Rattle.wire.proofs.puts.put_optional_four.Goals as goal
 
 pub returns-then-x-eq0 : goal.returns-then-x-eq0
