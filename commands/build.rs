@@ -12,7 +12,7 @@ fn main() {
         PathBuf::from(env::var_os("CARGO_MANIFEST_DIR").expect("cargo sets it")).join("../target/staticlib");
     let library = folder.join("libexports.a");
     if !library.exists() {
-        panic!("{} is not there: build it first (rt staticlib exports)", library.display());
+        panic!("{} is not there: build it first (commands/setup build library)", library.display());
     }
     println!("cargo:rerun-if-changed={}", library.display());
     println!("cargo:rustc-link-search=native={}", folder.display());

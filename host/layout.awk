@@ -52,5 +52,5 @@ name && !/^    pub [a-z_]+: .*,$|^pub struct|^}|^    \/\// { fail("no field of "
     printf "%s %d %d\n%s", name, at, most, fields
     name = ""
 }
-{ c = /^#\[repr\(C\)\]/ }
+{ c = /^#\[repr\(C\)\]/ || c && /^#\[/ } # other attributes may stand between
 END { if (failed) exit 1 }

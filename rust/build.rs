@@ -19,7 +19,8 @@ fn folder(variable: &str) -> PathBuf {
 fn library(target: &Path, name: &str) -> PathBuf {
     let library = target.join(format!("staticlib/lib{name}.a"));
     if !library.exists() {
-        panic!("{} is not there: build it first (rt staticlib {name})", library.display());
+        let what = if name == "exports" { "library" } else { "host" };
+        panic!("{} is not there: build it first (commands/setup build {what})", library.display());
     }
     println!("cargo:rerun-if-changed={}", library.display());
     library

@@ -15,7 +15,7 @@ fn main() {
     assert!(folder.is_absolute(), "JIDLEKUVO_LIB_DIR is no absolute path: {}", folder.display());
     let library = folder.join("libjidlekuvo.a");
     if !library.exists() {
-        panic!("{} is not there: build it first (rt staticlib jidlekuvo)", library.display());
+        panic!("{} is not there: build it first (commands/setup build host)", library.display());
     }
     println!("cargo:rerun-if-changed={}", library.display());
     println!("cargo:rustc-link-search=native={}", folder.display());

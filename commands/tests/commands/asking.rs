@@ -60,6 +60,18 @@ pub fn close(reader: ChildStdout) {
     }
 }
 
+/// What is said of crates, with no seconds: those are the machine's.
+fn without_seconds(text: String) -> String {
+    let is_number = |word: &str| word.bytes().all(|byte| byte.is_ascii_digit());
+    let line = |line: &str| match line.split_once(" proved (") {
+        Some((crates, seconds)) if seconds.strip_suffix(" s)\n").is_some_and(is_number) => {
+            format!("{crates} proved (S s)\n")
+        }
+        _ => line.to_string(),
+    };
+    text.split_inclusive('\n').map(line).collect()
+}
+
 fn read_all(mut from: impl Read + Send + 'static) -> JoinHandle<String> {
     thread::spawn(move || {
         let mut bytes = Vec::new();
@@ -80,7 +92,7 @@ pub fn ask_within(most: Duration, mut command: Command, input: &[u8]) -> Said {
     let status = ended(&mut child, most).and_then(|status| status.code());
     // what was started below it may hold the pipes open
     match status {
-        Some(_) => Said { status, out: out.join().unwrap(), err: err.join().unwrap() },
+        Some(_) => Said { status, out: out.join().unwrap(), err: without_seconds(err.join().unwrap()) },
         None => Said { status, out: String::new(), err: String::new() },
     }
 }

@@ -57,7 +57,7 @@ pub fn set_up(name: &str) -> String {
     let (what, last) = if name == "judge" { ("library", "exports") } else { ("program", "timetable") };
     format!(
         "{name}: proving and building the {what}, this once (some minutes)\n\
-         {name}: 1 of 3: basis proved (3 s)\n{name}: 3 of 3: {last} proved (12 s)\n\
+         {name}: 1 of 3: basis proved (S s)\n{name}: 3 of 3: {last} proved (S s)\n\
          {name}: building the command {name}\n"
     )
 }

@@ -122,7 +122,7 @@ impl Commands {
 
 /// What the scripts call.
 const TOOLS: &str =
-    "awk bash cat chmod cmp cp cut dirname env find flock git gzip head mkdir mktemp mv readlink rm sed \
+    "awk bash cat chmod cmp cp cut dirname env find flock git grep gzip head mkdir mktemp mv readlink rm sed \
                      sha256sum sleep sort tail tar tee xargs";
 
 /// A repository of five small crates with the scripts of this one. Its `rt` and `cargo` write down what they are asked, in
@@ -135,23 +135,28 @@ pub struct Repository {
 
 const RT: &str = "
 [ \"$1\" = version ] && { cat \"$HERE/kit\"; exit; }
-echo \"rt $*\" >>\"$HERE/asked.txt\"
-/bin/sh \"$HERE/rt-$1\" \"$2\"
+echo \"rt $* in ${PWD##*/}\" >>\"$HERE/asked.txt\"
+mkdir -p out
+/bin/sh \"$HERE/rt-$1\" \"${PWD##*/}\"
 ";
 
-const RT_CHECK: &str = "
-mkdir -p target/bin target/stamp
-echo 'rt: basis proved (3 s)'
-echo 'rt: time proved (unchanged since it was last proved)'
+/// `time` is proved already, so nothing is said of it.
+const RT_LIB: &str = "
+echo 'rt: chose --jobs 2 for basis'
+echo 'logic=proved functions=3'
+echo \"rt: chose --jobs 2 for $1\"
 echo \"fn $1::first: proved\"
-echo \"rt: $1 proved (12 s)\"
-[ \"$1\" != timetable ] || exec cp \"$BUILT/target/bin/timetable\" target/bin/timetable
-cat crates/basis/src/lib.rt >\"target/stamp/$1\"
+echo 'logic=proved functions=1'
+library=${1%_c}
+[ \"$1\" = timetable ] || cp \"$BUILT/target/staticlib/lib$library.a\" \"out/lib$1.a\"
 ";
 
-const RT_STATICLIB: &str = "
-mkdir -p target/staticlib
-cp \"$BUILT/target/staticlib/lib$1.a\" \"target/staticlib/lib$1.a\"
+/// It proves as `rt lib` does, and ends as the program does, which has no input.
+const RT_RUN: &str = "
+/bin/sh \"$HERE/rt-lib\" \"$1\"
+cp \"$BUILT/target/bin/timetable\" out/timetable
+echo 'rt: running out/timetable; to give it other input, run that file yourself' >&2
+exit 1
 ";
 
 const CARGO: &str = "
@@ -177,9 +182,9 @@ impl Repository {
         for name in ["commands/src", "rust/src"] {
             symlink(root().join(name), folder.path(name)).expect("a link can be made");
         }
-        let crates = "# five\nbasis:\ntime: basis\ntimetable: io time\nexports: time\njidlekuvo: time\n";
+        let crates = "# five\nbasis:\ntime: basis\ntimetable: io time\nexports staticlib: time\njidlekuvo_c staticlib: time\n";
         folder.write("crates.txt", crates);
-        for name in ["basis", "time", "timetable", "exports", "jidlekuvo"] {
+        for name in ["basis", "time", "timetable", "exports", "jidlekuvo_c"] {
             folder.write(&format!("crates/{name}/src/lib.rt"), name);
         }
         let repository = Repository { folder, machine: Folder::new() };
@@ -198,8 +203,8 @@ impl Repository {
         }
         self.machine.script("rt/rt", RT);
         self.machine.script("cargo/cargo", CARGO);
-        self.machine.write("rt-check", RT_CHECK);
-        self.machine.write("rt-staticlib", RT_STATICLIB);
+        self.machine.write("rt-lib", RT_LIB);
+        self.machine.write("rt-run", RT_RUN);
         self.machine.write("kit", "kit 1\n");
     }
 

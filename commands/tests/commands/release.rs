@@ -124,7 +124,7 @@ pub fn packed(mutation: Mutation) -> Answer {
     is("the same bytes", fs::read(&archive).is_ok_and(|again| again == bytes))?;
     fs::remove_file(packing.repository.folder.path("target/staticlib/libjidlekuvo.a")).expect("it is there");
     let err = "release: proving and building the library for hosts, this once (some minutes)\n\
-               release: 1 of 3: basis proved (3 s)\nrelease: 3 of 3: jidlekuvo proved (12 s)\n";
+               release: 1 of 3: basis proved (S s)\nrelease: 3 of 3: jidlekuvo_c proved (S s)\n";
     same("without a library", packing.release(), Said { err: err.into(), ..first })?;
     is("the same bytes again", fs::read(&archive).is_ok_and(|again| again == bytes))?;
     unpacked(&packing, &archive)

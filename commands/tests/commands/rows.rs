@@ -32,16 +32,17 @@ pub const ROWS: &[Row] = &[
         "a line for each crate",
         set_up::each_crate,
         &[
-            setup("print name \": \" count", "print > \"/dev/null\"; x = name \": \" count"),
-            setup("/^rt: [a-z_0-9]+ proved \\(/ { count++ }", ""),
-            setup("{ seen[more[m]]; list[++count] = more[m] }", "{ }"),
+            setup("say \"$((number + 1)) of", ": \"$((number + 1)) of"),
+            setup("$((number + 1)) of", "$number of"),
+            setup("for (n = 1; n <= count; n++) visit(list[n])", ""),
+            setup("grep -q '^rt: running ' \"$log\"", "false"),
         ],
     ),
     Row(
         "a proof that fails",
         set_up::failing_proof,
         &[
-            setup("[ \"${PIPESTATUS[0]}\" -eq 0 ] || failed \"$1\"", ":"),
+            setup("[ \"${PIPESTATUS[0]}\" -eq 0 ] || grep -q '^rt: running ' \"$log\" || failed \"$1\"", ":"),
             setup("head -n 5", "head -n 0"),
             setup("tail -n 5", "head -n 5"),
             setup("if [ \"$crate\" ]; then", "if false; then"),
@@ -108,6 +109,7 @@ pub const ROWS: &[Row] = &[
             setup("is_ready program \"$file\" \"$sources\" &&", "[ -e \"$file\" ] &&"),
             setup("is_ready \"$what\" \"$file\" \"$sources\" &&", "[ -e \"$file\" ] &&"),
             setup("$(sum crates crates.txt)", "$(sum crates)"),
+            setup(" -path 'crates/*/out' -prune -o", ""),
             setup("\n    built program \"$sources\"", ""),
         ],
     ),
@@ -123,7 +125,7 @@ pub const ROWS: &[Row] = &[
     Row(
         "with no proof",
         set_up::with_no_proof,
-        &[edit("crates/plan/src/lib.rt", "pub mod numbers;", "pub mod wire;\npub mod numbers;")],
+        &[edit("crates/judge/src/lib.rt", "use plan::{", "mod plan_read;\n\nuse plan::{")],
     ),
     Row(
         "versions",

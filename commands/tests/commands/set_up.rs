@@ -34,19 +34,22 @@ pub fn failing_proof(mutation: Mutation) -> Answer {
     let repository = Repository::new(mutation);
     let lines: String = (1..=7).map(|line| format!("crates/time/src/lib.rt:{line}:1: error\n")).collect();
     let long = format!("note: {}\n{lines}", "x".repeat(300));
-    let log = repository.folder.write("target/log/time.out", &long);
-    let rt = "echo 'rt: basis proved (3 s)'; echo 'rt: time NOT PROVED (exit 1, 4 s)'\n\
-              echo 'rt: timetable NOT PROVED: its dependency time is not proved'; exit 1\n";
-    repository.machine.write("rt-check", rt);
+    let log = repository.folder.path("target/log/time.out");
+    let rt = format!(
+        "echo 'rt: chose --jobs 2 for basis'; echo 'logic=proved functions=3'; echo 'rt: chose --jobs 2 for time'\n\
+         cat <<'END'\n{long}logic=not-proved\nEND\n\
+         echo 'rt: the library time did not build, so nothing above it was checked' >&2; exit 1\n"
+    );
+    repository.machine.write("rt-run", rt);
     let first: String = lines.lines().take(4).map(|line| format!("{line}\n")).collect();
     let told = format!(
         "timetable: proving and building the program, this once (some minutes)\n\
-         timetable: 1 of 3: basis proved (3 s)\ntimetable: time is not proved; {} begins:\nnote: {}\n{first}",
+         timetable: 1 of 3: basis proved (S s)\ntimetable: time is not proved; {} begins:\nnote: {}\n{first}",
         log.display(),
         "x".repeat(194)
     );
     same("a proof fails", ask(asking(&repository, "timetable", "rt cargo")), said(2, "", &told))?;
-    repository.machine.write("rt-check", "printf 'rt: %s\\n' 1 2 3 4 5 6 7 8 9 10 'no toolchain'; exit 2");
+    repository.machine.write("rt-lib", "printf 'rt: %s\\n' 1 2 3 4 5 6 7 8 9 10 'no toolchain'; exit 2");
     let told = format!(
         "judge: proving and building the library, this once (some minutes)\n\
          judge: exports is not built; {} ends:\nrt: 7\nrt: 8\nrt: 9\nrt: 10\nrt: no toolchain\n",
@@ -59,10 +62,10 @@ pub fn failing_proof(mutation: Mutation) -> Answer {
 pub fn small_package(mutation: Mutation) -> Answer {
     let repository = Repository::new(mutation);
     ask(asking(&repository, "judge", "rt cargo"));
-    let asked = format!("rt check exports\nrt staticlib exports\n{BUILD} --features proved --bin judge\n");
+    let asked = format!("rt lib in exports\n{BUILD} --features proved --bin judge\n");
     is("what judge builds", repository.asked() == asked)?;
     ask(asking(&repository, "timetable", "rt cargo"));
-    let asked = format!("rt check timetable\n{BUILD} --features  --bin timetable\n");
+    let asked = format!("rt run in timetable\n{BUILD} --features  --bin timetable\n");
     is("what timetable builds", repository.asked() == asked)?;
     let mut tree = Command::new("cargo");
     tree.args(["tree", "--offline", "--features", "proved", "--edges", "normal,build", "--prefix", "none"]);
@@ -117,10 +120,9 @@ pub fn changed_crate(mutation: Mutation) -> Answer {
             ask(asking(&repository, "timetable", "rt cargo")),
             said(0, &wanted("timetable", &t()).out, &err),
         )?;
-        is(what, repository.asked() == "rt check timetable\n")?;
+        is(what, repository.asked() == "rt run in timetable\n")?;
         ask(asking(&repository, "judge", "rt cargo"));
-        let library = if what == "a crate" { "rt staticlib exports\n" } else { "" };
-        is(what, repository.asked() == format!("rt check exports\n{library}"))?;
+        is(what, repository.asked() == "rt lib in exports\n")?;
     }
     fs::remove_file(repository.folder.path("target/bin/timetable")).expect("it is there");
     let wanted = said(
@@ -134,8 +136,8 @@ pub fn changed_crate(mutation: Mutation) -> Answer {
 /// Two commands at once: the second waits for the set-up of the first.
 pub fn two_at_once(mutation: Mutation) -> Answer {
     let repository = Repository::new(mutation);
-    let slow = fs::read_to_string(repository.machine.path("rt-check")).expect("it is there");
-    repository.machine.write("rt-check", format!("sleep 1.5\n{slow}"));
+    let slow = fs::read_to_string(repository.machine.path("rt-run")).expect("it is there");
+    repository.machine.write("rt-run", format!("sleep 1.5\n{slow}"));
     let (first, second) = std::thread::scope(|scope| {
         let other = scope.spawn(|| ask(asking(&repository, "timetable", "rt cargo")));
         (ask(asking(&repository, "timetable", "rt cargo")), other.join().expect("it is asked"))
@@ -143,7 +145,7 @@ pub fn two_at_once(mutation: Mutation) -> Answer {
     let found = [first.err, second.err];
     let wanted = [set_up("timetable"), "timetable: another set-up is under way\n".to_string()];
     is(&format!("{found:?}"), found == wanted || found == [wanted[1].clone(), wanted[0].clone()])?;
-    is("what rt is asked", repository.asked().matches("rt check").count() == 1)
+    is("what rt is asked", repository.asked().matches("rt run").count() == 1)
 }
 
 /// `--quick` answers without rt, by the Rust build, and says each time that this is not proved.
@@ -170,35 +172,23 @@ pub fn quick(mutation: Mutation) -> Answer {
     is("what quick builds", repository.asked() == format!("{BUILD} --features quick --bin quick\n"))
 }
 
-/// `rt try` runs the program with no proof: no module bears the name of a crate.
+/// `rt try` runs the program with no proof: no module bears the name of a crate that is called beside it.
 pub fn with_no_proof(mutation: Mutation) -> Answer {
     let folder = Folder::new();
-    fs::copy(root().join("crates.txt"), folder.path("crates.txt")).expect("it can be copied");
-    fs::create_dir_all(folder.path("crates/plan/src")).expect("a folder can be made");
-    for entry in
-        fs::read_dir(root().join("crates")).expect("it is there").map(|entry| entry.expect("it is there"))
-    {
-        if entry.file_name() != "plan" {
-            symlink(entry.path(), folder.path("crates").join(entry.file_name())).expect("a link can be made");
-        }
-    }
-    for entry in fs::read_dir(root().join("crates/plan/src"))
-        .expect("it is there")
-        .map(|entry| entry.expect("it is there"))
-    {
-        fs::copy(entry.path(), folder.path("crates/plan/src").join(entry.file_name()))
-            .expect("it can be copied");
-    }
+    let mut cp = Command::new("bash");
+    cp.args(["-c", "cp -r --parents crates.txt crates/*/src \"$0\""]).arg(&folder.0).current_dir(root());
+    same("the code", ask(cp), said(0, "", ""))?;
     if let Mutation::Edit { .. } = mutation {
-        folder.write("crates/plan/src/wire.rt", "// nothing\n");
+        folder.write("crates/judge/src/plan_read.rt", "// nothing\n");
     }
     folder.apply(mutation);
     let mut rt = Command::new("rt");
-    rt.args(["try", "timetable"]).current_dir(&folder.0);
+    rt.arg("try").current_dir(folder.path("crates/timetable"));
     let said = ask_within(Duration::from_secs(600), rt, b"");
+    let last = said.err.lines().last().unwrap_or("");
     is(
         &format!("{said:?}"),
-        said.status == Some(0) && said.out.matches("\nok: the native program").count() == 3,
+        said.status == Some(0) && last.starts_with("run=ended status=0 ") && last.ends_with(" proved=no"),
     )
 }
 
