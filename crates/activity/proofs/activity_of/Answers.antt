@@ -1,7 +1,7 @@
 use mathlib.Core.List.{List}
 use Rattle.plan.specs.Plan.{past_node, size_of}
 use Rattle.plan.specs.declared.Node.{Node}
-use Prim.Native.Nat.{◌-◌, ◌+◌, ◌*◌}
+use Prim.Native.Nat.{◌+◌, ◌*◌}
 use mathlib.Core.Path.{◌≡◌, ap, ◌∙◌}
 use native.Mathlib.Omega.{arith}
 use lib.ListN.{get_or, set}

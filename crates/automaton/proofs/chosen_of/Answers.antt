@@ -1,12 +1,10 @@
 use mathlib.Core.Path.{sym, ap, ◌∙◌}
 use mathlib.Core.List.{List}
-use Prim.Native.Nat.{◌-◌}
 use native.Mathlib.Omega.{arith}
 use Rattle.basis.specs.Parts.{part}
 use Rattle.plan.specs.declared.Transition.{Transition}
 use Rattle.plan.specs.Plan.{past_move}
 use Rattle.automaton.specs.Next.{chosen_from}
-use Rattle.automaton.specs.Inner.Scan.{rest}
 use Rattle.automaton.proofs.Laws.Scan.{rest_all, chosen_here, chosen_other, chosen_past, chosen_none}
 use Rattle.automaton.proofs.chosen_of.Goals as goal
 

@@ -1,13 +1,12 @@
 use mathlib.Core.Path.{sym, ap, ◌∙◌}
 use mathlib.Core.List.{List, ◌∷◌}
-use Prim.Native.Nat.{◌-◌, ◌+◌}
+use Prim.Native.Nat.{◌+◌}
 use native.Mathlib.Omega.{arith}
 use lib.Dec.{ltb}
 use Rattle.basis.specs.Parts.{part}
 use Rattle.plan.specs.declared.Transition.{Transition}
 use Rattle.plan.specs.Plan.{past_move}
 use Rattle.automaton.specs.Next.{added, ways_from, next_by}
-use Rattle.automaton.specs.Inner.Scan.{rest}
 use Rattle.automaton.proofs.Laws.Scan.{rest_all, ways_here, ways_past, ways_none}
 use Rattle.automaton.proofs.next_of.Invariants.{later, kept, unkept}
 use Rattle.automaton.proofs.next_of.Goals as goal

@@ -1,10 +1,9 @@
 use Rattle.basis.specs.Inner.Tells.{holds, fails}
 use Rattle.basis.proofs.Laws.Bools.{clash}
-use Rattle.automaton.specs.Tests.{at}
 use Rattle.automaton_counts.proofs.Tools.{crowd_at, no_crowd}
 use borrow.Author.Count.{below_more}
 use mathlib.Core.Bool.{true}
-use Prim.Native.Nat.{◌-◌, ◌/◌}
+use Prim.Native.Nat.{◌/◌}
 use mathlib.Core.Path.{sym, ◌∙◌}
 use native.Mathlib.Omega.{arith}
 use Rattle.automaton_counts.proofs.crowded.Goals as goal

@@ -1,10 +1,8 @@
 use Rattle.basis.proofs.Laws.Bools.{clash as true-false}
 use Rattle.automaton_counts.proofs.Tools.{moved, move_ok, sure, fails}
-use Rattle.plan.specs.Plan.{move}
 use borrow.Author.Count.{below_more}
 use borrow.Author.Tests.{not-true, not-false}
 use mathlib.Core.Bool.{true}
-use Prim.Native.Nat.{◌-◌}
 use mathlib.Core.Path.{sym, ◌∙◌}
 use native.Mathlib.Omega.{arith}
 use mathlib.Core.Path.{ap}

@@ -1,9 +1,8 @@
 use Rattle.automaton.specs.Tests.{at}
 use Rattle.automaton_counts.proofs.Tools.{sure, fails}
 use Rattle.automaton_counts.proofs.Laws.Emits.{gives_few}
-use Rattle.automaton_counts.specs.Inner.Emits.{gives}
 use borrow.Author.Count.{below_more}
-use Prim.Native.Nat.{ℕ, ◌+◌, ◌*◌, ◌-◌}
+use Prim.Native.Nat.{ℕ, ◌+◌, ◌*◌}
 use mathlib.Core.Path.{ap}
 use native.Mathlib.Omega.{arith}
 use Rattle.automaton_counts.proofs.kept.Goals as goal

@@ -1,12 +1,11 @@
 use mathlib.Core.Path.{sym, ◌∙◌}
 use mathlib.Core.Bool.{true}
-use Prim.Native.Nat.{◌-◌, ◌/◌}
+use Prim.Native.Nat.{◌/◌}
 use native.Mathlib.Omega.{arith}
 use borrow.Author.Count.{below_more}
 use borrow.Author.Tests.{not-true, not-false}
 use Rattle.basis.specs.Inner.Tells.{holds, fails}
 use Rattle.basis.proofs.Laws.Bools.{clash}
-use Rattle.automaton.specs.Tests.{at}
 use Rattle.automaton_counts.proofs.Tools.{left_at, no_left, final_same}
 use mathlib.Core.Path.{ap}
 use mathlib.Core.Bool.{not}

@@ -1,5 +1,5 @@
 -- `apart_from` scans the transitions from number i on.
-use mathlib.Core.Path.{◌≡◌, ap}
+use mathlib.Core.Path.{◌≡◌}
 use Prim.Native.Nat.{◌-◌, ◌≤◌}
 use Rattle.automaton.specs.Number.{apart_from}
 use Rattle.automaton.specs.Inner.Scan.{rest}

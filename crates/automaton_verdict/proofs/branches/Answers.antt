@@ -1,13 +1,13 @@
 use mathlib.Core.Path.{sym, ap, ◌∙◌}
 use mathlib.Core.List.{List}
-use Prim.Native.Nat.{ℕ, ◌+◌, ◌-◌}
+use Prim.Native.Nat.{ℕ, ◌+◌}
 use native.Mathlib.Omega.{arith}
 use borrow.Author.Tests.{not-true, not-false}
 use lib.ListN.{get_or}
 use Rattle.basis.specs.Parts.{part}
 use Rattle.plan.specs.declared.Transition.{Transition}
 use Rattle.plan.specs.Plan.{past_move}
-use Rattle.automaton.specs.Number.{apart_from, branches_in, branches}
+use Rattle.automaton.specs.Number.{apart_from, branches_in}
 use Rattle.automaton.specs.Inner.Scan.{rest}
 use Rattle.automaton.proofs.Laws.Scan.{rest_all}
 use Rattle.automaton_verdict.proofs.Tools.{branches_scans, scan-other, scan_good, scan_bad, scan_done}

@@ -1,4 +1,4 @@
-use Prim.Native.Nat.{◌+◌, ◌-◌, ◌*◌, ◌/◌}
+use Prim.Native.Nat.{◌+◌, ◌*◌, ◌/◌}
 use native.Mathlib.Omega.{arith}
 use Rattle.automaton_verdict.proofs.Counting.{counting_starts, counting_past, counting_none, counting_one, counting_ends}
 use Rattle.automaton_verdict.proofs.emissions.Goals as goal

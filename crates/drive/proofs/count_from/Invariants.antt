@@ -1,6 +1,6 @@
 -- Counting the parts: those counted and those left are all.
 use mathlib.Core.Path.{◌≡◌}
-use Prim.Native.Nat.{◌+◌, ◌-◌, ◌≤◌}
+use Prim.Native.Nat.{◌+◌, ◌≤◌}
 use lib.ListN.{length}
 use Rattle.drive.specs.Drive.{parts_from}
 use Rattle.drive.proofs.count_from.Given as goal

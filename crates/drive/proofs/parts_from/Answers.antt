@@ -1,7 +1,6 @@
 use mathlib.Core.Path.{refl, sym, ◌∙◌}
 use native.Mathlib.Omega.{arith}
 use Prim.Native.Nat.{◌-◌}
-use lib.ListN.{length}
 use Rattle.wire.proofs.Laws.Puts.{puts_length}
 use Rattle.drive_records.proofs.Laws.Records.{record_length}
 use Rattle.drive.proofs.Turns.{part_ahead, turn_ends, turn_calls, turn_asks, turn_over}

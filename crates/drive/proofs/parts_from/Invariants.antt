@@ -1,6 +1,6 @@
 -- The loop over the parts. Its invariant: what puts the records of the parts that are left puts all of them.
 use mathlib.Core.Path.{◌≡◌}
-use Prim.Native.Nat.{◌+◌, ◌*◌, ◌-◌, ◌≤◌}
+use Prim.Native.Nat.{◌+◌, ◌*◌, ◌≤◌}
 use lib.ListN.{length}
 use Rattle.drive.proofs.Turns.{driven_from, Leads}
 use Rattle.drive.proofs.parts_from.Given as goal

@@ -1,7 +1,6 @@
 use mathlib.Core.List.{[]}
 use native.Mathlib.Omega.{arith}
-use Prim.Native.Nat.{◌-◌}
-use lib.ListN.{length, length-set}
+use lib.ListN.{length-set}
 use Rattle.drive_input.proofs.Filled.{fills_none, fills_more, fills_all}
 use borrow.Author.Rules.{rules}
 use Rattle.drive_input.proofs.availabilities.Goals as goal

@@ -1,13 +1,13 @@
 use native.Mathlib.Omega.{arith}
 use mathlib.Core.Path.{◌≡◌, refl, ◌∙◌, ap}
-use Prim.Native.Nat.{ℕ, ◌-◌, ◌*◌}
+use Prim.Native.Nat.{ℕ, ◌*◌}
 use lib.ListN.{length, replicate}
 use Rattle.basis.proofs.Laws.Lists.{unmapped}
 use Rattle.plan.specs.Nodes.{zero_node}
 use Rattle.plan.specs.declared.Node.{Node}
 use Rattle.held.specs.declared.HeldNode.{HeldNode}
 use Rattle.held.specs.Held.{node_of}
-use Rattle.held.specs.Inner.Plans.{nodes_upto, moves_upto}
+use Rattle.held.specs.Inner.Plans.{nodes_upto}
 use Rattle.held.proofs.Filled.{fill_turn, fill_past}
 use Rattle.held.proofs.plan_upto.Invariants.{having, none}
 use Rattle.held.proofs.plan_upto.Goals as goal

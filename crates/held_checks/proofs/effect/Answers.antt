@@ -1,6 +1,5 @@
 -- `effect` refuses a plan with a node outside the limits, and otherwise does what the checks say.
 use borrow.Author.Tests.{not-true, not-false}
-use mathlib.Core.Bool.{not}
 use Rattle.held_checks.proofs.effect.Goals as goal
 
 pub returns-then-not-nodes : goal.returns-then-not-nodes

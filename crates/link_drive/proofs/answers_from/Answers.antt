@@ -1,7 +1,6 @@
 use mathlib.Core.Path.{refl, sym, ◌∙◌}
 use native.Mathlib.Omega.{arith}
 use Prim.Native.Nat.{◌-◌}
-use lib.ListN.{length}
 use Rattle.wire.proofs.Laws.Puts.{puts_none, puts_join, puts_length}
 use Rattle.link_drive.proofs.Turns.{Found, found, none_left, answers_one, answers_length, over}
 use borrow.Author.Rules.{rules}

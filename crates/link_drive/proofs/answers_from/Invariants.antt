@@ -1,6 +1,6 @@
 -- The loop over the messages. Its invariant: what puts the answers to the messages that are left puts all of them.
 use mathlib.Core.Path.{◌≡◌}
-use Prim.Native.Nat.{◌+◌, ◌-◌, ◌≤◌}
+use Prim.Native.Nat.{◌+◌, ◌≤◌}
 use lib.ListN.{length}
 use Rattle.link_drive.specs.Inner.Answers.{answers_from}
 use Rattle.link_drive.proofs.Turns.{Leads}

@@ -1,6 +1,6 @@
 -- Counting the messages: those counted and those left are all.
 use mathlib.Core.Path.{◌≡◌}
-use Prim.Native.Nat.{◌+◌, ◌-◌, ◌≤◌}
+use Prim.Native.Nat.{◌+◌, ◌≤◌}
 use lib.ListN.{length}
 use Rattle.link_drive.specs.LinkDrive.{messages_from}
 use Rattle.link_drive.proofs.count_from.Given as goal

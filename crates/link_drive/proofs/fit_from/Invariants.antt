@@ -1,6 +1,6 @@
 -- The loop over the messages. What is free has fallen by the bytes of the answers before.
 use mathlib.Core.Path.{◌≡◌}
-use Prim.Native.Nat.{◌+◌, ◌-◌, ◌≤◌}
+use Prim.Native.Nat.{◌+◌, ◌≤◌}
 use lib.ListN.{length}
 use Rattle.link_drive.specs.Inner.Answers.{answers_from}
 use Rattle.link_drive.proofs.fit_from.Given as goal

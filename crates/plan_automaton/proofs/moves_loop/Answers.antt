@@ -1,7 +1,6 @@
 use native.Mathlib.Omega.{arith}
 use mathlib.Core.Path.{sym, ◌∙◌}
-use Prim.Native.Nat.{◌-◌}
-use lib.ListN.{length, length-set}
+use lib.ListN.{length-set}
 use native.Mathlib.Nat.{sub-zero}
 use Rattle.plan_automaton.proofs.Loops.{moves_done, moves_refused, moves_next}
 use borrow.Author.Rules.{rules}

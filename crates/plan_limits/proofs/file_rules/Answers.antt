@@ -1,7 +1,6 @@
 -- `file_rules` is what it is defined to be. Assumes nothing.
 use mathlib.Core.Path.{sym, ◌∙◌}
 use borrow.Author.Tests.{not-true, not-false}
-use borrow.Author.Rules.{rules}
 use Rattle.basis.proofs.Laws.Tells.{told_true}
 use Rattle.plan_limits.proofs.Laws.Plans.{tells_in_limits}
 use Rattle.plan_limits.specs.Limits.{file_rules}

@@ -1,7 +1,6 @@
 use native.Mathlib.Omega.{arith}
 use mathlib.Core.Path.{sym, ◌∙◌}
-use Prim.Native.Nat.{◌-◌}
-use lib.ListN.{length, length-set}
+use lib.ListN.{length-set}
 use native.Mathlib.Nat.{sub-zero}
 use Rattle.plan_nodes.proofs.Loops.{preds_done, preds_refused, preds_fall, preds_next}
 use Rattle.plan_fields.proofs.Laws.Read.{byte_most}

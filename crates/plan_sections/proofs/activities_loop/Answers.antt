@@ -1,10 +1,8 @@
 use native.Mathlib.Omega.{arith}
 use mathlib.Core.Path.{sym, ◌∙◌}
-use Prim.Native.Nat.{◌-◌}
-use lib.ListN.{length, length-set}
+use lib.ListN.{length-set}
 use native.Mathlib.Nat.{sub-zero}
 use Rattle.plan_sections.proofs.Loops.{turned}
-use Rattle.plan.specs.Nodes.{zero_node}
 use Rattle.plan.specs.Sections.{nodes_then}
 use borrow.Author.Rules.{rules}
 use Rattle.plan_sections.proofs.activities_loop.Goals as goal

@@ -5,7 +5,6 @@ use Rattle.plan_write.proofs.Answers.{breaks_rule, too_short, wrote}
 use Rattle.format.proofs.Laws.Format.{keeps_iff}
 use Rattle.plan_file.specs.PlanFile.{fault_order, plan_file}
 use Rattle.plan_file.proofs.Laws.HoldsPlan.{plan_iff}
-use borrow.Author.Rules.{rules}
 use Rattle.plan_write.proofs.write.Goals as goal
 
 pub put_plan-size-requires : goal.put_plan-size-requires

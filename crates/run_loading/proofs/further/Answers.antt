@@ -10,7 +10,7 @@ use Rattle.run_window.proofs.Laws.Placing.{placing_starts, placing_within, placi
 use Rattle.run_path.proofs.Laws.Collecting.{pathed_long}
 use Rattle.run_outcomes.proofs.Laws.Outcomes.{plan_awaits}
 use Rattle.run_loading.specs.declared.Loading.{Loading}
-use Rattle.run_loading.specs.Loading.{loading, load, further}
+use Rattle.run_loading.specs.Loading.{loading, load}
 use Rattle.run_loading.specs.Inner.Loading.{Loadable, failure_by, has_failed}
 use Rattle.run_loading.proofs.Laws.Loading.{load_failed, load_fits, load_placed, loaded_keeps, way_loads, further_over, turn_rests, turn_fails, turn_goes}
 use Rattle.run_loading.proofs.further.Invariants.{entries_of, whole}

@@ -1,5 +1,4 @@
 use mathlib.Core.Path.{sym, ◌∙◌}
-use Prim.Native.Nat.{◌-◌}
 use borrow.Author.Tests.{lt-ltb, le-ltb}
 use Rattle.run_opening.proofs.Shortest.{above_here, above_past, above_none}
 use borrow.Author.Rules.{rules}

@@ -1,5 +1,5 @@
 use mathlib.Core.Path.{sym, ◌∙◌}
-use Prim.Native.Nat.{◌-◌, ◌*◌, ◌≤◌, ◌<◌}
+use Prim.Native.Nat.{◌*◌, ◌≤◌, ◌<◌}
 use native.Mathlib.Omega.{arith}
 use Rattle.plan.specs.Plan.{size_of}
 use Rattle.run_opening.proofs.Shortest.{short_starts, short_here, short_past, short_none, low_starts, low_here, low_past, low_none}

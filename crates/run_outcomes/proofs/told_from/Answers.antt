@@ -1,5 +1,4 @@
 use mathlib.Core.Path.{sym, ◌∙◌, ap}
-use Prim.Native.Nat.{◌-◌}
 use lib.ListN.{set}
 use Rattle.run_outcomes.proofs.Telling.{told_starts, told_here, told_past, told_none}
 use borrow.Author.Rules.{rules}

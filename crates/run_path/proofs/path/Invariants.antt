@@ -3,7 +3,6 @@
 use mathlib.Core.Path.{◌≡◌}
 use Prim.Native.Nat.{◌-◌, ◌≤◌}
 use lib.ListN.{length}
-use Rattle.automaton.specs.contracts.Next as next-type
 use Rattle.activity.specs.Inner.Copied.{filled}
 use Rattle.run_path.specs.Path.{path_from}
 use Rattle.run_path.proofs.Laws.Stepping.{Walking}

@@ -1,9 +1,7 @@
-use Rattle.timetable_lines.specs.Inner.Lines.{spaced}
 use Rattle.timetable_lines.proofs.Laws.Lines.{spaced_turn, spaced_end, remains_all, remains_less}
 use Rattle.timetable_text.proofs.Laws.Digits.{decimal_length}
 use Rattle.times.specs.Times.{specified}
-use lib.ListN.{length, get_or}
-use Prim.Native.Nat.{◌-◌}
+use lib.ListN.{get_or}
 use mathlib.Core.Path.{refl, ◌∙◌}
 use native.Mathlib.Nat.{sub-zero}
 use native.Mathlib.Omega.{arith}

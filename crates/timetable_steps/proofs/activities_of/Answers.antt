@@ -1,5 +1,4 @@
 use mathlib.Core.Path.{refl}
-use Prim.Native.Nat.{◌-◌}
 use native.Mathlib.Omega.{arith}
 use Rattle.timetable_steps.proofs.Laws.Steps.{copies-more, emits}
 use Rattle.timetable_steps.proofs.activities_of.Goals as goal

@@ -1,5 +1,5 @@
 use mathlib.Core.Path.{refl, ap, ◌∙◌}
-use Prim.Native.Nat.{◌-◌, ◌/◌}
+use Prim.Native.Nat.{◌/◌}
 use native.Mathlib.Omega.{arith}
 use Rattle.timetable_steps.specs.Inner.Steps.{step_of}
 use Rattle.timetable_steps.proofs.Laws.Steps.{named, filled_more, looks}

@@ -1,7 +1,6 @@
 use Rattle.automaton.proofs.Laws.Passes.{advance_starts, advance_from, advance_steps}
 use Rattle.automaton_counts.proofs.Laws.Emits.{gives_few}
-use Rattle.automaton_counts.specs.Inner.Emits.{gives}
-use Prim.Native.Nat.{◌+◌, ◌*◌, ◌-◌}
+use Prim.Native.Nat.{◌+◌, ◌*◌}
 use mathlib.Core.Path.{◌≡◌}
 use native.Mathlib.Omega.{arith}
 use Rattle.automaton_counts.proofs.counting.advance.Goals as goal

@@ -5,7 +5,6 @@ use Rattle.automaton.proofs.Laws.Passes.{going_stays, going_stores}
 use Rattle.automaton_counts.proofs.Tools.{moved, move_ok, not_ready, flags_apart}
 use Rattle.plan.specs.Plan.{move}
 use borrow.Author.Tests.{not-true, not-false}
-use Prim.Native.Nat.{◌-◌}
 use mathlib.Core.Path.{◌≡◌, sym, ◌∙◌}
 use native.Mathlib.Omega.{arith}
 use mathlib.Core.Path.{ap}

@@ -1,8 +1,7 @@
 use lib.Seq.{get_or-set_same, get_or-set_other}
-use lib.ListN.{length, length-set}
+use lib.ListN.{length-set}
 use borrow.Author.Count.{below_more}
 use mathlib.Core.Bool.{false}
-use Prim.Native.Nat.{◌-◌}
 use mathlib.Core.Path.{refl}
 use native.Mathlib.Omega.{arith}
 use borrow.Author.Rules.{rules}

@@ -2,7 +2,6 @@ use Rattle.basis.proofs.Laws.Bools.{clash}
 use Rattle.automaton.proofs.Laws.Passes.{back_stay, back_store}
 use Rattle.automaton_counts.proofs.Tools.{moved, move_ok}
 use borrow.Author.Tests.{not-true, not-false}
-use Prim.Native.Nat.{◌-◌}
 use mathlib.Core.Path.{◌≡◌, sym, ◌∙◌}
 use native.Mathlib.Omega.{arith}
 use mathlib.Core.Path.{ap}

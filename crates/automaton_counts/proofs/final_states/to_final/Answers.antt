@@ -3,7 +3,6 @@ use Rattle.automaton.proofs.Laws.Passes.{same_back, back_starts, back_round, bac
 use borrow.Author.Tests.{not-true, not-false}
 use mathlib.Core.Bool.{false}
 use mathlib.Core.Path.{◌≡◌}
-use mathlib.Core.Bool.{not}
 use Rattle.automaton_counts.proofs.final_states.to_final.Goals as goal
 
 pub loop-a-init : goal.loop-a-init

@@ -1,7 +1,6 @@
 use native.Mathlib.Omega.{arith}
 use mathlib.Core.Path.{refl, sym, ◌∙◌}
 use mathlib.Core.List.{map-map}
-use Prim.Native.Nat.{◌-◌}
 use Rattle.held.specs.declared.HeldEntry.{HeldEntry}
 use Rattle.held.specs.Held.{entry_of, held_entry}
 use Rattle.basis.proofs.Laws.Lists.{unmapped}

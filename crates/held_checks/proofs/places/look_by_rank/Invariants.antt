@@ -1,10 +1,8 @@
 -- `look_by_rank` finds the first of each kind, by the ranks of the nodes, in the window and the nodes that their numbers stand for.
-use mathlib.Core.Path.{◌≡◌, ap}
+use mathlib.Core.Path.{◌≡◌}
 use mathlib.Core.List.{map}
-use Prim.Native.Nat.{◌-◌, ◌≤◌}
+use Prim.Native.Nat.{◌≤◌}
 use Rattle.run_window.specs.declared.Sought.{Sought}
-use Rattle.run_window.specs.Window.{rank}
-use Rattle.run_window.specs.Inner.Search.{ranked}
 use Rattle.run_window.proofs.Laws.Scans.{ranked_from}
 use Rattle.held.specs.Held.{entry_of, node_of}
 use Rattle.held_checks.proofs.places.look_by_rank.Given as goal

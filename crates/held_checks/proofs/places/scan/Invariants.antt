@@ -1,7 +1,6 @@
 -- `scan` finds the first of each kind as long as no start ties, in the window that its numbers stand for.
-use mathlib.Core.Path.{ap}
 use mathlib.Core.List.{map}
-use Prim.Native.Nat.{◌-◌, ◌≤◌}
+use Prim.Native.Nat.{◌≤◌}
 use Rattle.run_window.specs.declared.Sought.{Sought}
 use Rattle.run_window.proofs.Laws.Scans.{FirstFrom}
 use Rattle.held.specs.Held.{entry_of}

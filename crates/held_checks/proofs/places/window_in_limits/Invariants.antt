@@ -1,6 +1,6 @@
 -- `window_in_limits` is what it is defined to be, of the window that its numbers stand for. The loop's invariant: what is passed changes
 -- nothing.
-use mathlib.Core.Path.{◌≡◌, ap}
+use mathlib.Core.Path.{◌≡◌}
 use mathlib.Core.List.{map}
 use Prim.Native.Nat.{◌≤◌, ◌-◌}
 use lib.ListN.{drop}

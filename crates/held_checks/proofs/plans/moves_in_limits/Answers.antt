@@ -5,7 +5,6 @@ use native.Mathlib.Omega.{arith}
 use borrow.Author.Tests.{not-true, not-false}
 use borrow.Author.Rules.{rules}
 use lib.ListN.{get_or, length}
-use Rattle.basis.specs.Tests.{every}
 use Rattle.plan.specs.declared.Transition.{Transition}
 use Rattle.plan.specs.Plan.{past_move}
 use Rattle.plan_limits.proofs.Laws.Every.{every_on, every_off, every_end}

@@ -4,7 +4,6 @@ use Prim.Native.Nat.{◌-◌, ◌*◌, ◌/◌, ◌%◌}
 use native.Mathlib.Omega.{arith}
 use borrow.Author.Tests.{le-leb, lt-leb, not-true, not-false}
 use lib.ListN.{get_or, length}
-use Rattle.basis.specs.Tests.{every}
 use Rattle.basis.proofs.Laws.Lists.{unmapped}
 use Rattle.plan.specs.declared.Node.{Node}
 use Rattle.plan.specs.Plan.{past_node}

@@ -1,8 +1,8 @@
 -- `plans::nodes_in_limits` is what it is defined to be. The loop's invariant: what is passed changes nothing.
 -- Assumes nothing.
 use mathlib.Core.List.{map}
-use mathlib.Core.Path.{◌≡◌, ap}
-use Prim.Native.Nat.{◌-◌, ◌≤◌, ◌*◌, ◌/◌, ◌%◌}
+use mathlib.Core.Path.{◌≡◌}
+use Prim.Native.Nat.{◌≤◌, ◌*◌, ◌/◌, ◌%◌}
 use lib.ListN.{get_or}
 use Rattle.basis.specs.Tests.{every}
 use Rattle.plan.specs.Plan.{past_node}

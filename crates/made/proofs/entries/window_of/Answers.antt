@@ -1,8 +1,7 @@
 use mathlib.Core.List.{[]}
 use Rattle.made.specs.Parts.{window_of}
 use native.Mathlib.Omega.{arith}
-use Prim.Native.Nat.{◌-◌}
-use lib.ListN.{length, length-set}
+use lib.ListN.{length-set}
 use Rattle.made.specs.Layout.{entry_size, window_from}
 use Rattle.made.specs.Values.{entry_at}
 use Rattle.made.proofs.Filled.{fills_none, fills_more, fills_all}

@@ -1,7 +1,6 @@
 use mathlib.Core.List.{[]}
 use native.Mathlib.Omega.{arith}
-use Prim.Native.Nat.{◌-◌}
-use lib.ListN.{length, length-set}
+use lib.ListN.{length-set}
 use Rattle.made.specs.Layout.{time_size}
 use Rattle.made.specs.Values.{time_at}
 use Rattle.made.proofs.Filled.{fills_none, fills_more, fills_all}

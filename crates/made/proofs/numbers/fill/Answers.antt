@@ -1,6 +1,5 @@
 use mathlib.Core.List.{[]}
 use native.Mathlib.Omega.{arith}
-use Prim.Native.Nat.{◌-◌}
 use lib.ListN.{length, length-set}
 use Rattle.made.specs.Values.{byte_at}
 use Rattle.made.proofs.Filled.{fills_none, fills_more, fills_all}

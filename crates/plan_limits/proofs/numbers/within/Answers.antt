@@ -2,7 +2,6 @@ use mathlib.Core.Path.{sym}
 use native.Mathlib.Omega.{arith}
 use borrow.Author.Tests.{le-leb, lt-leb, lt-ltb, le-ltb}
 use lib.ListN.{get_or}
-use Rattle.basis.specs.Tests.{every}
 use Rattle.plan_limits.specs.Limits.{is_within, within}
 use Rattle.plan_limits.proofs.Laws.Every.{every_on, every_off, every_end}
 use Rattle.plan_limits.proofs.numbers.within.Goals as goal

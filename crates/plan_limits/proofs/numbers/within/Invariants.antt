@@ -4,7 +4,7 @@ use mathlib.Core.Path.{◌≡◌}
 use Prim.Native.Nat.{◌≤◌}
 use lib.ListN.{get_or}
 use Rattle.basis.specs.Tests.{every}
-use Rattle.plan_limits.specs.Limits.{is_within, within}
+use Rattle.plan_limits.specs.Limits.{is_within}
 use Rattle.plan_limits.proofs.numbers.within.Given as goal
 
 abbrev pub invariant-loop-left : goal.invariant-loop-left

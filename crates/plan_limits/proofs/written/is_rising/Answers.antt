@@ -5,7 +5,6 @@ use borrow.Author.Tests.{lt-ltb, le-ltb}
 use borrow.Author.Rules.{rules}
 use lib.ListN.{get_or, length, get_or-eq_default}
 use lib.Dec.{ltb}
-use Rattle.basis.specs.Tests.{every}
 use Rattle.plan_limits.proofs.Laws.Every.{every_on, every_off, every_end, every_not}
 use Rattle.plan_limits.specs.Limits.{is_rising}
 use Rattle.plan_limits.proofs.written.is_rising.Goals as goal

@@ -3,7 +3,7 @@ use mathlib.Core.Path.{refl, ◌∙◌}
 use Prim.Native.Nat.{◌-◌}
 use Rattle.wire.proofs.Laws.Puts.{puts_byte}
 use Rattle.plan_write.proofs.Laws.Left.{left_begin, left_next, left_done, node_turn, activity_turn, activity_end, few_here, few_next}
-use lib.ListN.{length, get_or}
+use lib.ListN.{get_or}
 use native.Mathlib.Nat.{sub-zero}
 use Rattle.plan.specs.Plan.{past_node}
 use Rattle.plan_write.proofs.Laws.Printed.{node_length}

@@ -1,8 +1,7 @@
 use native.Mathlib.Omega.{arith}
 use mathlib.Core.Path.{refl, ◌∙◌}
-use Prim.Native.Nat.{◌-◌}
 use Rattle.plan_write.proofs.Laws.Left.{left_begin, left_next, left_done, moves_turn, moves_end}
-use lib.ListN.{length, get_or}
+use lib.ListN.{get_or}
 use native.Mathlib.Nat.{sub-zero}
 use Rattle.plan.specs.Plan.{past_move}
 use Rattle.plan_write.proofs.Laws.Printed.{move_length}

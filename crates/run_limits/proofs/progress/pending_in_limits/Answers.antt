@@ -3,7 +3,6 @@ use Prim.Native.Nat.{◌*◌, ◌/◌, ◌%◌}
 use native.Mathlib.Omega.{arith}
 use borrow.Author.Tests.{not-true, not-false}
 use lib.ListN.{get_or}
-use Rattle.basis.specs.Tests.{every}
 use Rattle.plan_limits.proofs.Laws.Every.{every_on, every_off, every_end}
 use Rattle.run_limits.specs.Progress.{place_in_limits, pending_in_limits}
 use Rattle.times.specs.Queues.{no_instance}

@@ -2,7 +2,6 @@ use mathlib.Core.Path.{sym}
 use native.Mathlib.Omega.{arith}
 use borrow.Author.Tests.{le-leb, lt-leb}
 use lib.Dec.{leb}
-use Rattle.basis.specs.Tests.{every}
 use Rattle.plan_limits.proofs.Laws.Every.{every_on, every_off, every_end}
 use Rattle.run_limits.specs.Progress.{times_in_limits}
 use Rattle.times.specs.Times.{at}

@@ -1,7 +1,6 @@
 use mathlib.Core.Path.{◌≡◌, ◌∙◌}
 use native.Mathlib.Omega.{arith}
 use lib.ListN.{length}
-use Rattle.run_window.specs.Window.{vacancies}
 use Rattle.basis.proofs.Laws.Lists.{unmapped}
 use Rattle.run_window.proofs.Laws.Scans.{vacancies_none, vacancies_here, vacancies_past}
 use Rattle.run_window.proofs.places.vacancies.Goals as goal

@@ -1,9 +1,7 @@
 -- `look_by_rank` finds the first of each kind: from the back, the best so far is the first of the places passed.
 use mathlib.Core.Path.{◌≡◌}
-use Prim.Native.Nat.{◌-◌, ◌≤◌}
+use Prim.Native.Nat.{◌≤◌}
 use Rattle.run_window.specs.declared.Sought.{Sought}
-use Rattle.run_window.specs.Window.{rank}
-use Rattle.run_window.specs.Inner.Search.{ranked}
 use Rattle.run_window.proofs.Laws.Scans.{ranked_from}
 use Rattle.run_window.proofs.search.look_by_rank.Given as goal
 

@@ -1,5 +1,5 @@
 use mathlib.Core.Path.{sym, ◌∙◌}
-use Prim.Native.Nat.{◌-◌, ◌<◌}
+use Prim.Native.Nat.{◌<◌}
 use native.Mathlib.Omega.{arith}
 use Rattle.timetable_turns.proofs.Rows.{putting_row, putting_none, putting_ends}
 use Rattle.timetable_turns.proofs.turns.put_rows.Goals as goal
