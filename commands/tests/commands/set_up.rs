@@ -184,11 +184,15 @@ pub fn with_no_proof(mutation: Mutation) -> Answer {
     folder.apply(mutation);
     let mut rt = Command::new("rt");
     rt.arg("try").current_dir(folder.path("crates/timetable"));
-    let said = ask_within(Duration::from_secs(600), rt, b"");
+    let kept = |name: &str| fs::read(root().join("crates/timetable").join(name)).expect("it is there");
+    let said = ask_within(Duration::from_secs(600), rt, &kept("stdin"));
     let last = said.err.lines().last().unwrap_or("");
     is(
         &format!("{said:?}"),
-        said.status == Some(0) && last.starts_with("run=ended status=0 ") && last.ends_with(" proved=no"),
+        said.status == Some(0)
+            && said.out.as_bytes() == kept("stdout")
+            && last.starts_with("run=ended status=0 ")
+            && last.ends_with(" proved=no"),
     )
 }
 

@@ -1,5 +1,4 @@
--- The demands, as statements about the definitions that the contracts cite, and the theorems that carry them.
--- The proofs
+-- The demands, as statements about the definitions that the contracts cite; the theorems that carry them stand in proofs/Laws.
 -- Demand 2
 pub mod Accepted
 pub mod Alike
