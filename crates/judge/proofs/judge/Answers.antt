@@ -3,7 +3,7 @@ use mathlib.Core.Path.{sym, ◌∙◌}
 use native.Mathlib.Omega.{arith}
 use Rattle.plan.specs.declared.Verdict.{Verdict}
 use Rattle.judge.specs.Judge.{judge_of}
-use Rattle.judge.specs.Inner.Judge.{by_verdict}
+use Rattle.judge.proofs.Laws.Verdict.{by_verdict}
 use Rattle.judge.proofs.Laws.Judge.{read_limits}
 use Rattle.judge.proofs.judge.Goals as goal
 

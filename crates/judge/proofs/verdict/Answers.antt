@@ -2,7 +2,7 @@
 use mathlib.Core.Path.{sym, ◌∙◌}
 use native.Mathlib.Omega.{arith}
 use Rattle.judge.specs.Judge.{judge_of}
-use Rattle.judge.specs.Inner.Judge.{verdict_alone}
+use Rattle.judge.proofs.Laws.Verdict.{verdict_alone}
 use Rattle.judge.proofs.Laws.Judge.{read_limits}
 use Rattle.judge.proofs.verdict.Goals as goal
 
