@@ -2,43 +2,43 @@
 use mathlib.Core.Path.{◌≡◌, refl, sym, ap, ◌∙◌}
 use mathlib.Core.List.{List}
 use mathlib.Core.Logic.{◌↔◌}
-use Prim.Native.Nat.{ℕ, ◌+◌, ◌*◌}
-use native.Mathlib.Omega.{arith}
+use Prim.Native.Nat.{ℕ}
 use Rattle.basis.specs.Lists.{one}
 use Rattle.plan.specs.declared.Kind.{Kind}
 use Rattle.plan.specs.declared.Node.{Node}
 use Rattle.plan.specs.declared.Fault.{Fault}
+use Rattle.activity.specs.declared.nodes.Label.{Label}
 use Rattle.activity.specs.Rules.{Is, Before, Ordered}
 use Rattle.activity.specs.Number.{kind_of}
 use Rattle.activity.proofs.Laws.Tells.{differ}
-use Rattle.activity.specs.Inner.Sight.{label_of, held_of, Label, InLine, Alone, Claimed, Released}
+use Rattle.activity.specs.Inner.Sight.{label_of, held_of, Labelled, InLine, Alone, Claimed, Released}
 use Rattle.activity.proofs.Laws.Closure.{first_arrow, last_arrow}
 use Rattle.activity.specs.Inner.Nodes.{At}
 
 -- a label says the kind
-action_of : (k : Kind) (p : ℕ) → label_of k ≡ 4 * p → (x : ℕ) × (k ≡ Kind.Action x p)
-action_of (Kind.Action x q) p e = let d : q ≡ p = omega arith in (x, ap (Kind.Action x) d)
-action_of (Kind.Claim r) p e = absurd (omega arith)
-action_of (Kind.Release r) p e = absurd (omega arith)
-action_of (Kind.Event v) p e = absurd (omega arith)
+action_of : (k : Kind) (p : ℕ) → label_of k ≡ Label.Action p → (x : ℕ) × (k ≡ Kind.Action x p)
+action_of (Kind.Action x q) p e = let d : q ≡ p = cc in (x, ap (Kind.Action x) d)
+action_of (Kind.Claim r) p e = absurd (differ (cc))
+action_of (Kind.Release r) p e = absurd (differ (cc))
+action_of (Kind.Event v) p e = absurd (differ (cc))
 
-claim_of_lem : (k : Kind) (r : ℕ) → label_of k ≡ 4 * r + 1 → k ≡ Kind.Claim r
-claim_of_lem (Kind.Action x q) r e = absurd (omega arith)
-claim_of_lem (Kind.Claim s) r e = let d : s ≡ r = omega arith in ap Kind.Claim d
-claim_of_lem (Kind.Release s) r e = absurd (omega arith)
-claim_of_lem (Kind.Event v) r e = absurd (omega arith)
+claim_of_lem : (k : Kind) (r : ℕ) → label_of k ≡ Label.Claim r → k ≡ Kind.Claim r
+claim_of_lem (Kind.Action x q) r e = absurd (differ (cc))
+claim_of_lem (Kind.Claim s) r e = let d : s ≡ r = cc in ap Kind.Claim d
+claim_of_lem (Kind.Release s) r e = absurd (differ (cc))
+claim_of_lem (Kind.Event v) r e = absurd (differ (cc))
 
-release_of : (k : Kind) (r : ℕ) → label_of k ≡ 4 * r + 2 → k ≡ Kind.Release r
-release_of (Kind.Action x q) r e = absurd (omega arith)
-release_of (Kind.Claim s) r e = absurd (omega arith)
-release_of (Kind.Release s) r e = let d : s ≡ r = omega arith in ap Kind.Release d
-release_of (Kind.Event v) r e = absurd (omega arith)
+release_of : (k : Kind) (r : ℕ) → label_of k ≡ Label.Release r → k ≡ Kind.Release r
+release_of (Kind.Action x q) r e = absurd (differ (cc))
+release_of (Kind.Claim s) r e = absurd (differ (cc))
+release_of (Kind.Release s) r e = let d : s ≡ r = cc in ap Kind.Release d
+release_of (Kind.Event v) r e = absurd (differ (cc))
 
-event_of_lem : (k : Kind) (v : ℕ) → label_of k ≡ 4 * v + 3 → k ≡ Kind.Event v
-event_of_lem (Kind.Action x q) v e = absurd (omega arith)
-event_of_lem (Kind.Claim s) v e = absurd (omega arith)
-event_of_lem (Kind.Release s) v e = absurd (omega arith)
-event_of_lem (Kind.Event u) v e = let d : u ≡ v = omega arith in ap Kind.Event d
+event_of_lem : (k : Kind) (v : ℕ) → label_of k ≡ Label.Event v → k ≡ Kind.Event v
+event_of_lem (Kind.Action x q) v e = absurd (differ (cc))
+event_of_lem (Kind.Claim s) v e = absurd (differ (cc))
+event_of_lem (Kind.Release s) v e = absurd (differ (cc))
+event_of_lem (Kind.Event u) v e = let d : u ≡ v = cc in ap Kind.Event d
 
 module _ (belongs : ℕ → ℕ) (a : List Node) (n : ℕ) where
   -- the label of a node of kind k
@@ -46,7 +46,7 @@ module _ (belongs : ℕ → ℕ) (a : List Node) (n : ℕ) where
   labelled i = ap label_of i.kind
 
   -- two nodes that have one label
-  like : {k l : Kind} {m : ℕ} → Is a n k → Is a m l → label_of l ≡ label_of k → Label a (label_of (kind_of a n)) m
+  like : {k l : Kind} {m : ℕ} → Is a n k → Is a m l → label_of l ≡ label_of k → Labelled a (label_of (kind_of a n)) m
   like i j e = record { within = j.within; label = labelled j ∙ e ∙ sym (labelled i) }
 
   -- a kind is one kind
@@ -56,18 +56,18 @@ module _ (belongs : ℕ → ℕ) (a : List Node) (n : ℕ) where
   held : {k : Kind} → Is a n k → held_of belongs (kind_of a n) ≡ held_of belongs k
   held i = ap (held_of belongs) i.kind
 
-  claim_labelled : (k : Kind) (r : ℕ) → Is a n k → held_of belongs k ≡ r → (m : ℕ) → Label a (4 * held_of belongs (kind_of a n) + 1) m ↔ Is a m (Kind.Claim r)
+  claim_labelled : (k : Kind) (r : ℕ) → Is a n k → held_of belongs k ≡ r → (m : ℕ) → Labelled a (Label.Claim (held_of belongs (kind_of a n))) m ↔ Is a m (Kind.Claim r)
   claim_labelled k r i e m =
       let h = held i ∙ e in (
-        λ l. record { within = l.within; kind = claim_of_lem (kind_of a m) r (l.label ∙ ap (λ (s : ℕ). 4 * s + 1) h) },
-        λ j. record { within = j.within; label = labelled j ∙ ap (λ (s : ℕ). 4 * s + 1) (sym h) },
+        λ l. record { within = l.within; kind = claim_of_lem (kind_of a m) r (l.label ∙ ap Label.Claim h) },
+        λ j. record { within = j.within; label = labelled j ∙ ap Label.Claim (sym h) },
       )
 
-  release_labelled : (k : Kind) (r : ℕ) → Is a n k → held_of belongs k ≡ r → (m : ℕ) → Label a (4 * held_of belongs (kind_of a n) + 2) m ↔ Is a m (Kind.Release r)
+  release_labelled : (k : Kind) (r : ℕ) → Is a n k → held_of belongs k ≡ r → (m : ℕ) → Labelled a (Label.Release (held_of belongs (kind_of a n))) m ↔ Is a m (Kind.Release r)
   release_labelled k r i e m =
       let h = held i ∙ e in (
-        λ l. record { within = l.within; kind = release_of (kind_of a m) r (l.label ∙ ap (λ (s : ℕ). 4 * s + 2) h) },
-        λ j. record { within = j.within; label = labelled j ∙ ap (λ (s : ℕ). 4 * s + 2) (sym h) },
+        λ l. record { within = l.within; kind = release_of (kind_of a m) r (l.label ∙ ap Label.Release h) },
+        λ j. record { within = j.within; label = labelled j ∙ ap Label.Release (sym h) },
       )
 
   claimed : (k : Kind) (r : ℕ) → Is a n k → held_of belongs k ≡ r → Claimed belongs a n ↔ ((m : ℕ) × Is a m (Kind.Claim r) × Before a m n)
@@ -91,10 +91,10 @@ module _ (belongs : ℕ → ℕ) (a : List Node) (n : ℕ) where
     action_I = (to, λ h m l d. from h m l d (action_of (kind_of a m) p (l.label ∙ labelled i)))
       where
         to : InLine a n → At belongs a n Fault.ActionsUnordered
-        to h y q j m z k d = let e = one_kind i j in let s : q ≡ p = cc in h m (like i k (ap (λ (r : ℕ). 4 * r) s)) d
+        to h y q j m z k d = let e = one_kind i j in let s : q ≡ p = cc in h m (like i k (ap Label.Action s)) d
 
         from :
-            At belongs a n Fault.ActionsUnordered → (m : ℕ) → Label a (label_of (kind_of a n)) m → (m ≡ n → ⊥)
+            At belongs a n Fault.ActionsUnordered → (m : ℕ) → Labelled a (label_of (kind_of a n)) m → (m ≡ n → ⊥)
             → (z : ℕ) × (kind_of a m ≡ Kind.Action z p) → Ordered a m n
         from h m l d k = h x p i m k.0 (record { within = l.within; kind = k.1 }) d
 
@@ -128,7 +128,7 @@ module _ (belongs : ℕ → ℕ) (a : List Node) (n : ℕ) where
     pub claim_II : Alone a n ↔ At belongs a n Fault.NamedTwice
     claim_II = (
       (λ h. (
-        λ s j m k. let e = one_kind i j in let d : s ≡ r = cc in h m (like i k (ap (λ (u : ℕ). 4 * u + 1) d)),
+        λ s j m k. let e = one_kind i j in let d : s ≡ r = cc in h m (like i k (ap Label.Claim d)),
         λ s j. let e = one_kind i j in absurd (differ (cc)),
       )),
       λ h m l. h.0 r i m (record { within = l.within; kind = claim_of_lem (kind_of a m) r (l.label ∙ labelled i) }),
@@ -165,7 +165,7 @@ module _ (belongs : ℕ → ℕ) (a : List Node) (n : ℕ) where
     release_III = (
       (λ h. (
         λ s j. let e = one_kind i j in absurd (differ (cc)),
-        λ s j m k. let e = one_kind i j in let d : s ≡ r = cc in h m (like i k (ap (λ (u : ℕ). 4 * u + 2) d)),
+        λ s j m k. let e = one_kind i j in let d : s ≡ r = cc in h m (like i k (ap Label.Release d)),
       )),
       λ h m l. h.1 r i m (record { within = l.within; kind = release_of (kind_of a m) r (l.label ∙ labelled i) }),
     )
@@ -214,6 +214,6 @@ module _ (belongs : ℕ → ℕ) (a : List Node) (n : ℕ) where
 
     pub event_XI : InLine a n ↔ At belongs a n Fault.EventsUnordered
     event_XI = (
-      λ h u j m k d. let e = one_kind i j in let s : u ≡ v = cc in h m (like i k (ap (λ (r : ℕ). 4 * r + 3) s)) d,
+      λ h u j m k d. let e = one_kind i j in let s : u ≡ v = cc in h m (like i k (ap Label.Event s)) d,
       λ h m l d. h v i m (record { within = l.within; kind = event_of_lem (kind_of a m) v (l.label ∙ labelled i) }) d,
     )

@@ -1,11 +1,9 @@
 -- What the proofs of `activity` share.
 pub mod Places
 pub mod Sets
-pub mod Marking
 pub mod ByKind
 pub mod Seeing
 pub mod Numbering
 pub mod Judging
-pub mod Copying
 pub mod Verdicts
 pub mod Laws

@@ -1,20 +1,22 @@
--- Members of the used part of an array, and nodes of an activity, by their places. Assumes nothing.
+-- Members and nodes of the used part of an array, by their places. Assumes nothing.
 use mathlib.Core.Path.{◌≡◌, sym, ap, ◌∙◌, subst}
 use mathlib.Core.List.{List}
 use mathlib.Core.Logic.{◌↔◌}
-use Prim.Native.Nat.{ℕ, ◌<◌}
+use Prim.Native.Nat.{ℕ, ◌<◌, ◌≤◌}
 use native.Mathlib.Nat.{zero-add}
 use native.Mathlib.Omega.{arith}
-use lib.ListN.{length, get_or}
+use lib.ListN.{length, take, get_or}
+use Rattle.std.proofs.lemmas.List.{get_or-take, length-take-le}
 use Rattle.basis.specs.Lists.{Among}
 use Rattle.basis.specs.Parts.{part}
-use Rattle.basis.proofs.Laws.PartsHold.{among_part, part_among, length_part, get_d_part}
-use Rattle.plan.specs.Plan.{past_node, predecessors, nodes_of}
-use Rattle.plan.specs.declared.Node.{Node}
+use Rattle.basis.proofs.Laws.PartsHold.{among_part, part_among, length_part}
+use Rattle.plan.specs.Plan.{past_node, nodes_of}
 use Rattle.plan.specs.declared.Activity.{Activity}
-use Rattle.activity.specs.Rules.{node, Arrow}
-use Rattle.activity.specs.Number.{kind_of}
-use Rattle.activity.specs.Inner.Sight.{label_of, Labels}
+use Rattle.activity.proofs.Laws.Copied.{part_taken}
+
+-- a loop over the first k elements is at one of them
+pub front : {A : Type 0} (l : List A) (k i : ℕ) (d : A) → k ≤ length l → i < length (take k l) → (i < k) × (get_or (take k l) i d ≡ get_or l i d)
+front l k i d few h = let below : i < k = omega (arith, length-take-le k l few) in (below, get_or-take k l i d below)
 
 -- the members of the first k are what stands at the places below k
 pub listed : (l : List ℕ) (k m : ℕ) → Among m (part 0 l 0 k) ↔ ((i : ℕ) × (i < k) × (get_or l i 0 ≡ m))
@@ -26,22 +28,6 @@ listed l k m = (
 pub count_of : (a : Activity) → length (nodes_of a) ≡ a.count
 count_of a = length_part past_node a.nodes 0 a.count
 
-pub node_of_lem : (a : Activity) (n : ℕ) → n < a.count → node (nodes_of a) n ≡ get_or a.nodes n past_node
-node_of_lem a n l = get_d_part past_node a.nodes 0 a.count n l ∙ ap (λ (i : ℕ). get_or a.nodes i past_node) (zero-add n)
-
--- an arrow of the activity, by the array
-pub arrow_of : (a : Activity) (m n : ℕ) → n < a.count → Among m (predecessors (get_or a.nodes n past_node)) ↔ Arrow (nodes_of a) m n
-arrow_of a m n l =
-    let e = node_of_lem a n l in (
-      λ h. record { within = omega (arith, count_of a); from = subst (λ (x : Node). Among m (predecessors x)) (sym e) h },
-      λ x. subst (λ (x : Node). Among m (predecessors x)) e x.from,
-    )
-
--- the kind of a node, and the labels, by the array
-pub kind_of_lem : (a : Activity) (n : ℕ) → n < a.count → kind_of (nodes_of a) n ≡ (get_or a.nodes n past_node).kind
-kind_of_lem a n l = ap (λ (x : Node). x.kind) (node_of_lem a n l)
-
-pub labels_of :
-    (a : Activity) (r : List ℕ) → ((m : ℕ) → m < a.count → get_or r m 0 ≡ label_of (get_or a.nodes m past_node).kind)
-    → Labels (nodes_of a) r
-labels_of a r h m l = let k : m < a.count = omega (arith, count_of a) in h m k ∙ ap label_of (sym (kind_of_lem a m k))
+-- the nodes as a slice of the array
+pub front_nodes : (a : Activity) (k : ℕ) → k ≡ a.count → k ≤ length a.nodes → take k a.nodes ≡ nodes_of a
+front_nodes a k e h = part_taken past_node a.nodes 0 k (omega arith) ∙ ap (part past_node a.nodes 0) e

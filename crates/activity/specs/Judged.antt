@@ -1,9 +1,8 @@
 -- What a finding says of an activity, over the statements of `Rules`.
-use Rattle.std.specs.Prelude.{List, ℕ, ◌<◌}
+use Rattle.std.specs.Prelude.{List, ℕ, ◌<◌, Result, Ok, Err}
 use Rattle.plan.specs.Fault.{number_of}
 use Rattle.plan.specs.declared.Node.{Node}
 use Rattle.plan.specs.declared.Fault.{Fault}
-use Rattle.activity.specs.declared.Finding.{Finding}
 use Rattle.activity.specs.Rules.{NoCycle, RuleI, RuleII, RuleIII, RuleIV, RuleV, RuleVI, RuleVII, RuleVIII, RuleIX, RuleX, RuleXI, Meets}
 
 -- "11 cycle; 12 breaks I; 13 breaks II or III; 14 IV or V; 15 VI or VII; 16 VIII or IX; 17 X; 18 XI"; no other number is an activity's
@@ -37,6 +36,6 @@ pub record First (belongs : ℕ → ℕ) (a : List Node) (f : Fault) : Type 0 wh
   pub earlier : (g : Fault) → number_of g < number_of f → Rule belongs a g
 
 -- no fault: the activity meets all rules; a fault: it is the first
-abbrev pub Judged : (ℕ → ℕ) → List Node → Finding → Type 0
-Judged belongs a Finding.Good = Meets belongs a
-Judged belongs a (Finding.Bad f) = First belongs a f
+abbrev pub Judged : (ℕ → ℕ) → List Node → Result (Unit {0}) Fault → Type 0
+Judged belongs a (Ok u) = Meets belongs a
+Judged belongs a (Err f) = First belongs a f

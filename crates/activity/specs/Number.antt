@@ -1,14 +1,13 @@
 -- The fault of an activity, as a computation: each rule of `Rules` as a test, in document 01's order of numbers.
 -- `words` holds, for each node, the word of the nodes before it.
-use Rattle.std.specs.Prelude.{List, Bool, true, false, not, ◌&&◌, ◌||◌, ℕ, zero, suc, ◌+◌, length, get_or, eqb}
+use Rattle.std.specs.Prelude.{List, Bool, true, false, not, ◌&&◌, ◌||◌, ℕ, zero, suc, ◌+◌, length, get_or, eqb, Result, Ok, Err}
 use Rattle.basis.specs.Tests.{every, some}
 use Rattle.plan.specs.Plan.{predecessors, resource_of, activity_of}
 use Rattle.plan.specs.declared.Kind.{Kind}
 use Rattle.plan.specs.declared.Node.{Node}
 use Rattle.plan.specs.declared.Plan.{Plan}
 use Rattle.plan.specs.declared.Fault.{Fault}
-use Rattle.plan.specs.declared.Verdict.{Verdict}
-use Rattle.activity.specs.declared.Finding.{Finding}
+use Rattle.plan.specs.Verdict.{Verdict, faulty}
 use Rattle.activity.specs.Rules.{node}
 use Rattle.activity.specs.Tests.{implies, none, bit, is_action, is_claim, is_release, is_event, of_action, of_claim, of_release, of_event, before_words}
 
@@ -71,12 +70,12 @@ unfoldable pub rule_xi : List ℕ → List Node → Bool
 rule_xi words a = every (length a) (λ n. of_event (kind_of a n) (λ e. every (length a) (λ m. implies (is_event e (kind_of a m)) (eqb m n || ordered words m n))))
 
 -- the fault if the rule is broken, and otherwise what comes next
-abbrev pub unless : Bool → Fault → Finding → Finding
+abbrev pub unless : Bool → Fault → Result (Unit {0}) Fault → Result (Unit {0}) Fault
 unless true f next = next
-unless false f next = Finding.Bad f
+unless false f next = Err f
 
 -- "11 cycle; 12 breaks I; 13 breaks II or III; 14 IV or V; 15 VI or VII; 16 VIII or IX; 17 X; 18 XI"
-unfoldable pub fault_by : (ℕ → ℕ) → List ℕ → List Node → Finding
+unfoldable pub fault_by : (ℕ → ℕ) → List ℕ → List Node → Result (Unit {0}) Fault
 fault_by belongs words a =
     unless (no_cycle words a) Fault.Cycle
     (unless (rule_i words a) Fault.ActionsUnordered
@@ -86,20 +85,20 @@ fault_by belongs words a =
     (unless (rule_viii a && rule_ix words a) Fault.ArrowPastEnd
     (unless (rule_x a) Fault.EventFirst
     (unless (rule_xi words a) Fault.EventsUnordered
-    Finding.Good)))))))
+    (Ok tt))))))))
 
 -- the fault of an activity; `belongs` gives the resource of each peripheral
-unfoldable pub fault_of : (ℕ → ℕ) → List Node → Finding
+unfoldable pub fault_of : (ℕ → ℕ) → List Node → Result (Unit {0}) Fault
 fault_of belongs a = fault_by belongs (before_words a) a
 
 -- a fault of activity i, or the verdict on the activities after it
-abbrev pub or_next : Finding → ℕ → Verdict → Verdict
-or_next Finding.Good i next = next
-or_next (Finding.Bad f) i next = Verdict.Refused f i
+abbrev pub or_next : Result (Unit {0}) Fault → ℕ → Verdict → Verdict
+or_next (Ok u) i next = next
+or_next (Err f) i next = faulty f i
 
 -- the k activities from i on
 unfoldable pub verdict_from : Plan → ℕ → ℕ → Verdict
-verdict_from p i zero = Verdict.Accepted
+verdict_from p i zero = Ok tt
 verdict_from p i (suc k) = or_next (fault_of (resource_of p) (activity_of p i)) i (verdict_from p (i + 1) k)
 
 -- "Then activities in order, place = activity"

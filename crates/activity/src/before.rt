@@ -1,9 +1,9 @@
 // "Before" of an activity as words, one of ancestors for each node, by Warshall's algorithm.
-ghost use Rattle.std.specs.Prelude.{◌≡◌, ◌↔◌, ℕ, ◌<◌, ◌≤◌, length};
+ghost use Rattle.std.specs.Prelude.{◌↔◌, ℕ, ◌<◌, ◌≤◌, length};
 ghost use Rattle.basis.specs.Lists.{Among};
 ghost use Rattle.plan.specs.Plan.{predecessors, nodes_of};
 ghost use Rattle.activity.specs.Rules.{Arrow};
-ghost use Rattle.activity.specs.Inner.Fits.{NodeFits, Fits};
+ghost use Rattle.activity.specs.Inner.Fits.{NodeFits, NodesFit, Fits};
 ghost use Rattle.activity.specs.Inner.Bits.{Bit};
 ghost use Rattle.activity.specs.Inner.Closure.{Rel, Closure, Through};
 
@@ -15,42 +15,33 @@ fn row_of(node: Node) -> u64
     requires { NodeFits node }
     ensures { (m : ℕ) → Bit result m ↔ Among m (predecessors node) }
 {
-    let c = node.count as usize;
     let mut w: u64 = 0;
-    let mut j: usize = 0;
-    while j < c {
-        w = with(w, node.preds[j] as usize);
-        j += 1;
+    for m in &node.preds[..usize::from(node.count)] {
+        w = with(w, usize::from(*m));
     }
     w
 }
 
-// The words of an activity's arrows.
-fn arrows(activity: Activity) -> [u64; 64]
-    requires { Fits activity }
-    ensures { (m n : ℕ) → Rel result m n ↔ Arrow (nodes_of activity) m n }
+// The words of the arrows between nodes.
+fn arrows(nodes: &[Node]) -> [u64; 64]
+    requires { NodesFit nodes.now }
+    ensures { (m n : ℕ) → Rel result m n ↔ Arrow nodes.now m n }
 {
-    let count = activity.count as usize;
     let mut r = [0u64; 64];
-    let mut n: usize = 0;
-    while n < count {
-        r[n] = row_of(activity.nodes[n]);
-        n += 1;
+    for (n, node) in nodes.iter().enumerate() {
+        r[n] = row_of(*node);
     }
     r
 }
 
-// A pass through node k over the words of the first `count` nodes.
-fn through(r: &mut [u64; 64], k: usize, count: usize)
-    requires { (k < count) × (count ≤ 64) × (length r.old ≡ 64) }
-    ensures { Through r.old k count r.new × (length r.new ≡ 64) }
+// A pass through node k over the words of all nodes.
+fn through(r: &mut [u64], k: usize)
+    requires { (k < length r.old) × (length r.old ≤ 64) }
+    ensures { Through r.old k (length r.old) r.new }
 {
     let row = r[k];
-    let mut i: usize = 0;
-    while i < count {
-        let w = r[i];
-        r[i] = step(w, row, k);
-        i += 1;
+    for w in r {
+        *w = step(*w, row, k);
     }
 }
 
@@ -59,12 +50,10 @@ pub fn closure(activity: Activity) -> [u64; 64]
     requires { Fits activity }
     ensures { Closure (nodes_of activity) result }
 {
-    let count = activity.count as usize;
-    let mut r = arrows(activity);
-    let mut k: usize = 0;
-    while k < count {
-        through(&mut r, k, count);
-        k += 1;
+    let count = usize::from(activity.count);
+    let mut r = arrows(&activity.nodes[..count]);
+    for k in 0..count {
+        through(&mut r[..count], k);
     }
     r
 }

@@ -1,5 +1,5 @@
 // Words of 64 bits as sets of the numbers 0 to 63.
-ghost use Rattle.std.specs.Prelude.{◌≡◌, true, ◌⊎◌, ◌↔◌, ℕ, ◌<◌};
+ghost use Rattle.std.specs.Prelude.{◌≡◌, true, false, ◌⊎◌, ◌↔◌, ℕ, ◌<◌, ◌≤◌};
 ghost use Rattle.basis.specs.Inner.Tells.{Tells};
 ghost use Rattle.activity.specs.Inner.Bits.{Bit};
 ghost use Rattle.activity.specs.Inner.Closure.{Stepped};
@@ -20,12 +20,18 @@ pub(crate) fn with(w: u64, m: usize) -> u64
     w | (1 << m)
 }
 
-// w with bit m set if b.
-pub(crate) fn marked(w: u64, m: usize, b: bool) -> u64
-    requires { m < 64 }
-    ensures { (j : ℕ) → Bit result j ↔ (Bit w j ⊎ ((j ≡ m) × (b ≡ true))) }
+// The word of the numbers below count that pass.
+pub(crate) fn filtered<P: Fn(usize) -> bool>(count: usize, passes: P) -> u64
+    requires { (count ≤ 64) × ((m : ℕ) → m < count → P.pre passes m) }
+    ensures { (m : ℕ) → (Bit result m → (m < count) × P.post passes m true) × (m < count → Bit result m ⊎ P.post passes m false) }
 {
-    if b { with(w, m) } else { w }
+    let mut w: u64 = 0;
+    for m in 0..count {
+        if passes(m) {
+            w = with(w, m);
+        }
+    }
+    w
 }
 
 // w, and row too where w has bit k.

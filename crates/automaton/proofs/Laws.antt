@@ -3,6 +3,7 @@ pub mod Cases
 pub mod Counts
 pub mod OnPaths
 pub mod Passes
+pub mod Ranges
 pub mod Scan
 pub mod Tests
 pub mod Bounds

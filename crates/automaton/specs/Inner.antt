@@ -2,4 +2,3 @@
 pub mod Counts
 pub mod OnPaths
 pub mod Passes
-pub mod Scan

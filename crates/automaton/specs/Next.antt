@@ -1,11 +1,10 @@
 -- What a state does next, and the transition that an outcome takes.
-use Rattle.std.specs.Prelude.{Bool, true, false, cond, ◌&&◌, List, [], ◌∷◌, ℕ, ◌+◌, eqb}
+use Rattle.std.specs.Prelude.{Bool, true, false, cond, ◌&&◌, List, [], ◌∷◌, ℕ, ◌+◌, eqb, Option, None, Some}
 use Rattle.plan.specs.declared.Input.{Input}
 use Rattle.plan.specs.declared.Transition.{Transition}
 use Rattle.plan.specs.declared.Automaton.{Automaton}
 use Rattle.plan.specs.Plan.{move, moves_of}
 use Rattle.automaton.specs.declared.Next.{Next}
-use Rattle.automaton.specs.declared.Chosen.{Chosen}
 
 -- i before the others, where the test holds
 abbrev pub added : Bool → ℕ → List ℕ → List ℕ
@@ -51,10 +50,10 @@ carries Input.Nothing e o = false
 carries (Input.Outcome f q) e o = eqb f e && eqb q o
 
 -- the first of the transitions, numbered from i, that leaves state s and processes event e with outcome o
-unfoldable pub chosen_from : List Transition → ℕ → ℕ → ℕ → ℕ → Chosen
-chosen_from [] s e o i = Chosen.Nothing
-chosen_from (t ∷ ts) s e o i = cond (eqb t.from s && carries t.input e o) (Chosen.Move i) (chosen_from ts s e o (i + 1))
+unfoldable pub chosen_from : List Transition → ℕ → ℕ → ℕ → ℕ → Option ℕ
+chosen_from [] s e o i = None
+chosen_from (t ∷ ts) s e o i = cond (eqb t.from s && carries t.input e o) (Some i) (chosen_from ts s e o (i + 1))
 
 -- the transition that state s takes when event e has outcome o
-abbrev pub chosen_of : Automaton → ℕ → ℕ → ℕ → Chosen
+abbrev pub chosen_of : Automaton → ℕ → ℕ → ℕ → Option ℕ
 chosen_of a s e o = chosen_from (moves_of a) s e o 0

@@ -1,5 +1,6 @@
 -- The verdict on the automaton, worked out: numbers 21 to 26 with their places, each over all states before the next.
-use Rattle.std.specs.Prelude.{Bool, true, false, not, cond, ◌&&◌, List, [], ◌∷◌, ℕ, zero, suc, ◌+◌, ◌-◌, ◌*◌, eqb, leb, ltb, set, replicate}
+use Rattle.std.specs.Prelude.{Bool, true, false, not, cond, ◌&&◌, List, [], ◌∷◌, ℕ, zero, suc, ◌+◌, ◌-◌, ◌*◌, eqb, leb, ltb, set, replicate, Ok}
+use Rattle.std.specs.Option.{is_some}
 use Rattle.basis.specs.Tests.{falses}
 use Rattle.basis.specs.Tests.{flag}
 use Rattle.plan.specs.declared.Input.{Input}
@@ -8,10 +9,9 @@ use Rattle.plan.specs.declared.Transition.{Transition}
 use Rattle.plan.specs.declared.Automaton.{Automaton}
 use Rattle.plan.specs.declared.Plan.{Plan}
 use Rattle.plan.specs.declared.Fault.{Fault}
-use Rattle.plan.specs.declared.Verdict.{Verdict}
+use Rattle.plan.specs.Verdict.{Verdict, faulty}
 use Rattle.plan.specs.Plan.{move, moves_of, is_final, outcomes_of}
 use Rattle.automaton.specs.declared.Next.{Next}
-use Rattle.automaton.specs.declared.Chosen.{Chosen}
 use Rattle.automaton.specs.declared.Explored.{Explored}
 use Rattle.automaton.specs.Tests.{at, all}
 use Rattle.automaton.specs.Rules.{takes, emits}
@@ -53,14 +53,10 @@ branches_in (t ∷ ts) s = cond (eqb t.from s) (apart_from t.input ts s && branc
 abbrev pub branches : Automaton → ℕ → Bool
 branches a s = branches_in (moves_of a) s
 
-abbrev pub is_move : Chosen → Bool
-is_move Chosen.Nothing = false
-is_move (Chosen.Move i) = true
-
 abbrev pub serves_next : Automaton → (ℕ → ℕ) → ℕ → Next → Bool
 serves_next a outcomes s Next.Ended = true
 serves_next a outcomes s (Next.Goes i) = true
-serves_next a outcomes s (Next.Waits e) = all (outcomes e) (λ q. is_move (chosen_of a s e q))
+serves_next a outcomes s (Next.Waits e) = all (outcomes e) (λ q. is_some (chosen_of a s e q))
 
 -- 23: a state that processes an event has a transition for each outcome of it
 unfoldable pub serves : Automaton → (ℕ → ℕ) → ℕ → Bool
@@ -139,8 +135,8 @@ few a x = all a.states (λ s. cond (flag x.reached s) (all 16 (λ e. leb (at x.c
 unfoldable pub judge_counts : Automaton → (Output → ℕ → ℕ) → Explored → Verdict
 judge_counts a gives x =
     cond (keeps a gives x && clear a x)
-    (cond (few a x) Verdict.Accepted (Verdict.Refused Fault.TooManyPending 0))
-    (Verdict.Refused Fault.Unbalanced 0)
+    (cond (few a x) (Ok tt) (faulty Fault.TooManyPending 0))
+    (faulty Fault.Unbalanced 0)
 
 -- numbers 25 and 26
 unfoldable pub path_verdict : Automaton → (Output → ℕ → ℕ) → Verdict
@@ -150,7 +146,7 @@ path_verdict a gives = judge_counts a gives (explored a gives)
 
 -- the fault at the lowest state that fails the test; otherwise what comes after
 abbrev pub or_else : Automaton → Fault → ℕ → Verdict → Verdict
-or_else a f s after = cond (ltb s a.states) (Verdict.Refused f s) after
+or_else a f s after = cond (ltb s a.states) (faulty f s) after
 
 -- numbers 24 to 26
 unfoldable pub way_verdict : Automaton → (Output → ℕ → ℕ) → Verdict

@@ -1,11 +1,11 @@
 -- "What the automaton must satisfy", in the words and the order of document 01, and what each of the numbers 21 to 26 means.
-use Rattle.std.specs.Prelude.{◌≡◌, true, ℕ, ◌+◌, ◌-◌, ◌≤◌, ◌<◌}
+use Rattle.std.specs.Prelude.{◌≡◌, true, ℕ, ◌+◌, ◌-◌, ◌≤◌, ◌<◌, Ok}
 use Rattle.plan.specs.declared.Input.{Input}
 use Rattle.plan.specs.declared.Output.{Output}
 use Rattle.plan.specs.declared.Automaton.{Automaton}
 use Rattle.plan.specs.declared.Plan.{Plan}
 use Rattle.plan.specs.declared.Fault.{Fault}
-use Rattle.plan.specs.declared.Verdict.{Verdict}
+use Rattle.plan.specs.Verdict.{Verdict, faulty}
 use Rattle.plan.specs.Plan.{move, is_final, outcomes_of, emitted_by, events_in, once}
 
 -- ---- states and transitions
@@ -139,11 +139,11 @@ pub record Breaks26 (a : Automaton) (gives : Output → ℕ → ℕ) : Type 0 wh
 -- 22 forbidden branch; 23 missing outcome; 24 no path to a final state; 25 processed unemitted or left over, place 0;
 -- 26 more than 8 pending, place 0."
 pub data Judges (p : Plan) : Verdict → Type 0 where
-  number21 : {s : ℕ} → LowestAtFault p.automaton (NoWayOut p.automaton) s → Judges p (Verdict.Refused Fault.WayOutOfFinal s)
-  number22 : {s : ℕ} → Rule21 p → LowestAtFault p.automaton (Branches p.automaton) s → Judges p (Verdict.Refused Fault.ForbiddenBranch s)
-  number23 : {s : ℕ} → Rule21 p → Rule22 p → LowestAtFault p.automaton (Serves p.automaton (outcomes_of p)) s → Judges p (Verdict.Refused Fault.OutcomeMissing s)
-  number24 : {s : ℕ} → Rule21 p → Rule22 p → Rule23 p → LowestAtFault p.automaton (ToFinal p.automaton) s → Judges p (Verdict.Refused Fault.NoWayToFinal s)
-  number25 : Rule21 p → Rule22 p → Rule23 p → Rule24 p → Breaks25 p.automaton (emits p) → Judges p (Verdict.Refused Fault.Unbalanced 0)
+  number21 : {s : ℕ} → LowestAtFault p.automaton (NoWayOut p.automaton) s → Judges p (faulty Fault.WayOutOfFinal s)
+  number22 : {s : ℕ} → Rule21 p → LowestAtFault p.automaton (Branches p.automaton) s → Judges p (faulty Fault.ForbiddenBranch s)
+  number23 : {s : ℕ} → Rule21 p → Rule22 p → LowestAtFault p.automaton (Serves p.automaton (outcomes_of p)) s → Judges p (faulty Fault.OutcomeMissing s)
+  number24 : {s : ℕ} → Rule21 p → Rule22 p → Rule23 p → LowestAtFault p.automaton (ToFinal p.automaton) s → Judges p (faulty Fault.NoWayToFinal s)
+  number25 : Rule21 p → Rule22 p → Rule23 p → Rule24 p → Breaks25 p.automaton (emits p) → Judges p (faulty Fault.Unbalanced 0)
   number26 : Rule21 p → Rule22 p → Rule23 p → Rule24 p → (Breaks25 p.automaton (emits p) → ⊥) → Breaks26 p.automaton (emits p)
-      → Judges p (Verdict.Refused Fault.TooManyPending 0)
-  accepted : MeetsAutomaton p → Judges p Verdict.Accepted
+      → Judges p (faulty Fault.TooManyPending 0)
+  accepted : MeetsAutomaton p → Judges p (Ok tt)

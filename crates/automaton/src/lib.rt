@@ -4,7 +4,6 @@
 ghost use Rattle.std.specs.Prelude.{◌≡◌, ◌≤◌};
 ghost use Rattle.automaton.specs.Next.{on_input, first_of, next_of, carries, chosen_of};
 
-use basis::u16_to_usize;
 use plan::{Automaton, Input};
 
 // What a state does next.
@@ -18,14 +17,8 @@ pub enum Next {
     Waits(u8),
 }
 
-// The transition taken on an outcome, if the state has one.
-#[derive(Clone, Copy)]
-pub enum Chosen {
-    Nothing,
-    Move(u16),
-}
-
-// The states that paths from the initial one reach, and at 16 * state + event how many are pending there.
+// The states that paths from the initial one reach, and at 16 * state + event how many are pending there. One list of flags and one of
+// counts, since `explored` and `fits` of specs/Number.antt read them so.
 #[derive(Clone, Copy)]
 pub struct Explored {
     pub reached: [bool; 64],
@@ -46,15 +39,10 @@ pub fn first_of(a: Automaton, s: u8) -> Next
     requires { a.count ≤ 256 }
     ensures { result ≡ first_of a s }
 {
-    let count = u16_to_usize(a.count);
-    let mut i: usize = 0;
-    while i < count {
-        let t = a.moves[i];
+    for (i, t) in a.moves[..usize::from(a.count)].iter().enumerate() {
         if t.from == s {
-            let input = t.input;
-            return on_input(input, i as u16);
+            return on_input(t.input, i as u16);
         }
-        i += 1;
     }
     Next::Ended
 }
@@ -64,56 +52,37 @@ pub fn next_of(a: Automaton, s: u8) -> Next
     requires { a.count ≤ 256 }
     ensures { result ≡ next_of a s }
 {
-    let count = u16_to_usize(a.count);
-    let mut first = count;
-    let mut i: usize = 0;
-    while i < count {
-        let here = i;
-        let t = a.moves[i];
-        i += 1;
+    let mut first = None;
+    for (i, t) in a.moves[..usize::from(a.count)].iter().enumerate() {
         if t.from != s {
             continue;
         }
-        if first < count {
-            let t = a.moves[first];
-            let input = t.input;
-            return on_input(input, first as u16);
+        if let Some((f, input)) = first {
+            return on_input(input, f);
         }
-        first = here;
+        first = Some((i as u16, t.input));
     }
-    if first < count {
-        return Next::Goes(first as u16);
+    match first {
+        Some((f, _)) => Next::Goes(f),
+        None => Next::Ended,
     }
-    Next::Ended
 }
 
 fn carries(input: Input, e: u8, o: u8) -> bool
     ensures { result ≡ carries input e o }
 {
-    match input {
-        Input::Nothing => false,
-        Input::Outcome(f, q) => { if f == e { q == o } else { false } }
-    }
+    matches!(input, Input::Outcome(f, q) if f == e && q == o)
 }
 
-// The first transition of the state that processes event e with outcome o.
-pub fn chosen_of(a: Automaton, s: u8, e: u8, o: u8) -> Chosen
+// The first transition of the state that processes event e with outcome o, if the state has one.
+pub fn chosen_of(a: Automaton, s: u8, e: u8, o: u8) -> Option<u16>
     requires { a.count ≤ 256 }
     ensures { result ≡ chosen_of a s e o }
 {
-    let count = u16_to_usize(a.count);
-    let mut i: usize = 0;
-    while i < count {
-        let here = i;
-        let t = a.moves[i];
-        i += 1;
-        if t.from != s {
-            continue;
-        }
-        let input = t.input;
-        if carries(input, e, o) {
-            return Chosen::Move(here as u16);
+    for (i, t) in a.moves[..usize::from(a.count)].iter().enumerate() {
+        if t.from == s && carries(t.input, e, o) {
+            return Some(i as u16);
         }
     }
-    Chosen::Nothing
+    None
 }

@@ -1,5 +1,5 @@
-// A number in a wider type: one function for each pair of widths. `b[u8_to_usize(i)]` asks of i only what the index asks, where
-// `b[i as usize]` asks too that i fits.
+// A number in a wider type: one function for each pair of widths. The library's `usize::from` and the like say the same, and the crates
+// above call those; these stand for must-fail/one_more.edit, which keeps its name and its place.
 #![tactic(auto)]
 
 ghost use Rattle.std.specs.Prelude.{◌≡◌};

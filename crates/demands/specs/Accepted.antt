@@ -1,5 +1,5 @@
 -- Demand 2, acceptance: "A plan is accepted if and only if it meets the definitions; nothing is repaired."
-use Rattle.std.specs.Prelude.{◌≡◌, List, ◌++◌, ◌↔◌, ℕ, ◌≤◌, ◌<◌, length, drop}
+use Rattle.std.specs.Prelude.{◌≡◌, List, ◌++◌, ◌↔◌, ℕ, ◌≤◌, ◌<◌, length, drop, Ok}
 use Rattle.plan.specs.Plan.{activity_of, resource_of}
 use Rattle.plan.specs.declared.Plan.{Plan}
 use Rattle.format.specs.Format.{Holds, print, result}
@@ -9,7 +9,6 @@ use Rattle.activity.specs.Rules.{Meets}
 use Rattle.automaton.specs.Rules.{MeetsAutomaton}
 use Rattle.judge.specs.Judge.{accepted, judge_of}
 use Rattle.plan_write.specs.Writing.{written_of, buffer_of}
-use Rattle.plan_write.specs.declared.Written.{Written}
 
 -- what a plan and its bytes must meet
 pub record Accepts (bytes : List ℕ) (p : Plan) : Type 0 where
@@ -35,4 +34,4 @@ StatementLongest = (bytes : List ℕ) (p : Plan) → Bytes bytes → judge_of by
 abbrev pub StatementWrittenBack : Type 0
 StatementWrittenBack =
     (bytes out : List ℕ) (p : Plan) → Bytes bytes → judge_of bytes ≡ accepted p → length bytes ≤ length out
-    → (written_of p out ≡ Written.Bytes (length bytes)) × (buffer_of p out ≡ bytes ++ drop (length bytes) out)
+    → (written_of p out ≡ Ok (length bytes)) × (buffer_of p out ≡ bytes ++ drop (length bytes) out)

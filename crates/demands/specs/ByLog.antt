@@ -1,6 +1,6 @@
 -- The answer to the next call, from plan, Ψ, slack, word, times and log alone: "every number of an opening or a call, and done,
 -- occurs in its stated condition and order and in no other", over what a host can write down itself.
-use Rattle.std.specs.Prelude.{◌≡◌, true, cond, List, [], ◌∷◌, ℕ, ◌+◌, ◌≤◌, ◌<◌}
+use Rattle.std.specs.Prelude.{◌≡◌, true, cond, List, [], ◌∷◌, ℕ, ◌+◌, ◌≤◌, ◌<◌, Option, Some, None}
 use Rattle.plan.specs.Plan.{is_final, outcomes_of}
 use Rattle.plan.specs.declared.Kind.{Kind}
 use Rattle.plan.specs.declared.Plan.{Plan}
@@ -156,7 +156,7 @@ pub data Asks (k : Known) : Call → Reply → Type 0 where
 
 -- ---- loading after the outcome of c ends with f: the report counts. No state awaits a marker, so nothing is loaded after its report
 
-abbrev pub After : Known → Call → Failure → Type 0
+abbrev pub After : Known → Call → Option Failure → Type 0
 After k c f = (v : List ℕ) × Loads k.plan k.available (said c Reply.Taken ∷ k.log) k.word v f
 
 pub data Halts (k : Known) : Call → Stop → Type 0 where
@@ -167,13 +167,13 @@ pub data Halts (k : Known) : Call → Stop → Type 0 where
   -- "naming the one with the earliest start"; ties as in Served
   number41 : {c : Call} {p n : ℕ} → NotOverdue k (reading c) → FirstServed k (Late k (reading c)) (id p n) → Halts k c (Stop.Late p n)
   -- "if loading after it fails the answer is stopped"
-  number43 : {t : Clock} {p n o : ℕ} (e : ℕ) → Learns k (Call.Outcome t p n o) o e → After k (Call.Outcome t p n o) Failure.Full → Halts k (Call.Outcome t p n o) Stop.Full
-  number44 : {t : Clock} {p n o : ℕ} (e : ℕ) → Learns k (Call.Outcome t p n o) o e → After k (Call.Outcome t p n o) Failure.Beyond → Halts k (Call.Outcome t p n o) Stop.Beyond
+  number43 : {t : Clock} {p n o : ℕ} (e : ℕ) → Learns k (Call.Outcome t p n o) o e → After k (Call.Outcome t p n o) (Some Failure.Full) → Halts k (Call.Outcome t p n o) Stop.Full
+  number44 : {t : Clock} {p n o : ℕ} (e : ℕ) → Learns k (Call.Outcome t p n o) o e → After k (Call.Outcome t p n o) (Some Failure.Beyond) → Halts k (Call.Outcome t p n o) Stop.Beyond
 
 -- "An accepted report is taken"
 pub data Takes (k : Known) : Call → Type 0 where
   completion : {t : Clock} {p n : ℕ} (x : Id) (h : Kind) → Reports k (Call.Completion t p n) x h → IsAction h → Takes k (Call.Completion t p n)
-  outcome : {t : Clock} {p n o : ℕ} (e : ℕ) → Learns k (Call.Outcome t p n o) o e → After k (Call.Outcome t p n o) Failure.None → Takes k (Call.Outcome t p n o)
+  outcome : {t : Clock} {p n o : ℕ} (e : ℕ) → Learns k (Call.Outcome t p n o) o e → After k (Call.Outcome t p n o) None → Takes k (Call.Outcome t p n o)
 
 -- the condition of each reply
 abbrev pub Answered : Known → Call → Reply → Type 0

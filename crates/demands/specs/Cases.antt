@@ -1,8 +1,8 @@
 -- "K1 to K12 are shown about the definitions by one claim over a list of them."
-use Rattle.std.specs.Prelude.{◌≡◌, List, [], ◌∷◌, ◌++◌, ℕ}
+use Rattle.std.specs.Prelude.{◌≡◌, List, [], ◌∷◌, ◌++◌, ℕ, Ok, Err}
 use Rattle.time.specs.declared.Clock.{Clock}
 use Rattle.plan.specs.Fault.{number_of}
-use Rattle.plan.specs.declared.Verdict.{Verdict}
+use Rattle.plan.specs.Verdict.{Verdict}
 use Rattle.judge.specs.Judge.{judge_of}
 use Rattle.run.specs.declared.Run.{Run}
 use Rattle.run.specs.declared.Reply.{Reply}
@@ -43,8 +43,8 @@ pub data Result : Type 0 where
   stop : ℕ → Result
 
 abbrev pub of_verdict : Verdict → Result
-of_verdict Verdict.Accepted = accepted
-of_verdict (Verdict.Refused f place) = refused (number_of f) place
+of_verdict (Ok u) = accepted
+of_verdict (Err e) = refused (number_of e.fault) e.place
 
 abbrev pub of_opening : Opening → Result
 of_opening Opening.Opened = opened

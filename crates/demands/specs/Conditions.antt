@@ -1,6 +1,6 @@
 -- "every number of an opening or a call, and done, occurs in its stated condition and order and in no other": the
 -- condition of each reply to a call. The run is any run, a made-up one too.
-use Rattle.std.specs.Prelude.{◌≡◌, Bool, true, false, ◌↔◌, ℕ, ◌+◌, ◌≤◌, ◌<◌, get_or}
+use Rattle.std.specs.Prelude.{◌≡◌, Bool, true, false, ◌↔◌, ℕ, ◌+◌, ◌≤◌, ◌<◌, get_or, Option, Some, None}
 use Rattle.time.specs.Time.{to_clock}
 use Rattle.time.specs.declared.Clock.{Clock}
 use Rattle.plan.specs.Plan.{is_final, outcomes_of}
@@ -9,7 +9,6 @@ use Rattle.run_window.specs.declared.Entry.{Entry}
 use Rattle.run_window.specs.declared.Phase.{Phase}
 use Rattle.run_window.specs.Window.{vacant, is_held, starts_before, ends_before, by_start}
 use Rattle.run.specs.declared.Run.{Run}
-use Rattle.run_checks.specs.declared.Halt.{Halt}
 use Rattle.run_checks.specs.declared.Stop.{Stop}
 use Rattle.run.specs.declared.Call.{Call}
 use Rattle.run.specs.declared.Reply.{Reply}
@@ -62,7 +61,7 @@ pub record FirstOf (run : Run) (P : ℕ → Type 0) (goes : Entry → Entry → 
 -- neither 50 nor a kept stop
 pub record Going (run : Run) : Type 0 where
   pub limits : RunInLimits run
-  pub going : run.halt ≡ Halt.Going
+  pub going : run.halt ≡ None
 
 -- nor 51
 pub record Rises (run : Run) (t : Clock) : Type 0 where
@@ -129,7 +128,7 @@ pub record Decides (run : Run) (t : Clock) (p n o i e : ℕ) : Type 0 where
 
 -- how loading after that outcome ends: a run made up by the host has no word, so it is quoted here. Of an opened run ByLog says
 -- it over the word and the log, of any run Laws/LoadingFails path by path
-abbrev pub loading_after : Run → Clock → ℕ → ℕ → ℕ → Failure
+abbrev pub loading_after : Run → Clock → ℕ → ℕ → ℕ → Option Failure
 loading_after run t o i e = (further most_pending (cleared run t i (told_of run.progress e (entry_at run i) o))).failure
 
 -- ---- refused
@@ -153,7 +152,7 @@ pub data Refuses (run : Run) : Call → Refusal → Type 0 where
 
 pub data Halts (run : Run) : Call → Stop → Type 0 where
   -- "A call to a stopped run .. answers the stop."
-  kept : {c : Call} {s : Stop} → RunInLimits run → run.halt ≡ Halt.Stopped s → Halts run c s
+  kept : {c : Call} {s : Stop} → RunInLimits run → run.halt ≡ Some s → Halts run c s
   -- "naming the one with the earliest completion"
   number42 : {c : Call} (i : ℕ) → Rises run (reading_of c) → FirstOf run (OverdueAt run (reading_of c)) ends_before i
       → Halts run c (Stop.Overdue (entry_at run i).position (entry_at run i).node)
@@ -161,8 +160,8 @@ pub data Halts (run : Run) : Call → Stop → Type 0 where
   number41 : {c : Call} (i : ℕ) → NotOverdue run (reading_of c) → FirstOf run (LateAt run (reading_of c)) (starts_before run.plan.nodes) i
       → Halts run c (Stop.Late (entry_at run i).position (entry_at run i).node)
   -- "if loading after it fails the answer is stopped"
-  number43 : {t : Clock} {p n o : ℕ} (i e : ℕ) → Decides run t p n o i e → loading_after run t o i e ≡ Failure.Full → Halts run (Call.Outcome t p n o) Stop.Full
-  number44 : {t : Clock} {p n o : ℕ} (i e : ℕ) → Decides run t p n o i e → loading_after run t o i e ≡ Failure.Beyond → Halts run (Call.Outcome t p n o) Stop.Beyond
+  number43 : {t : Clock} {p n o : ℕ} (i e : ℕ) → Decides run t p n o i e → loading_after run t o i e ≡ Some Failure.Full → Halts run (Call.Outcome t p n o) Stop.Full
+  number44 : {t : Clock} {p n o : ℕ} (i e : ℕ) → Decides run t p n o i e → loading_after run t o i e ≡ Some Failure.Beyond → Halts run (Call.Outcome t p n o) Stop.Beyond
 
 -- ---- ask
 
@@ -184,7 +183,7 @@ pub data Asks (run : Run) : Call → Reply → Type 0 where
 
 pub data Takes (run : Run) : Call → Type 0 where
   completion : {t : Clock} {p n : ℕ} (i : ℕ) → Reports run (Call.Completion t p n) i → IsAction (kind_of run (entry_at run i)) → Takes run (Call.Completion t p n)
-  outcome : {t : Clock} {p n o : ℕ} (i e : ℕ) → Decides run t p n o i e → loading_after run t o i e ≡ Failure.None → Takes run (Call.Outcome t p n o)
+  outcome : {t : Clock} {p n o : ℕ} (i e : ℕ) → Decides run t p n o i e → loading_after run t o i e ≡ None → Takes run (Call.Outcome t p n o)
   -- a marker's "report closes the node and is not queued"
   marker : {t : Clock} {p n o : ℕ} (i e : ℕ) → Learns run t p n o i e → outcomes_of run.plan e ≡ 1 → Takes run (Call.Outcome t p n o)
 

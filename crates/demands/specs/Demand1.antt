@@ -1,8 +1,7 @@
 -- Demand 1, and what "Strength of the contracts" asks besides, as statements.
-use Rattle.std.specs.Prelude.{◌≡◌, true, List, [], ◌∷◌, ℕ}
+use Rattle.std.specs.Prelude.{◌≡◌, true, List, [], ◌∷◌, ℕ, Some}
 use Rattle.time.specs.declared.Clock.{Clock}
 use Rattle.run.specs.declared.Run.{Run}
-use Rattle.run_checks.specs.declared.Halt.{Halt}
 use Rattle.run_checks.specs.declared.Stop.{Stop}
 use Rattle.run.specs.declared.Call.{Call}
 use Rattle.run.specs.declared.Reply.{Reply}
@@ -22,11 +21,11 @@ StatementRefusedUnchanged = (run : Run) (c : Call) (f : Refusal) → (call_of ru
 -- "A call to a stopped run does too, and answers the stop."
 abbrev pub StatementStopKept : Type 0
 StatementStopKept =
-    (run : Run) (s : Stop) (c : Call) → run_in_limits run ≡ true → run.halt ≡ Halt.Stopped s → call_of run c ≡ answer (Reply.Stopped s) run
+    (run : Run) (s : Stop) (c : Call) → run_in_limits run ≡ true → run.halt ≡ Some s → call_of run c ≡ answer (Reply.Stopped s) run
 
 -- every stop is kept: the run that an answered stop hands back is stopped by it
 abbrev pub StatementStopsStay : Type 0
-StatementStopsStay = (run : Run) (s : Stop) (c : Call) → (call_of run c).reply ≡ Reply.Stopped s → (call_of run c).run.halt ≡ Halt.Stopped s
+StatementStopsStay = (run : Run) (s : Stop) (c : Call) → (call_of run c).reply ≡ Reply.Stopped s → (call_of run c).run.halt ≡ Some s
 
 -- calls that are all answered r
 abbrev pub answered : Reply → List Call → Log → Log

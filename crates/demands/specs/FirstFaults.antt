@@ -2,9 +2,10 @@
 -- what `judge` answers. The fields, their order and their faults are those of the file's description (planfile/PlanFile).
 use Rattle.std.specs.Prelude.{◌≡◌, List, ◌↔◌, ℕ, ◌+◌, ◌≤◌, ◌<◌, length}
 use Rattle.plan.specs.Fault.{number_of}
+use Rattle.plan.specs.Fields.{faulty}
 use Rattle.plan.specs.Reading.{read_plan}
 use Rattle.plan.specs.declared.Fault.{Fault}
-use Rattle.plan.specs.declared.Verdict.{Verdict}
+use Rattle.plan.specs.Verdict.{faulty}
 use Rattle.format.specs.Format.{FirstFault, Refuses}
 use Rattle.format.specs.Writing.{Agree}
 use Rattle.plan_file.specs.PlanFile.{fault_order, plan_file}
@@ -13,12 +14,12 @@ use Rattle.demands.specs.Accepted.{Bytes}
 
 -- the file is refused with f at k, and f is one of 1 to 8
 abbrev pub Unread : List ℕ → Fault → ℕ → Type 0
-Unread b f k = ((judge_of b).verdict ≡ Verdict.Refused f k) × (number_of f ≤ 8)
+Unread b f k = ((judge_of b).verdict ≡ faulty f k) × (number_of f ≤ 8)
 
 -- reading refuses with exactly the first fault of the first faulty field, or with 6 where the fields end before the bytes do
 abbrev pub StatementRefusedExactly : Type 0
 StatementRefusedExactly =
-    (b : List ℕ) (f : Fault) (k : ℕ) → Bytes b → ((read_plan b).verdict ≡ Verdict.Refused f k) ↔ Refuses 1 fault_order 6 b plan_file (number_of f) k
+    (b : List ℕ) (f : Fault) (k : ℕ) → Bytes b → (read_plan b ≡ faulty f k) ↔ Refuses 1 fault_order 6 b plan_file (number_of f) k
 
 -- and so does `judge` with 1 to 8: what follows reading answers 11 to 26 alone
 abbrev pub StatementUnread : Type 0

@@ -1,9 +1,8 @@
 -- A host in C or Rust: what the exported functions answer to any opening and any list of calls, each given the bytes of the run
 -- that the one before left.
-use Rattle.std.specs.Prelude.{◌≡◌, true, List, [], ◌∷◌, map, ◌↔◌, ℕ}
+use Rattle.std.specs.Prelude.{◌≡◌, true, List, [], ◌∷◌, map, ◌↔◌, ℕ, Some}
 use Rattle.basis.specs.Lists.{Among}
 use Rattle.judge.specs.Judge.{judge_of}
-use Rattle.run_checks.specs.declared.Halt.{Halt}
 use Rattle.run_checks.specs.declared.Stop.{Stop}
 use Rattle.run.specs.declared.Call.{Call}
 use Rattle.run.specs.declared.Reply.{Reply}
@@ -101,7 +100,7 @@ pub record HeldUnchanged (h : Held) (c : Call) : Type 0 where
   -- a refused call
   pub refused : (replied h c).kind ≡ 5 → left_by h c ≡ h
   -- a call to a run that keeps a stop
-  pub stopped : (s : Stop) → (run_of h).halt ≡ Halt.Stopped s → left_by h c ≡ h
+  pub stopped : (s : Stop) → (run_of h).halt ≡ Some s → left_by h c ≡ h
   -- and every call leaves the plan's
   pub plan : (left_by h c).plan ≡ h.plan
 
@@ -116,7 +115,7 @@ pub record Stays (h : Held) (r : HostReply) (cs : List Call) : Type 0 where
 -- a run in limits that keeps a stop answers it, whatever calls come
 abbrev pub StatementHostStopKept : Type 0
 StatementHostStopKept =
-    (h : Held) (s : Stop) → run_in_limits (run_of h) ≡ true → (run_of h).halt ≡ Halt.Stopped s → (cs : List Call)
+    (h : Held) (s : Stop) → run_in_limits (run_of h) ≡ true → (run_of h).halt ≡ Some s → (cs : List Call)
     → Stays h (told_of (Reply.Stopped s)) cs
 
 -- and every stop is kept: after kind 6 all calls get the same reply

@@ -1,5 +1,5 @@
 -- "50 a run in which a stored count, number or time lies outside this paper's or its plan's limits": a run in limits.
-use Rattle.std.specs.Prelude.{◌≡◌, true, ◌↔◌, ℕ, ◌≤◌, ◌<◌}
+use Rattle.std.specs.Prelude.{◌≡◌, true, ◌↔◌, ℕ, ◌≤◌, ◌<◌, Option, Some, None}
 use Rattle.time.specs.Time.{horizon}
 use Rattle.plan.specs.Plan.{size_of}
 use Rattle.plan.specs.Limits.{InLimits}
@@ -9,7 +9,6 @@ use Rattle.run_path.specs.Pathed.{ProgressIn}
 use Rattle.run_window.specs.Places.{Holds}
 use Rattle.run_window.specs.declared.Entry.{Entry}
 use Rattle.run.specs.declared.Run.{Run}
-use Rattle.run_checks.specs.declared.Halt.{Halt}
 use Rattle.run_checks.specs.declared.Stop.{Stop}
 use Rattle.run.specs.declared.Call.{Call}
 use Rattle.run.specs.Limits.{run_in_limits}
@@ -30,9 +29,9 @@ StopInLimits (Stop.Overdue p n) = (p ≤ last_position) × (n < 64)
 StopInLimits Stop.Full = Unit {0}
 StopInLimits Stop.Beyond = Unit {0}
 
-abbrev pub HaltInLimits : Halt → Type 0
-HaltInLimits Halt.Going = Unit {0}
-HaltInLimits (Halt.Stopped s) = StopInLimits s
+abbrev pub HaltInLimits : Option Stop → Type 0
+HaltInLimits None = Unit {0}
+HaltInLimits (Some s) = StopInLimits s
 
 -- all that a run stores, but for the last reading, which is any number
 pub record RunInLimits (run : Run) : Type 0 where

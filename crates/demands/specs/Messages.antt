@@ -1,6 +1,6 @@
 -- Request (a), messages of the host link: what each means, each number in its condition and in no other, and that a bad message
 -- never reaches the run.
-use Rattle.std.specs.Prelude.{◌≡◌, List, [], ◌∷◌, ◌++◌, ◌↔◌, ℕ, ◌-◌, ◌≤◌, ◌<◌, length, get_or, take, drop}
+use Rattle.std.specs.Prelude.{◌≡◌, List, [], ◌∷◌, ◌++◌, ◌↔◌, ℕ, ◌-◌, ◌≤◌, ◌<◌, length, get_or, take, drop, Result, Ok, Err}
 use Rattle.wire.specs.Number.{bytes_of}
 use Rattle.time.specs.declared.Clock.{Clock}
 use Rattle.run.specs.declared.Run.{Run}
@@ -15,12 +15,9 @@ use Rattle.run.specs.Opening.{open_of}
 use Rattle.judge.specs.Judge.{judge_of}
 use Rattle.link_messages.specs.declared.Message.{Message}
 use Rattle.link_messages.specs.declared.NotSent.{NotSent}
-use Rattle.link_messages.specs.declared.Sent.{Sent}
 use Rattle.format.specs.Format.{print}
 use Rattle.link_messages.specs.Message.{length_of, Direction, message}
 use Rattle.link_messages.specs.Writing.{Fits, number_of, place_of, sent_of, buffer_of}
-use Rattle.link_calls.specs.declared.CallRead.{CallRead}
-use Rattle.link_calls.specs.declared.AnswerRead.{AnswerRead}
 use Rattle.link_calls.specs.Calls.{to_board, of_call, encode_call, read_call}
 use Rattle.link_calls.specs.Replies.{to_host, of_reply, encode_reply, read_answer}
 use Rattle.link.specs.Receive.{receive_of}
@@ -67,17 +64,17 @@ StatementReplyBytes = (r : Reply) → encode_reply r ≡ reply_bytes r
 -- ---- reading: bytes are read as a call, or reply, whose numbers their fields hold exactly where they are its bytes
 
 abbrev pub StatementCallMessage : Type 0
-StatementCallMessage = (b : List ℕ) → Bytes b → (c : Call) → Fits (of_call c) → (read_call b ≡ CallRead.Call c) ↔ (encode_call c ≡ b)
+StatementCallMessage = (b : List ℕ) → Bytes b → (c : Call) → Fits (of_call c) → (read_call b ≡ Ok c) ↔ (encode_call c ≡ b)
 
 abbrev pub StatementAnswerMessage : Type 0
-StatementAnswerMessage = (b : List ℕ) → Bytes b → (r : Reply) → Fits (of_reply r) → (read_answer b ≡ AnswerRead.Reply r) ↔ (encode_reply r ≡ b)
+StatementAnswerMessage = (b : List ℕ) → Bytes b → (r : Reply) → Fits (of_reply r) → (read_answer b ≡ Ok r) ↔ (encode_reply r ≡ b)
 
 -- whatever call, or reply, bytes are read as, they are its bytes
 abbrev pub StatementCallWritten : Type 0
-StatementCallWritten = (b : List ℕ) → Bytes b → (c : Call) → read_call b ≡ CallRead.Call c → encode_call c ≡ b
+StatementCallWritten = (b : List ℕ) → Bytes b → (c : Call) → read_call b ≡ Ok c → encode_call c ≡ b
 
 abbrev pub StatementReplyWritten : Type 0
-StatementReplyWritten = (b : List ℕ) → Bytes b → (r : Reply) → read_answer b ≡ AnswerRead.Reply r → encode_reply r ≡ b
+StatementReplyWritten = (b : List ℕ) → Bytes b → (r : Reply) → read_answer b ≡ Ok r → encode_reply r ≡ b
 
 -- ---- 62, then 61
 
@@ -133,16 +130,16 @@ pub record UnlistedAnswer (b : List ℕ) : Type 0 where
   pub unlisted : AnswerMap (get_or b 0 0) (last_of b) → ⊥
 
 abbrev pub StatementCallLength62 : Type 0
-StatementCallLength62 = (b : List ℕ) → (read_call b ≡ CallRead.Refused Refusal.Length) ↔ WrongLength b
+StatementCallLength62 = (b : List ℕ) → (read_call b ≡ Err Refusal.Length) ↔ WrongLength b
 
 abbrev pub StatementCallUnlisted61 : Type 0
-StatementCallUnlisted61 = (b : List ℕ) → (read_call b ≡ CallRead.Refused Refusal.Unlisted) ↔ UnlistedCall b
+StatementCallUnlisted61 = (b : List ℕ) → (read_call b ≡ Err Refusal.Unlisted) ↔ UnlistedCall b
 
 abbrev pub StatementAnswerLength62 : Type 0
-StatementAnswerLength62 = (b : List ℕ) → (read_answer b ≡ AnswerRead.Refused Refusal.Length) ↔ WrongLength b
+StatementAnswerLength62 = (b : List ℕ) → (read_answer b ≡ Err Refusal.Length) ↔ WrongLength b
 
 abbrev pub StatementAnswerUnlisted61 : Type 0
-StatementAnswerUnlisted61 = (b : List ℕ) → (read_answer b ≡ AnswerRead.Refused Refusal.Unlisted) ↔ UnlistedAnswer b
+StatementAnswerUnlisted61 = (b : List ℕ) → (read_answer b ≡ Err Refusal.Unlisted) ↔ UnlistedAnswer b
 
 -- the two refusals of a message
 pub data OfMessage : Refusal → Type 0 where
@@ -151,32 +148,32 @@ pub data OfMessage : Refusal → Type 0 where
 
 -- a message is refused by no other, and these have the numbers 61 and 62
 pub record OnlyThese : Type 0 where
-  pub call : (b : List ℕ) (f : Refusal) → read_call b ≡ CallRead.Refused f → OfMessage f
-  pub answer : (b : List ℕ) (f : Refusal) → read_answer b ≡ AnswerRead.Refused f → OfMessage f
+  pub call : (b : List ℕ) (f : Refusal) → read_call b ≡ Err f → OfMessage f
+  pub answer : (b : List ℕ) (f : Refusal) → read_answer b ≡ Err f → OfMessage f
   pub is61 : refusal_number Refusal.Unlisted ≡ 61
   pub is62 : refusal_number Refusal.Length ≡ 62
 
 -- ---- writing: "for a writer too, place 0, before 36"
 
 -- Good says that the direction has the message
-pub data Sends (Good : Type 0) (s : Message) (out : List ℕ) : Sent → Type 0 where
-  unlisted : (Good → ⊥) → Sends Good s out (Sent.Refused NotSent.Unlisted)
-  short : Good → length out < length_of s.map → Sends Good s out (Sent.Refused NotSent.TooShort)
-  written : Good → length_of s.map ≤ length out → Sends Good s out (Sent.Bytes (length_of s.map))
+pub data Sends (Good : Type 0) (s : Message) (out : List ℕ) : Result ℕ NotSent → Type 0 where
+  unlisted : (Good → ⊥) → Sends Good s out (Err NotSent.Unlisted)
+  short : Good → length out < length_of s.map → Sends Good s out (Err NotSent.TooShort)
+  written : Good → length_of s.map ≤ length out → Sends Good s out (Ok (length_of s.map))
 
 abbrev pub StatementSentCall : Type 0
-StatementSentCall = (s : Message) (out : List ℕ) (w : Sent) → (sent_of to_board s out ≡ w) ↔ Sends (CallMap s.map) s out w
+StatementSentCall = (s : Message) (out : List ℕ) (w : Result ℕ NotSent) → (sent_of to_board s out ≡ w) ↔ Sends (CallMap s.map) s out w
 
 abbrev pub StatementSentAnswer : Type 0
-StatementSentAnswer = (s : Message) (out : List ℕ) (w : Sent) → (sent_of to_host s out ≡ w) ↔ Sends (AnswerMap s.map s.number) s out w
+StatementSentAnswer = (s : Message) (out : List ℕ) (w : Result ℕ NotSent) → (sent_of to_host s out ≡ w) ↔ Sends (AnswerMap s.map s.number) s out w
 
 -- In either direction a refusal leaves the buffer as it was. A message stands at its front, as the description writes it, which of a
 -- call or a reply is `encode_call`, `encode_reply`; the buffer is as long as before, and its bytes after the message are unchanged.
 pub record Lent (d : Direction) (s : Message) (out : List ℕ) : Type 0 where
-  pub refused : (n : NotSent) → sent_of d s out ≡ Sent.Refused n → buffer_of d s out ≡ out
-  pub front : (n : ℕ) → sent_of d s out ≡ Sent.Bytes n → take n (buffer_of d s out) ≡ print (message d) s
-  pub behind : (n : ℕ) → sent_of d s out ≡ Sent.Bytes n → drop n (buffer_of d s out) ≡ drop n out
-  pub as_long : (n : ℕ) → sent_of d s out ≡ Sent.Bytes n → length (buffer_of d s out) ≡ length out
+  pub refused : (n : NotSent) → sent_of d s out ≡ Err n → buffer_of d s out ≡ out
+  pub front : (n : ℕ) → sent_of d s out ≡ Ok n → take n (buffer_of d s out) ≡ print (message d) s
+  pub behind : (n : ℕ) → sent_of d s out ≡ Ok n → drop n (buffer_of d s out) ≡ drop n out
+  pub as_long : (n : ℕ) → sent_of d s out ≡ Ok n → length (buffer_of d s out) ≡ length out
 
 abbrev pub StatementLent : Type 0
 StatementLent = (d : Direction) (s : Message) (out : List ℕ) → Lent d s out
@@ -189,19 +186,19 @@ pub record WriterNumbers : Type 0 where
 
 -- the message of a call, and that of a reply, never gives 61
 pub record Never61 : Type 0 where
-  pub call : (c : Call) (out : List ℕ) → sent_of to_board (of_call c) out ≡ Sent.Refused NotSent.Unlisted → ⊥
-  pub reply : (r : Reply) (out : List ℕ) → sent_of to_host (of_reply r) out ≡ Sent.Refused NotSent.Unlisted → ⊥
+  pub call : (c : Call) (out : List ℕ) → sent_of to_board (of_call c) out ≡ Err NotSent.Unlisted → ⊥
+  pub reply : (r : Reply) (out : List ℕ) → sent_of to_host (of_reply r) out ≡ Err NotSent.Unlisted → ⊥
 
 -- ---- "a bad message never reaches the run"
 
 -- of every run, a stopped one, a made-up one and the run of zeros too
 pub record Receives (run : Run) (b : List ℕ) : Type 0 where
   -- a bad message is refused by 62 or 61 and hands back the run exactly as it came in
-  pub bad : (f : Refusal) → read_call b ≡ CallRead.Refused f → receive_of run b ≡ refuse run f
+  pub bad : (f : Refusal) → read_call b ≡ Err f → receive_of run b ≡ refuse run f
   -- and 62 and 61 are answered to bad messages alone
-  pub only : (f : Refusal) → OfMessage f → (receive_of run b).reply ≡ Reply.Refused f → read_call b ≡ CallRead.Refused f
+  pub only : (f : Refusal) → OfMessage f → (receive_of run b).reply ≡ Reply.Refused f → read_call b ≡ Err f
   -- a good one is the call that it says
-  pub good : (c : Call) → read_call b ≡ CallRead.Call c → receive_of run b ≡ call_of run c
+  pub good : (c : Call) → read_call b ≡ Ok c → receive_of run b ≡ call_of run c
 
 abbrev pub StatementBadMessage : Type 0
 StatementBadMessage = (run : Run) (b : List ℕ) → Receives run b
@@ -209,9 +206,9 @@ StatementBadMessage = (run : Run) (b : List ℕ) → Receives run b
 -- ---- lists of messages
 
 -- a message that says a call enters the log with its answer, a bad one does not
-abbrev pub entered : CallRead → Reply → Log → Log
-entered (CallRead.Call c) r log = said c r ∷ log
-entered (CallRead.Refused f) r log = log
+abbrev pub entered : Result Call Refusal → Reply → Log → Log
+entered (Ok c) r log = said c r ∷ log
+entered (Err f) r log = log
 
 -- a run driven by messages, each given the run that the one before left
 abbrev pub receive_all : Log → Run → List (List ℕ) → Driven
@@ -219,9 +216,9 @@ receive_all log run [] = record { log = log; run = run }
 receive_all log run (b ∷ bs) = receive_all (entered (read_call b) (receive_of run b).reply log) (receive_of run b).run bs
 
 -- the calls among them, in order
-abbrev pub with_call : CallRead → List Call → List Call
-with_call (CallRead.Call c) cs = c ∷ cs
-with_call (CallRead.Refused f) cs = cs
+abbrev pub with_call : Result Call Refusal → List Call → List Call
+with_call (Ok c) cs = c ∷ cs
+with_call (Err f) cs = cs
 
 abbrev pub calls_among : List (List ℕ) → List Call
 calls_among [] = []
@@ -240,9 +237,9 @@ StatementLinkDemand3 =
 -- ---- the answers of the exported list
 
 -- of the replies to a list of messages those of the messages that say a call
-abbrev pub kept_for : CallRead → Reply → List Reply → List Reply
-kept_for (CallRead.Call c) r later = r ∷ later
-kept_for (CallRead.Refused f) r later = later
+abbrev pub kept_for : Result Call Refusal → Reply → List Reply → List Reply
+kept_for (Ok c) r later = r ∷ later
+kept_for (Err f) r later = later
 
 abbrev pub to_calls : List (List ℕ) → List Reply → List Reply
 to_calls [] replies = []
@@ -257,7 +254,7 @@ replies_of (y ∷ log) later = replies_of log (y.reply ∷ later)
 -- one answer for each message; a bad one is answered by its refusal, and the answers to those that say a call are the log's, in order
 pub record LinkAnswers (run : Run) (bs : List (List ℕ)) : Type 0 where
   pub each : length (replies_from run bs) ≡ length bs
-  pub bad : (i : ℕ) → i < length bs → (f : Refusal) → read_call (get_or bs i []) ≡ CallRead.Refused f → get_or (replies_from run bs) i Reply.Wait ≡ Reply.Refused f
+  pub bad : (i : ℕ) → i < length bs → (f : Refusal) → read_call (get_or bs i []) ≡ Err f → get_or (replies_from run bs) i Reply.Wait ≡ Reply.Refused f
   pub calls : to_calls bs (replies_from run bs) ≡ replies_of (receive_all [] run bs).log []
 
 abbrev pub StatementLinkAnswers : Type 0

@@ -1,12 +1,12 @@
 -- "every number of an opening or a call, and done, occurs in its stated condition and order and in no other": the
 -- condition of each answer to an opening, over its bytes, Ψ, slack and availabilities and the words of its plan.
-use Rattle.std.specs.Prelude.{◌≡◌, List, ◌↔◌, ℕ, ◌≤◌, ◌<◌, length, get_or}
+use Rattle.std.specs.Prelude.{◌≡◌, List, ◌↔◌, ℕ, ◌≤◌, ◌<◌, length, get_or, Ok}
 use Rattle.time.specs.Time.{horizon}
 use Rattle.time.specs.declared.Clock.{Clock}
 use Rattle.plan.specs.Plan.{activity_of}
 use Rattle.plan.specs.declared.Fault.{Fault}
 use Rattle.plan.specs.declared.Plan.{Plan}
-use Rattle.plan.specs.declared.Verdict.{Verdict}
+use Rattle.plan.specs.Verdict.{faulty}
 use Rattle.judge.specs.Judge.{judge_of}
 use Rattle.activity.specs.Rules.{node}
 use Rattle.run.specs.declared.Unopened.{Unopened}
@@ -55,7 +55,7 @@ module _ (bytes : List ℕ) where
 
   -- neither a fault of the plan nor 30
   pub record Counted (ts : List ℕ) : Type 0 where
-    pub accepted : Judged bytes Verdict.Accepted
+    pub accepted : Judged bytes (Ok tt)
     pub each : length ts ≡ plan_of.resources
 
   -- nor 31
@@ -81,9 +81,9 @@ module _ (bytes : List ℕ) where
 -- "Opening checks run 30 to 33, then 44, 43 as refusals.": after the plan's own faults
 pub data OpensBy (bytes : List ℕ) (psi : Clock) (slack : ℕ) (ts : List ℕ) : Opening → Type 0 where
   -- "The plan's author": its fault and place
-  author : {f : Fault} {place : ℕ} → Judged bytes (Verdict.Refused f place) → OpensBy bytes psi slack ts (Opening.Refused (Unopened.Plan f place))
+  author : {f : Fault} {place : ℕ} → Judged bytes (faulty f place) → OpensBy bytes psi slack ts (Opening.Refused (Unopened.Plan f place))
   -- "30 wrong number of availabilities"
-  number30 : Judged bytes Verdict.Accepted → (length ts ≡ (plan_of bytes).resources → ⊥) → OpensBy bytes psi slack ts (Opening.Refused Unopened.Availabilities)
+  number30 : Judged bytes (Ok tt) → (length ts ≡ (plan_of bytes).resources → ⊥) → OpensBy bytes psi slack ts (Opening.Refused Unopened.Availabilities)
   number31 : Counted bytes ts → TimeAbove psi ts → OpensBy bytes psi slack ts (Opening.Refused Unopened.Time)
   number32 : InTime bytes psi ts → SlackOutside slack → OpensBy bytes psi slack ts (Opening.Refused Unopened.Slack)
   number33 : WithSlack bytes psi slack ts → {a : ℕ} → LowestShort (plan_of bytes) slack a → OpensBy bytes psi slack ts (Opening.Refused (Unopened.Short a))

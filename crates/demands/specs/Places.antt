@@ -1,7 +1,7 @@
 -- Request (h), "Fewer copies when a path is loaded": "loading must not move nodes that are already in the window. A node keeps its
 -- place from its loading to its report; the nodes of a new path, by position and then node, take the lowest free places, one just
 -- reported included. No reply changes in any list as in demand 3." A node's place is its index of 512.
-use Rattle.std.specs.Prelude.{◌≡◌, List, [], ◌∷◌, ◌++◌, ◌⊎◌, ℕ, ◌<◌, length, get_or, take}
+use Rattle.std.specs.Prelude.{◌≡◌, List, [], ◌∷◌, ◌++◌, ◌⊎◌, ℕ, ◌<◌, length, get_or, take, None}
 use Rattle.time.specs.declared.Clock.{Clock}
 use Rattle.plan.specs.declared.Plan.{Plan}
 use Rattle.automaton.specs.Next.{next_of}
@@ -16,7 +16,6 @@ use Rattle.run_path.specs.Path.{path_from, longest_path}
 use Rattle.run_opening.specs.Given.{at_first, availabilities}
 use Rattle.run_outcomes.specs.Told.{told_of}
 use Rattle.run_outcomes.specs.Way.{way_on}
-use Rattle.run_loading.specs.declared.Failure.{Failure}
 use Rattle.run.specs.declared.Run.{Run}
 use Rattle.run.specs.declared.Call.{Call}
 use Rattle.run.specs.declared.Reply.{Reply}
@@ -83,7 +82,7 @@ path_of run next = (path_from run.plan longest_path next run.progress).entries
 -- a path that is loaded: neither 44 nor 43 came
 abbrev pub StatementLowestPlaces : Type 0
 StatementLowestPlaces =
-    (run : Run) (next : Next) → (load run next).failure ≡ Failure.None → InLowest run.window (path_of run next) (load run next).run.window
+    (run : Run) (next : Next) → (load run next).failure ≡ None → InLowest run.window (path_of run next) (load run next).run.window
 
 -- "the next is loaded in the call that reports the awaited outcome, and further ones while their outcomes are already reported":
 -- the transition that begins the next path, if its outcome is reported
@@ -93,7 +92,7 @@ way_from run = way_on run.plan.automaton run.progress (next_of run.plan.automato
 -- several paths, one after the other, each into the lowest places that are free by then; the last leaves the window v
 pub data OneByOne : Run → List Entry → Type 0 where
   no_more : {run : Run} → OneByOne run run.window
-  and_then : {run : Run} {v : List Entry} (t : ℕ) → way_from run ≡ Next.Goes t → (load run (Next.Goes t)).failure ≡ Failure.None
+  and_then : {run : Run} {v : List Entry} (t : ℕ) → way_from run ≡ Next.Goes t → (load run (Next.Goes t)).failure ≡ None
       → InLowest run.window (path_of run (Next.Goes t)) (load run (Next.Goes t)).run.window → OneByOne (load run (Next.Goes t)).run v → OneByOne run v
 
 -- "one just reported included": the paths that an outcome loads go into the window with the reported place cleared. After a

@@ -1,10 +1,9 @@
 -- "Needle motors first": which of two nodes with one specified start is served first, at an ask and by stop 41. "Ties in specified start
 -- now go by peripheral number, events after all actions, then position, then node."
-use Rattle.std.specs.Prelude.{◌≡◌, true, ◌⊎◌, ◌↔◌, ℕ, ◌<◌}
+use Rattle.std.specs.Prelude.{◌≡◌, true, ◌⊎◌, ◌↔◌, ℕ, ◌<◌, None}
 use Rattle.time.specs.declared.Clock.{Clock}
 use Rattle.plan.specs.declared.Kind.{Kind}
 use Rattle.run_window.specs.Window.{is_held, starts_before}
-use Rattle.run_checks.specs.declared.Halt.{Halt}
 use Rattle.run_checks.specs.declared.Stop.{Stop}
 use Rattle.run.specs.declared.Run.{Run}
 use Rattle.run.specs.declared.Call.{Call}
@@ -66,5 +65,5 @@ StatementServed = (run : Run) (t : Clock) (p a n : ℕ) → (call_of run (Call.A
 
 -- stop 41, where the run keeps no stop yet, names the node that is served first of those that are late
 abbrev pub StatementServedLate : Type 0
-StatementServedLate = (run : Run) (c : Call) (p n : ℕ) → run.halt ≡ Halt.Going → (call_of run c).reply ≡ Reply.Stopped (Stop.Late p n)
+StatementServedLate = (run : Run) (c : Call) (p n : ℕ) → run.halt ≡ None → (call_of run c).reply ≡ Reply.Stopped (Stop.Late p n)
     → (i : ℕ) × ((entry_at run i).position ≡ p) × ((entry_at run i).node ≡ n) × FirstServed run (LateAt run (reading_of c)) i

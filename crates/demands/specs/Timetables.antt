@@ -1,6 +1,6 @@
 -- "One plan, printed": the text of the program timetable over the word of the outcomes and its combined activity.
 -- Transitions stand by number, the latest first.
-use Rattle.std.specs.Prelude.{◌≡◌, true, cond, List, [], ◌∷◌, ◌++◌, map, ◌↔◌, ℕ, ◌+◌, ◌*◌, ◌≤◌, ◌<◌, length, get_or}
+use Rattle.std.specs.Prelude.{◌≡◌, true, cond, List, [], ◌∷◌, ◌++◌, map, ◌↔◌, ℕ, ◌+◌, ◌*◌, ◌≤◌, ◌<◌, length, get_or, Ok}
 use Rattle.plan.specs.Fault.{number_of}
 use Rattle.plan.specs.Plan.{move, is_final, outcomes_of, emitted_by}
 use Rattle.plan.specs.declared.Fault.{Fault}
@@ -8,7 +8,7 @@ use Rattle.plan.specs.declared.Input.{Input}
 use Rattle.plan.specs.declared.Kind.{Kind}
 use Rattle.plan.specs.declared.Node.{Node}
 use Rattle.plan.specs.declared.Plan.{Plan}
-use Rattle.plan.specs.declared.Verdict.{Verdict}
+use Rattle.plan.specs.Fields as fields
 use Rattle.automaton.specs.Rules.{Leaves, Processes}
 use Rattle.times_combined.specs.Word.{size}
 use Rattle.times_combined.specs.Combined.{Ident, identity}
@@ -101,9 +101,9 @@ pub data Printed : List ℕ → List ℕ → Type 0 where
   short : {input : List ℕ} → length input < 2 → Printed input (refused 1 0)
   cut : {a b : ℕ} {rest : List ℕ} → length rest < a + 256 * b → Printed (a ∷ b ∷ rest) (refused 1 (length rest))
   -- "A refused plan prints only refused, number, place"
-  faulty : {a b : ℕ} (bytes os : List ℕ) {f : Fault} {place : ℕ} → length bytes ≡ a + 256 * b → (judge_of bytes).verdict ≡ Verdict.Refused f place
+  faulty : {a b : ℕ} (bytes os : List ℕ) {f : Fault} {place : ℕ} → length bytes ≡ a + 256 * b → (judge_of bytes).verdict ≡ fields.faulty f place
       → Printed (a ∷ b ∷ (bytes ++ os)) (refused (number_of f) place)
-  table : {a b : ℕ} (bytes os : List ℕ) {text : List ℕ} → length bytes ≡ a + 256 * b → (judge_of bytes).verdict ≡ Verdict.Accepted
+  table : {a b : ℕ} (bytes os : List ℕ) {text : List ℕ} → length bytes ≡ a + 256 * b → (judge_of bytes).verdict ≡ Ok tt
       → Prints (judge_of bytes).plan os text → Printed (a ∷ b ∷ (bytes ++ os)) text
 
 abbrev pub StatementTimetable : Type 0

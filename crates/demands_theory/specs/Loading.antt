@@ -1,6 +1,6 @@
 -- How loading goes, over words, times and reports: "44 a completion or availability of the next path above 10^15, or a position
 -- above 1,000,000,000; then 43 the window would pass 512".
-use Rattle.std.specs.Prelude.{◌≡◌, List, [], ◌∷◌, ℕ, ◌<◌, length}
+use Rattle.std.specs.Prelude.{◌≡◌, List, [], ◌∷◌, ℕ, ◌<◌, length, Option, Some, None}
 use Rattle.basis.specs.Lists.{Among, Distinct}
 use Rattle.time.specs.Time.{horizon}
 use Rattle.plan.specs.declared.Kind.{Kind}
@@ -81,17 +81,17 @@ pub record PathFull (p : Plan) (available : ℕ → ℕ) (log : Log) (us : List 
 
 -- ---- loading goes from us to vs, and ends there
 
-pub data EndsAt (p : Plan) (available : ℕ → ℕ) (log : Log) (us : List ℕ) : Failure → Type 0 where
+pub data EndsAt (p : Plan) (available : ℕ → ℕ) (log : Log) (us : List ℕ) : Option Failure → Type 0 where
   -- there is no further path
-  whole : Stuck p log us → EndsAt p available log us Failure.None
+  whole : Stuck p log us → EndsAt p available log us None
   -- the next path fails, and adds nothing
-  beyond : PathBeyond p available log us → EndsAt p available log us Failure.Beyond
-  full : PathFull p available log us → EndsAt p available log us Failure.Full
+  beyond : PathBeyond p available log us → EndsAt p available log us (Some Failure.Beyond)
+  full : PathFull p available log us → EndsAt p available log us (Some Failure.Full)
 
-pub data Loads (p : Plan) (available : ℕ → ℕ) (log : Log) : List ℕ → List ℕ → Failure → Type 0 where
-  ends : {us : List ℕ} {f : Failure} → EndsAt p available log us f → Loads p available log us us f
+pub data Loads (p : Plan) (available : ℕ → ℕ) (log : Log) : List ℕ → List ℕ → Option Failure → Type 0 where
+  ends : {us : List ℕ} {f : Option Failure} → EndsAt p available log us f → Loads p available log us us f
   -- the next path is loaded, "and further ones while their outcomes are already reported"
-  later : {us vs ws : List ℕ} {f : Failure} → NextPath p log us vs → (PathBeyond p available log us → ⊥) → (TooMany p log vs → ⊥) → Loads p available log vs ws f → Loads p available log us ws f
+  later : {us vs ws : List ℕ} {f : Option Failure} → NextPath p log us vs → (PathBeyond p available log us → ⊥) → (TooMany p log vs → ⊥) → Loads p available log vs ws f → Loads p available log us ws f
 
 -- ---- a beginning of the word that fits
 

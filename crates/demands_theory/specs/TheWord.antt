@@ -1,11 +1,10 @@
 -- "The word is the transitions taken from the initial state: at a waiting state that of the outcome reported for the
 -- event's oldest unprocessed instance, elsewhere the only one, as long as there is one."
-use Rattle.std.specs.Prelude.{◌≡◌, List, [], ◌∷◌, ℕ, ◌+◌}
+use Rattle.std.specs.Prelude.{◌≡◌, List, [], ◌∷◌, ℕ, ◌+◌, Some}
 use Rattle.plan.specs.Plan.{move}
 use Rattle.plan.specs.declared.Plan.{Plan}
 use Rattle.automaton.specs.Next.{next_of, chosen_of}
 use Rattle.automaton.specs.declared.Next.{Next}
-use Rattle.automaton.specs.declared.Chosen.{Chosen}
 use Rattle.times_combined.specs.Word.{times}
 use Rattle.times_combined.specs.Combined.{Graph, Instance, combined, identity}
 use Rattle.times_combined.specs.Paths.{word_of}
@@ -41,7 +40,7 @@ pub data Takes (p : Plan) (log : Log) : List ℕ → Type 0 where
   none : Takes p log []
   goes : {is : List ℕ} {t : ℕ} → Takes p log is → next_after p is ≡ Next.Goes t → Takes p log (t ∷ is)
   hears : {is : List ℕ} {t : ℕ} (e o : ℕ) (x : Id) → Takes p log is → next_after p is ≡ Next.Waits e → Oldest p is e x → Told log x o
-      → chosen_of p.automaton (state_after p is) e o ≡ Chosen.Move t → Takes p log (t ∷ is)
+      → chosen_of p.automaton (state_after p is) e o ≡ Some t → Takes p log (t ∷ is)
 
 -- there is no further one
 pub data Stuck (p : Plan) (log : Log) (is : List ℕ) : Type 0 where

@@ -1,4 +1,5 @@
 -- How long the records are, and the buffer at the end.
+use Rattle.std.specs.Prelude.{Some, None, Result, Ok, Err}
 use mathlib.Core.Path.{◌≡◌, refl, ◌∙◌, ap}
 use mathlib.Core.List.{List, [], ◌∷◌}
 use Prim.Native.Nat.{ℕ, ◌+◌, ◌*◌, ◌/◌, ◌≤◌, ◌<◌}
@@ -6,10 +7,8 @@ use native.Mathlib.Omega.{arith}
 use lib.ListN.{length, length-append}
 use Rattle.wire.specs.Puts.{Puts}
 use Rattle.drive_input.specs.declared.Head.{Head}
-use Rattle.drive_input.specs.declared.HeadRead.{HeadRead}
 use Rattle.drive_records.specs.declared.Record.{Record}
 use Rattle.drive.specs.declared.NotRecorded.{NotRecorded}
-use Rattle.drive.specs.declared.Recorded.{Recorded}
 use Rattle.drive_input.specs.Input.{head_of}
 use Rattle.drive_input.proofs.Laws.Whole.{not_whole}
 use Rattle.drive.specs.Drive.{opened_by}
@@ -24,15 +23,15 @@ joined_length : (rs : List Record) → length (joined rs) ≡ 16 * length rs
 joined_length [] = refl
 joined_length (r ∷ rs) = rw length-append (omega (arith, record_length r, joined_length rs))
 
-abbrev Left : List ℕ → List ℕ → Recorded → List ℕ → Type 0
+abbrev Left : List ℕ → List ℕ → Result ℕ NotRecorded → List ℕ → Type 0
 Left b out r after = (r ≡ recorded_of b out) × (after ≡ buffer_of b out)
 
 module _ (b out : List ℕ) where
-  pub no_opening : head_of b ≡ HeadRead.Ends → Left b out (Recorded.Bytes 0) out
+  pub no_opening : head_of b ≡ None → Left b out (Ok 0) out
   unfolding records_of recorded_of buffer_of
   no_opening e = rw (not_whole b e) (leaves_none out)
 
-  module _ (h : Head) (e : head_of b ≡ HeadRead.Whole h) (parts : ℕ) (all : parts ≡ length (parts_from (length b) b h.parts)) where
+  module _ (h : Head) (e : head_of b ≡ Some h) (parts : ℕ) (all : parts ≡ length (parts_from (length b) b h.parts)) where
     pub all_parts : parts ≡ length (parts_of b)
     all_parts = all ∙ ap length (parts_same b h e)
 
@@ -47,11 +46,11 @@ module _ (b out : List ℕ) where
           all_parts,
         ))
 
-    pub too_short : length out / 16 ≤ parts → Left b out (Recorded.Refused NotRecorded.TooShort) out
+    pub too_short : length out / 16 ≤ parts → Left b out (Err NotRecorded.TooShort) out
     unfolding recorded_of buffer_of
     too_short s = leaves_short (text_of b) out (omega (arith, text_length))
 
     pub all_written : parts < length out / 16 → (after : List ℕ) (end : ℕ) → Puts out 0 (text_of b) after end
-        → Left b out (Recorded.Bytes end) after
+        → Left b out (Ok end) after
     unfolding recorded_of buffer_of
     all_written room after end p = leaves_all (text_of b) out (omega (arith, text_length)) after end p

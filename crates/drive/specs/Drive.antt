@@ -1,6 +1,6 @@
 -- A list of calls and questions driven through a run: the records that answer the opening and each part, up to where the
 -- input ends or ends inside a part, and what is left in a lent buffer.
-use Rattle.std.specs.Prelude.{cond, List, [], ◌∷◌, ◌++◌, ℕ, zero, suc, ◌+◌, length, leb}
+use Rattle.std.specs.Prelude.{cond, List, [], ◌∷◌, ◌++◌, ℕ, zero, suc, ◌+◌, length, leb, Result, Ok, Err, Option, Some, None}
 use Rattle.wire.specs.Puts.{left_by}
 use Rattle.run.specs.declared.Run.{Run}
 use Rattle.run.specs.declared.Call.{Call}
@@ -9,10 +9,8 @@ use Rattle.run.specs.Opening.{open_of}
 use Rattle.run.specs.Calls.{call_of}
 use Rattle.run_window.specs.Where.{place_of as place_in_window}
 use Rattle.drive_input.specs.declared.Part.{Part}
-use Rattle.drive_input.specs.declared.PartRead.{PartRead}
 use Rattle.drive_records.specs.declared.Record.{Record}
 use Rattle.drive.specs.declared.NotRecorded.{NotRecorded}
-use Rattle.drive.specs.declared.Recorded.{Recorded}
 use Rattle.drive_input.specs.declared.Head.{Head}
 use Rattle.drive_input.specs.Input.{plan_of, availabilities_from, head, is_whole, parts_at, part_at}
 use Rattle.drive_records.specs.Records.{record_bytes, opening_record, reply_record, place_record}
@@ -24,9 +22,9 @@ opened_by b h = open_of (plan_of b h.length) h.psi h.slack (availabilities_from 
 abbrev pub opened : List ℕ → Opened
 opened b = opened_by b (head b)
 
-abbrev pub on_part : {A : Type 0} → PartRead → (Part → ℕ → A) → A → A
-on_part PartRead.None f z = z
-on_part (PartRead.Some part next) f z = f part next
+abbrev pub on_part : {A : Type 0} → Option (Part × ℕ) → (Part → ℕ → A) → A → A
+on_part None f z = z
+on_part (Some (part, next)) f z = f part next
 
 -- the parts from `at` on, at most `left` of them, up to where the input ends or what is next is no part
 unfoldable pub parts_from : ℕ → List ℕ → ℕ → List Part
@@ -80,11 +78,11 @@ abbrev pub place_of : NotRecorded → ℕ
 place_of n = 0
 
 -- what is answered of a text: how many bytes were written, or why none were
-abbrev pub recorded_by : List ℕ → List ℕ → Recorded
-recorded_by text out = cond (leb (length text) (length out)) (Recorded.Bytes (length text)) (Recorded.Refused NotRecorded.TooShort)
+abbrev pub recorded_by : List ℕ → List ℕ → Result ℕ NotRecorded
+recorded_by text out = cond (leb (length text) (length out)) (Ok (length text)) (Err NotRecorded.TooShort)
 
 -- of all records; and the buffer that is left
-unfoldable pub recorded_of : List ℕ → List ℕ → Recorded
+unfoldable pub recorded_of : List ℕ → List ℕ → Result ℕ NotRecorded
 recorded_of b out = recorded_by (text_of b) out
 
 unfoldable pub buffer_of : List ℕ → List ℕ → List ℕ

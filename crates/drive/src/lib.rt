@@ -2,27 +2,18 @@
 // language. The form of the input is in drive_input, that of the records in drive_records.
 #![tactic(auto)]
 
-ghost use Rattle.std.specs.Prelude.{◌≡◌, ◌+◌, ◌*◌, ◌≤◌, ◌<◌, length};
+ghost use Rattle.std.specs.Prelude.{◌≡◌, ◌+◌, ◌*◌, ◌≤◌, length, Some};
 ghost use Rattle.wire.specs.Puts.{Puts};
 ghost use Rattle.drive_input.specs.Input.{head_of};
-ghost use Rattle.drive_input.specs.declared.HeadRead.{HeadRead};
 ghost use Rattle.drive.specs.Drive.{opened_by, parts_from, parts_of, records_from, text_of, joined, recorded_of, buffer_of};
 
-use basis::u8_to_usize;
-use drive_input::{Head, HeadRead, Part, PartRead};
+use drive_input::{Head, Part};
 use run::{Opened, Run};
 
 // Why nothing was written.
 #[derive(Clone, Copy)]
 pub enum NotRecorded {
     TooShort,
-}
-
-// How many bytes of records were written, or why none were.
-#[derive(Clone, Copy)]
-pub enum Recorded {
-    Bytes(usize),
-    Refused(NotRecorded),
 }
 
 // The opening that has these numbers.
@@ -32,7 +23,7 @@ pub fn open(input: &[u8], head: Head) -> Opened
 {
     let end = head.length + 2;
     let psi = head.psi;
-    let n = u8_to_usize(head.count);
+    let n = usize::from(head.count);
     let times = drive_input::availabilities(input, head.length + 19, head.count);
     Run::open(&input[2..end], psi, head.slack, &times[..n])
 }
@@ -42,23 +33,15 @@ fn count_from(input: &[u8], from: usize) -> usize
     requires { from ≤ length input.now }
     ensures { result ≡ length (parts_from (length input.now) input.now from) }
 {
+    let most = input.len();
     let mut at = from;
-    let mut count = 0;
-    let mut left = input.len();
-    while 0 < left {
-        let read = drive_input::part_at(input, at);
-        match read {
-            PartRead::None => {
-                return count;
-            }
-            PartRead::Some(part, next) => {
-                at = next;
-                count += 1;
-                left -= 1;
-            }
-        }
+    for count in 0..most {
+        let Some((_, next)) = drive_input::part_at(input, at) else {
+            return count;
+        };
+        at = next;
     }
-    count
+    most
 }
 
 // So many parts from `from` on, their records at `written`: the offset past the last record.
@@ -76,26 +59,22 @@ fn parts_from(
     let mut run = first;
     let mut at = from;
     let mut end = written;
-    let mut left = parts;
-    while 0 < left {
-        let PartRead::Some(part, next) = drive_input::part_at(input, at) else {
+    for _ in 0..parts {
+        let Some((part, next)) = drive_input::part_at(input, at) else {
             return end;
         };
+        at = next;
         match part {
             Part::Call(call) => {
                 let answer = run.call(call);
                 let reply = answer.reply;
                 end = drive_records::put_at(out, end, drive_records::reply_record(reply));
                 run = answer.run;
-                at = next;
-                left -= 1;
             }
             Part::Place(position, node) => {
                 let window = run.window;
                 let place = run_window::place_of(window, position, node);
                 end = drive_records::put_at(out, end, drive_records::place_record(place));
-                at = next;
-                left -= 1;
             }
         }
     }
@@ -104,7 +83,7 @@ fn parts_from(
 
 // An opening that is there whole, and all parts after it, in a buffer that holds their records.
 fn opened_and_called(input: &[u8], head: Head, out: &mut [u8], parts: usize) -> usize
-    requires { (head_of input.now ≡ HeadRead.Whole head) × (parts ≡ length (parts_of input.now)) × (16 + 16 * parts ≤ length out.old) }
+    requires { (head_of input.now ≡ Some head) × (parts ≡ length (parts_of input.now)) × (16 + 16 * parts ≤ length out.old) }
     ensures { Puts out.old 0 (text_of input.now) out.new result }
 {
     let opened = open(input, head);
@@ -115,27 +94,26 @@ fn opened_and_called(input: &[u8], head: Head, out: &mut [u8], parts: usize) -> 
     parts_from(input, head.parts, run, out, end, parts)
 }
 
-// The records of an opening that is there whole, if all of them fit.
-fn if_they_fit(input: &[u8], head: Head, out: &mut [u8]) -> Recorded
-    requires { head_of input.now ≡ HeadRead.Whole head }
+// The records of an opening that is there whole, if all of them fit: how many bytes were written.
+fn if_they_fit(input: &[u8], head: Head, out: &mut [u8]) -> Result<usize, NotRecorded>
+    requires { head_of input.now ≡ Some head }
     ensures { (result ≡ recorded_of input.now out.old) × (out.new ≡ buffer_of input.now out.old) }
 {
     let parts = count_from(input, head.parts);
     if out.len() / 16 <= parts {
-        return Recorded::Refused(NotRecorded::TooShort);
+        return Err(NotRecorded::TooShort);
     }
-    let end = opened_and_called(input, head, out, parts);
-    Recorded::Bytes(end)
+    Ok(opened_and_called(input, head, out, parts))
 }
 
 // Any input and any buffer are taken. The records are counted before anything is driven, so that a buffer that is too short
 // stays as it was; bytes after the records stay as they are.
-pub fn drive(input: &[u8], out: &mut [u8]) -> Recorded
+pub fn drive(input: &[u8], out: &mut [u8]) -> Result<usize, NotRecorded>
     ensures { (result ≡ recorded_of input.now out.old) × (out.new ≡ buffer_of input.now out.old) }
 {
     let head = drive_input::head_of(input);
     match head {
-        HeadRead::Ends => Recorded::Bytes(0),
-        HeadRead::Whole(h) => if_they_fit(input, h, out),
+        None => Ok(0),
+        Some(h) => if_they_fit(input, h, out),
     }
 }

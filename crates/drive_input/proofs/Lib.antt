@@ -1,5 +1,4 @@
 -- Laws that the proofs of the functions cite.
-pub mod There
 pub mod Offsets
 pub mod Filled
 pub mod Laws

@@ -5,10 +5,8 @@ ghost use Rattle.std.specs.Prelude.{◌≡◌, ◌+◌, ◌*◌, ◌≤◌, ◌<
 ghost use Rattle.wire.specs.Number.{little};
 ghost use Rattle.drive_input.specs.Input.{availabilities_from, head_of, ask_at, completion_at, outcome_at, place_at, part_at};
 
-use basis::u8_to_usize;
 use run::Call;
 use time::Clock;
-use wire::Short;
 
 // The numbers of an opening: the plan's length, Ψ, slack, availability count, and where the parts after it begin.
 #[derive(Clone, Copy)]
@@ -20,25 +18,11 @@ pub struct Head {
     pub parts: usize,
 }
 
-// The input holds the opening whole, or ends inside it.
-#[derive(Clone, Copy)]
-pub enum HeadRead {
-    Whole(Head),
-    Ends,
-}
-
 // What stands after the opening: a call, or a question: where does the node with this position and number stand?
 #[derive(Clone, Copy)]
 pub enum Part {
     Call(Call),
     Place(u32, u8),
-}
-
-// A part, and the offset past it.
-#[derive(Clone, Copy)]
-pub enum PartRead {
-    Some(Part, usize),
-    None,
 }
 
 // ---- a number that is there
@@ -47,34 +31,30 @@ fn two(input: &[u8], at: usize) -> usize
     requires { at + 2 ≤ length input.now }
     ensures { (result ≡ little 2 input.now at) × (result < 65536) }
 {
-    let f = wire::short_at(input, at);
-    match f {
-        Short::Value(x) => x as usize,
-        Short::Ends => 0,
-    }
+    usize::from(wire::two(input, at))
 }
 
 // ---- the opening
 
-// The numbers of an opening that the input holds whole.
-pub fn head_of(input: &[u8]) -> HeadRead
+// The numbers of an opening that the input holds whole, and not where it ends inside the opening.
+pub fn head_of(input: &[u8]) -> Option<Head>
     ensures { result ≡ head_of input.now }
 {
     let size = input.len();
     if size < 19 {
-        return HeadRead::Ends;
+        return None;
     }
     let n = two(input, 0);
     if size < n + 19 {
-        return HeadRead::Ends;
+        return None;
     }
     let place = n + 18;
     let count = input[place];
-    let parts = n + 19 + 8 * u8_to_usize(count);
+    let parts = n + 19 + 8 * usize::from(count);
     if size < parts {
-        return HeadRead::Ends;
+        return None;
     }
-    HeadRead::Whole(Head {
+    Some(Head {
         length: n,
         psi: Clock(wire::eight(input, n + 2)),
         slack: wire::eight(input, n + 10),
@@ -89,13 +69,8 @@ pub fn availabilities(input: &[u8], at: usize, count: u8) -> [u64; 255]
     ensures { take count result ≡ availabilities_from input.now at count }
 {
     let mut times = [0u64; 255];
-    let mut i: usize = 0;
-    let mut off = at;
-    let n = u8_to_usize(count);
-    while i < n {
-        times[i] = wire::eight(input, off);
-        off += 8;
-        i += 1;
+    for i in 0..usize::from(count) {
+        times[i] = wire::eight(input, at + 8 * i);
     }
     times
 }
@@ -103,39 +78,39 @@ pub fn availabilities(input: &[u8], at: usize, count: u8) -> [u64; 255]
 // ---- a part
 
 // Kind 0: an ask.
-fn ask_at(input: &[u8], at: usize) -> PartRead
+fn ask_at(input: &[u8], at: usize) -> Option<(Part, usize)>
     requires { at ≤ length input.now }
     ensures { result ≡ ask_at input.now at }
 {
     if input.len() - at < 9 {
-        return PartRead::None;
+        return None;
     }
     let t = Clock(wire::eight(input, at + 1));
-    PartRead::Some(Part::Call(Call::Ask(t)), at + 9)
+    Some((Part::Call(Call::Ask(t)), at + 9))
 }
 
 // Kind 1: the completion of an action.
-fn completion_at(input: &[u8], at: usize) -> PartRead
+fn completion_at(input: &[u8], at: usize) -> Option<(Part, usize)>
     requires { at ≤ length input.now }
     ensures { result ≡ completion_at input.now at }
 {
     if input.len() - at < 14 {
-        return PartRead::None;
+        return None;
     }
     let t = Clock(wire::eight(input, at + 1));
     let position = wire::four(input, at + 9);
     let place = at + 13;
     let node = input[place];
-    PartRead::Some(Part::Call(Call::Completion(t, position, node)), at + 14)
+    Some((Part::Call(Call::Completion(t, position, node)), at + 14))
 }
 
 // Kind 2: the outcome of an event.
-fn outcome_at(input: &[u8], at: usize) -> PartRead
+fn outcome_at(input: &[u8], at: usize) -> Option<(Part, usize)>
     requires { at ≤ length input.now }
     ensures { result ≡ outcome_at input.now at }
 {
     if input.len() - at < 15 {
-        return PartRead::None;
+        return None;
     }
     let t = Clock(wire::eight(input, at + 1));
     let position = wire::four(input, at + 9);
@@ -143,46 +118,40 @@ fn outcome_at(input: &[u8], at: usize) -> PartRead
     let next = at + 14;
     let node = input[place];
     let outcome = input[next];
-    PartRead::Some(
+    Some((
         Part::Call(Call::Outcome(t, position, node, outcome)),
         at + 15,
-    )
+    ))
 }
 
 // Kind 3: the question where a node stands. It has no reading.
-fn place_at(input: &[u8], at: usize) -> PartRead
+fn place_at(input: &[u8], at: usize) -> Option<(Part, usize)>
     requires { at ≤ length input.now }
     ensures { result ≡ place_at input.now at }
 {
     if input.len() - at < 6 {
-        return PartRead::None;
+        return None;
     }
     let position = wire::four(input, at + 1);
     let last = at + 5;
     let node = input[last];
-    PartRead::Some(Part::Place(position, node), at + 6)
+    Some((Part::Place(position, node), at + 6))
 }
 
-// The part at `at`, if there is one: any other kind ends the list.
-pub fn part_at(input: &[u8], at: usize) -> PartRead
+// The part at `at` and the offset past it, if there is one: any other kind ends the list.
+pub fn part_at(input: &[u8], at: usize) -> Option<(Part, usize)>
     requires { at ≤ length input.now }
     ensures { result ≡ part_at input.now at }
 {
     if at == input.len() {
-        return PartRead::None;
+        return None;
     }
     let kind = input[at];
-    if kind == 0 {
-        return ask_at(input, at);
+    match kind {
+        0 => ask_at(input, at),
+        1 => completion_at(input, at),
+        2 => outcome_at(input, at),
+        3 => place_at(input, at),
+        _ => None,
     }
-    if kind == 1 {
-        return completion_at(input, at);
-    }
-    if kind == 2 {
-        return outcome_at(input, at);
-    }
-    if kind == 3 {
-        return place_at(input, at);
-    }
-    PartRead::None
 }

@@ -1,4 +1,5 @@
-// A record of 16 bytes for the opening, for each call and for each node's place. Its form is in specs/Records.antt.
+// A record of 16 bytes for the opening, for each call and for each node's place. Its form is in specs/Records.antt, and the numbers of
+// its cases are bytes of that form.
 #![tactic(auto)]
 
 ghost use Rattle.std.specs.Prelude.{◌≡◌, ◌+◌, ◌≤◌, length};
@@ -52,22 +53,14 @@ fn stop_record(s: Stop) -> Record
 {
     let number = numbers::stop_number(s);
     match s {
-        Stop::Late(p, n) => Record {
+        Stop::Late(p, n) | Stop::Overdue(p, n) => Record {
             answer: 6,
             number,
             node: n,
             position: p,
             place: 0,
         },
-        Stop::Overdue(p, n) => Record {
-            answer: 6,
-            number,
-            node: n,
-            position: p,
-            place: 0,
-        },
-        Stop::Full => bare(6, number, 0),
-        Stop::Beyond => bare(6, number, 0),
+        Stop::Full | Stop::Beyond => bare(6, number, 0),
     }
 }
 
@@ -108,7 +101,7 @@ fn put_first(out: &mut [u8], r: Record) -> usize
     let b = wire::puts::put_byte(out, a, r.number);
     let c = wire::puts::put_byte(out, b, r.node);
     let d = wire::puts::put_byte(out, c, 0);
-    let e = wire::puts::put_number(out, d, r.position as u64, 4);
+    let e = wire::puts::put_number(out, d, u64::from(r.position), 4);
     wire::puts::put_number(out, e, r.place, 8)
 }
 

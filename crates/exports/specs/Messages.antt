@@ -1,21 +1,21 @@
 -- Messages of the host link, and their answers as numbers, for callers in another language.
-use Rattle.std.specs.Prelude.{cond, List, ℕ, ◌*◌, length, get_or, eqb}
+use Rattle.std.specs.Prelude.{cond, List, ℕ, ◌*◌, length, get_or, eqb, Result, Ok, Err}
 use Rattle.wire.specs.Number.{little}
+use Rattle.run.specs.declared.Call.{Call}
+use Rattle.run.specs.declared.Reply.{Reply}
 use Rattle.run_checks.specs.declared.Refusal.{Refusal}
 use Rattle.run.specs.Numbers.{refusal_number}
 use Rattle.link_messages.specs.declared.Message.{Message}
-use Rattle.link_messages.specs.declared.Sent.{Sent}
+use Rattle.link_messages.specs.declared.NotSent.{NotSent}
 use Rattle.link_messages.specs.Message.{Direction}
 use Rattle.link_messages.specs.Writing.{number_of, sent_of, buffer_of}
-use Rattle.link_calls.specs.declared.CallRead.{CallRead}
-use Rattle.link_calls.specs.declared.AnswerRead.{AnswerRead}
 use Rattle.link_calls.specs.Calls.{to_board, of_call, read_call}
 use Rattle.link_calls.specs.Replies.{to_host, of_reply, read_answer}
 
 -- what a writer of messages answers: how many bytes it wrote, or its number times 2^32
-unfoldable pub sent_code : Sent → ℕ
-sent_code (Sent.Bytes n) = n
-sent_code (Sent.Refused w) = number_of w * 4_294_967_296
+unfoldable pub sent_code : Result ℕ NotSent → ℕ
+sent_code (Ok n) = n
+sent_code (Err w) = number_of w * 4_294_967_296
 
 -- 62 or 61 in reading, times 2^32
 abbrev pub refused_code : Refusal → ℕ
@@ -23,21 +23,21 @@ refused_code f = refusal_number f * 4_294_967_296
 
 -- ---- a message read and written back; one that is refused writes nothing
 
-unfoldable pub call_code : CallRead → List ℕ → ℕ
-call_code (CallRead.Call c) out = sent_code (sent_of to_board (of_call c) out)
-call_code (CallRead.Refused f) out = refused_code f
+unfoldable pub call_code : Result Call Refusal → List ℕ → ℕ
+call_code (Ok c) out = sent_code (sent_of to_board (of_call c) out)
+call_code (Err f) out = refused_code f
 
-unfoldable pub call_buffer : CallRead → List ℕ → List ℕ
-call_buffer (CallRead.Call c) out = buffer_of to_board (of_call c) out
-call_buffer (CallRead.Refused f) out = out
+unfoldable pub call_buffer : Result Call Refusal → List ℕ → List ℕ
+call_buffer (Ok c) out = buffer_of to_board (of_call c) out
+call_buffer (Err f) out = out
 
-unfoldable pub answer_code : AnswerRead → List ℕ → ℕ
-answer_code (AnswerRead.Reply r) out = sent_code (sent_of to_host (of_reply r) out)
-answer_code (AnswerRead.Refused f) out = refused_code f
+unfoldable pub answer_code : Result Reply Refusal → List ℕ → ℕ
+answer_code (Ok r) out = sent_code (sent_of to_host (of_reply r) out)
+answer_code (Err f) out = refused_code f
 
-unfoldable pub answer_buffer : AnswerRead → List ℕ → List ℕ
-answer_buffer (AnswerRead.Reply r) out = buffer_of to_host (of_reply r) out
-answer_buffer (AnswerRead.Refused f) out = out
+unfoldable pub answer_buffer : Result Reply Refusal → List ℕ → List ℕ
+answer_buffer (Ok r) out = buffer_of to_host (of_reply r) out
+answer_buffer (Err f) out = out
 
 -- direction 0 is to the board, any other to the host
 unfoldable pub message_code : ℕ → List ℕ → List ℕ → ℕ

@@ -9,12 +9,12 @@ ghost use Rattle.judge.specs.Judge.{judge_of};
 ghost use Rattle.numbers.specs.Codes.{code_of};
 ghost use Rattle.drive.specs.Drive.{recorded_of, buffer_of};
 ghost use Rattle.made_up.specs.Answers.{made_code, made_buffer};
-ghost use Rattle.exports.specs.Codes.{activities_code, written_code, back_code, back_buffer, recorded_code};
+ghost use Rattle.exports.specs.Codes.{read_verdict, activities_code, written_code, back_code, back_buffer, recorded_code};
 
-use drive::{NotRecorded, Recorded};
+use drive::NotRecorded;
 use numbers::codes::code;
-use plan::{Plan, Verdict};
-use plan_write::{NotWritten, Written};
+use plan::Plan;
+use plan_write::NotWritten;
 
 pub mod messages; // messages of the host link
 pub mod timetables; // the timetable
@@ -22,11 +22,12 @@ pub mod timetables; // the timetable
 // Reading alone: 0 if the bytes read as a plan, otherwise number and place.
 #[unsafe(no_mangle)]
 pub extern "C" fn jidlekuvo_read(bytes: &[u8]) -> u64
-    ensures { result ≡ code_of (read_plan bytes.now).verdict }
+    ensures { result ≡ code_of (read_verdict (read_plan bytes.now)) }
 {
-    let read = plan_read::read(bytes);
-    let v = read.verdict;
-    code(v)
+    match plan_read::read(bytes) {
+        Err(fault) => code(Err(fault)),
+        Ok(_) => code(Ok(())),
+    }
 }
 
 // The activities of a plan that was read.
@@ -42,14 +43,9 @@ fn activities_of(plan: Plan) -> u64
 pub extern "C" fn jidlekuvo_activities(bytes: &[u8]) -> u64
     ensures { result ≡ activities_code (read_plan bytes.now) }
 {
-    let read = plan_read::read(bytes);
-    let v = read.verdict;
-    match v {
-        Verdict::Refused(f, place) => code(Verdict::Refused(f, place)),
-        Verdict::Accepted => {
-            let plan = read.plan;
-            activities_of(plan)
-        }
+    match plan_read::read(bytes) {
+        Err(fault) => code(Err(fault)),
+        Ok(plan) => activities_of(plan),
     }
 }
 
@@ -62,12 +58,12 @@ pub extern "C" fn jidlekuvo_judge(bytes: &[u8]) -> u64
 }
 
 // The writer's answer as a number.
-fn written_code(w: Written) -> u64
+fn written_code(w: Result<usize, NotWritten>) -> u64
     ensures { result ≡ written_code w }
 {
     match w {
-        Written::Bytes(n) => n as u64,
-        Written::Refused(why) => match why {
+        Ok(n) => n as u64,
+        Err(why) => match why {
             NotWritten::BreaksRule => 214748364800,
             NotWritten::TooShort => 154618822656,
         },
@@ -79,25 +75,18 @@ fn written_code(w: Written) -> u64
 pub extern "C" fn jidlekuvo_write_back(bytes: &[u8], out: &mut [u8]) -> u64
     ensures { (result ≡ back_code (read_plan bytes.now) out.old) × (out.new ≡ back_buffer (read_plan bytes.now) out.old) }
 {
-    let read = plan_read::read(bytes);
-    let v = read.verdict;
-    match v {
-        Verdict::Refused(f, place) => code(Verdict::Refused(f, place)),
-        Verdict::Accepted => {
-            let plan = read.plan;
-            written_code(plan_write::write(plan, out))
-        }
+    match plan_read::read(bytes) {
+        Err(fault) => code(Err(fault)),
+        Ok(plan) => written_code(plan_write::write(plan, out)),
     }
 }
 
-fn recorded_code(r: Recorded) -> usize
+fn recorded_code(r: Result<usize, NotRecorded>) -> usize
     ensures { result ≡ recorded_code r }
 {
     match r {
-        Recorded::Bytes(n) => n,
-        Recorded::Refused(why) => match why {
-            NotRecorded::TooShort => 154618822656,
-        },
+        Ok(n) => n,
+        Err(NotRecorded::TooShort) => 154618822656,
     }
 }
 

@@ -6,8 +6,7 @@ ghost use Rattle.link_drive.specs.LinkDrive.{linked_of, link_buffer};
 ghost use Rattle.exports.specs.Codes.{recorded_code};
 ghost use Rattle.exports.specs.Messages.{sent_code, refused_code, call_code, call_buffer, answer_code, answer_buffer, message_code, message_buffer, fields_of, send_code, send_buffer};
 
-use link_calls::{AnswerRead, CallRead};
-use link_messages::{Message, NotSent, Sent};
+use link_messages::{Message, NotSent};
 use run::Refusal;
 
 // ---- a list of messages
@@ -24,15 +23,13 @@ pub extern "C" fn jidlekuvo_link(input: &[u8], out: &mut [u8]) -> usize
 // ---- one message
 
 // A writer's answer as a number.
-fn sent_code(s: Sent) -> u64
+fn sent_code(s: Result<usize, NotSent>) -> u64
     ensures { result ≡ sent_code s }
 {
     match s {
-        Sent::Bytes(n) => n as u64,
-        Sent::Refused(why) => match why {
-            NotSent::Unlisted => 261993005056,
-            NotSent::TooShort => 154618822656,
-        },
+        Ok(n) => n as u64,
+        Err(NotSent::Unlisted) => 261993005056,
+        Err(NotSent::TooShort) => 154618822656,
     }
 }
 
@@ -40,26 +37,24 @@ fn sent_code(s: Sent) -> u64
 fn refused_code(f: Refusal) -> u64
     ensures { result ≡ refused_code f }
 {
-    numbers::refusal_number(f) as u64 * 4294967296
+    u64::from(numbers::refusal_number(f)) * 4294967296
 }
 
 fn call_back(input: &[u8], out: &mut [u8]) -> u64
     ensures { (result ≡ call_code (read_call input.now) out.old) × (out.new ≡ call_buffer (read_call input.now) out.old) }
 {
-    let read = link_calls::read_call(input);
-    match read {
-        CallRead::Call(c) => sent_code(link_calls::write_call(link_calls::of_call(c), out)),
-        CallRead::Refused(f) => refused_code(f),
+    match link_calls::read_call(input) {
+        Ok(c) => sent_code(link_calls::write_call(link_calls::of_call(c), out)),
+        Err(f) => refused_code(f),
     }
 }
 
 fn answer_back(input: &[u8], out: &mut [u8]) -> u64
     ensures { (result ≡ answer_code (read_answer input.now) out.old) × (out.new ≡ answer_buffer (read_answer input.now) out.old) }
 {
-    let read = link_calls::read_answer(input);
-    match read {
-        AnswerRead::Reply(r) => sent_code(link_calls::write_answer(link_calls::of_reply(r), out)),
-        AnswerRead::Refused(f) => refused_code(f),
+    match link_calls::read_answer(input) {
+        Ok(r) => sent_code(link_calls::write_answer(link_calls::of_reply(r), out)),
+        Err(f) => refused_code(f),
     }
 }
 

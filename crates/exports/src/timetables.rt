@@ -4,15 +4,15 @@ ghost use Rattle.timetable_turns.specs.Timetable.{timetable_of};
 ghost use Rattle.timetable_text.specs.Lent.{put_of, buffer_of};
 ghost use Rattle.exports.specs.Lengths.{length_code};
 
-use timetable_turns::Put;
+use timetable_turns::NotPut;
 
 // The length of the text, or 36 · 2^32.
-fn length_code(put: Put) -> usize
+fn length_code(put: Result<usize, NotPut>) -> usize
     ensures { result ≡ length_code put }
 {
     match put {
-        Put::Past(n) => n,
-        Put::TooShort => 154618822656,
+        Ok(n) => n,
+        Err(NotPut::TooShort) => 154618822656,
     }
 }
 

@@ -1,7 +1,9 @@
 -- A list whose elements are filled in one after the other, each from the element of another list at its place.
 use mathlib.Core.Path.{◌≡◌, refl, sym, ◌∙◌, ap, subst}
 use mathlib.Core.List.{List, [], ◌∷◌, map, append-nil}
-use Prim.Native.Nat.{ℕ, zero, suc, ◌+◌, ◌≤◌, ◌<◌}
+use Prim.Native.Nat.{ℕ, zero, suc, ◌+◌, ◌≤◌, ◌<◌, min}
+use native.Mathlib.Omega.{arith}
+use Rattle.std.proofs.Math.Decide.{dec_lt}
 use native.Mathlib.Nat.{le_of_suc-le-suc, not-suc-le-zero, suc_inj}
 use native.Mathlib.Numerals.{add-one}
 use lib.ListN.{length, get_or, set, drop_of_length-le}
@@ -27,6 +29,14 @@ fill_end X Y f w v i h e = rw (take_all i w h, drop_of_length-le v (subst (λ (n
 -- behind the end nothing is left to fill in
 pub fill_past : (X Y : Type 0) (f : X → Y) (w : List X) (v : List Y) (i n : ℕ) → length w ≤ i → length w ≤ n → length w ≡ length v → filled X Y f w v i ≡ filled X Y f w v n
 fill_past X Y f w v i n h k e = fill_end X Y f w v i h e ∙ sym (fill_end X Y f w v n k e)
+
+-- so the first n are filled in where the loop ends at the length at the latest
+pub fill_all : (X Y : Type 0) (f : X → Y) (w : List X) (v : List Y) (i n : ℕ) → i ≡ min n (length w) → length w ≡ length v → filled X Y f w v i ≡ filled X Y f w v n
+fill_all X Y f w v i n m e =
+    elim (dec_lt n (length w)) [
+      | yes h ↦ ap (filled X Y f w v) (omega arith)
+      | no h ↦ fill_past X Y f w v i n (omega arith) (omega arith) e
+    ]
 
 -- what is not reached yet is as it was
 unreached : (X : Type 0) (f : X → X) (w v : List X) (d : X) (i : ℕ) → i < length w → length w ≡ length v → get_or (filled X X f w v i) i d ≡ get_or v i d

@@ -1,7 +1,7 @@
 -- A run as numbers, and what run any such numbers are. Each case of an enum has a number; a number that no case has is read as
 -- case 0, which is named first: action, nothing processed, the empty activity, nothing told, free, going. What a case does not
 -- use, and spare bytes, are written as 0 and not read.
-use Rattle.std.specs.Prelude.{cond, map, ℕ, eqb, replicate}
+use Rattle.std.specs.Prelude.{cond, map, ℕ, eqb, replicate, Option, Some, None}
 use Rattle.plan.specs.declared.Kind.{Kind}
 use Rattle.plan.specs.declared.Node.{Node}
 use Rattle.plan.specs.declared.Input.{Input}
@@ -14,7 +14,6 @@ use Rattle.times.specs.declared.Progress.{Progress}
 use Rattle.run_window.specs.declared.Phase.{Phase}
 use Rattle.run_window.specs.declared.Entry.{Entry}
 use Rattle.run_checks.specs.declared.Stop.{Stop}
-use Rattle.run_checks.specs.declared.Halt.{Halt}
 use Rattle.run.specs.declared.Run.{Run}
 use Rattle.held.specs.declared.HeldNode.{HeldNode}
 use Rattle.held.specs.declared.HeldMove.{HeldMove}
@@ -186,22 +185,22 @@ held_progress g =
 
 -- ---- 0 the run goes on; 1 it is late, 2 overdue, 3 full, 4 beyond
 
-abbrev pub halt_of : HeldHalt → Halt
+abbrev pub halt_of : HeldHalt → Option Stop
 halt_of h =
-    cond (eqb h.halt 1) (Halt.Stopped (Stop.Late h.position h.node))
-    (cond (eqb h.halt 2) (Halt.Stopped (Stop.Overdue h.position h.node))
-    (cond (eqb h.halt 3) (Halt.Stopped Stop.Full)
-    (cond (eqb h.halt 4) (Halt.Stopped Stop.Beyond) Halt.Going)))
+    cond (eqb h.halt 1) (Some (Stop.Late h.position h.node))
+    (cond (eqb h.halt 2) (Some (Stop.Overdue h.position h.node))
+    (cond (eqb h.halt 3) (Some Stop.Full)
+    (cond (eqb h.halt 4) (Some Stop.Beyond) None)))
 
 abbrev pub stop_as : ℕ → ℕ → ℕ → HeldHalt
 stop_as halt position node = record { position = position; node = node; halt = halt; spare = replicate 2 0 }
 
-abbrev pub held_halt : Halt → HeldHalt
-held_halt Halt.Going = stop_as 0 0 0
-held_halt (Halt.Stopped (Stop.Late p n)) = stop_as 1 p n
-held_halt (Halt.Stopped (Stop.Overdue p n)) = stop_as 2 p n
-held_halt (Halt.Stopped Stop.Full) = stop_as 3 0 0
-held_halt (Halt.Stopped Stop.Beyond) = stop_as 4 0 0
+abbrev pub held_halt : Option Stop → HeldHalt
+held_halt None = stop_as 0 0 0
+held_halt (Some (Stop.Late p n)) = stop_as 1 p n
+held_halt (Some (Stop.Overdue p n)) = stop_as 2 p n
+held_halt (Some Stop.Full) = stop_as 3 0 0
+held_halt (Some Stop.Beyond) = stop_as 4 0 0
 
 -- ---- a run
 

@@ -3,24 +3,24 @@ ghost use Rattle.std.specs.Prelude.{◌≡◌};
 ghost use Rattle.held.specs.Held.{halt_of, stop_as, held_halt};
 
 use crate::HeldHalt;
-use run::{Halt, Stop};
+use run::Stop;
 
-pub fn halt_of(h: HeldHalt) -> Halt
+pub fn halt_of(h: HeldHalt) -> Option<Stop>
     ensures { result ≡ halt_of h }
 {
     if h.halt == 1 {
-        return Halt::Stopped(Stop::Late(h.position, h.node));
+        return Some(Stop::Late(h.position, h.node));
     }
     if h.halt == 2 {
-        return Halt::Stopped(Stop::Overdue(h.position, h.node));
+        return Some(Stop::Overdue(h.position, h.node));
     }
     if h.halt == 3 {
-        return Halt::Stopped(Stop::Full);
+        return Some(Stop::Full);
     }
     if h.halt == 4 {
-        return Halt::Stopped(Stop::Beyond);
+        return Some(Stop::Beyond);
     }
-    Halt::Going
+    None
 }
 
 fn stop_as(halt: u8, position: u32, node: u8) -> HeldHalt
@@ -35,12 +35,12 @@ fn stop_as(halt: u8, position: u32, node: u8) -> HeldHalt
     }
 }
 
-pub fn hold_halt(halt: Halt) -> HeldHalt
+pub fn hold_halt(halt: Option<Stop>) -> HeldHalt
     ensures { result ≡ held_halt halt }
 {
     match halt {
-        Halt::Going => stop_as(0, 0, 0),
-        Halt::Stopped(s) => match s {
+        None => stop_as(0, 0, 0),
+        Some(s) => match s {
             Stop::Late(p, n) => stop_as(1, p, n),
             Stop::Overdue(p, n) => stop_as(2, p, n),
             Stop::Full => stop_as(3, 0, 0),

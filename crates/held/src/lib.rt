@@ -8,8 +8,8 @@ ghost use Rattle.held.specs.Held.{held_plan, held_of};
 ghost use Rattle.held.specs.Inner.Plans.{plan_upto};
 ghost use Rattle.held.specs.Inner.Rest.{rest_with, rest_by};
 
-use plan::{Automaton, NODES, Plan};
-use run::{Halt, Run};
+use plan::{Automaton, NODES, Node, Plan};
+use run::{Run, Stop};
 use run_window::{Entry, WINDOW};
 use time::{Clock, Specified};
 use times::Progress;
@@ -137,7 +137,6 @@ pub fn plan_upto(h: HeldPlan) -> Plan
     let belongs = h.belongs;
     let sizes = h.sizes;
     let outcomes = h.outcomes;
-    let zero = plan_nodes::zero_node();
     let mut plan = Plan {
         resources: h.resources,
         peripherals: h.peripherals,
@@ -146,7 +145,7 @@ pub fn plan_upto(h: HeldPlan) -> Plan
         outcomes,
         activities: h.activities,
         sizes,
-        nodes: [zero; NODES],
+        nodes: [Node::ZERO; NODES],
         automaton: Automaton {
             states: h.states,
             initial: h.initial,
@@ -155,47 +154,41 @@ pub fn plan_upto(h: HeldPlan) -> Plan
             moves,
         },
     };
-    let most = 64 * (h.activities as usize);
-    let mut i: usize = 0;
-    while i < NODES {
-        if i >= most {
-            return plan;
-        }
-        let x = h.nodes[i];
-        let n = nodes::node_of(x);
-        plan.nodes[i] = n;
-        i += 1;
+    for i in 0..(64 * usize::from(h.activities)).min(NODES) {
+        plan.nodes[i] = Node::from(h.nodes[i]);
     }
     plan
 }
 
 // ---- as numbers
 
-pub fn hold_plan(p: Plan) -> HeldPlan
-    ensures { result ≡ held_plan p }
-{
-    let automaton = p.automaton;
-    let plan_nodes = p.nodes;
-    let plan_moves = automaton.moves;
-    let nodes = nodes::hold_nodes(plan_nodes);
-    let moves = moves::hold_moves(plan_moves);
-    let belongs = p.belongs;
-    let sizes = p.sizes;
-    let outcomes = p.outcomes;
-    HeldPlan {
-        finals: automaton.finals,
-        nodes,
-        count: automaton.count,
-        moves,
-        belongs,
-        sizes,
-        outcomes,
-        resources: p.resources,
-        peripherals: p.peripherals,
-        events: p.events,
-        activities: p.activities,
-        states: automaton.states,
-        initial: automaton.initial,
+impl From<Plan> for HeldPlan {
+    ghost from_gives = { λ p r. r ≡ held_plan p };
+
+    fn from(p: Plan) -> HeldPlan {
+        let automaton = p.automaton;
+        let plan_nodes = p.nodes;
+        let plan_moves = automaton.moves;
+        let nodes = nodes::hold_nodes(plan_nodes);
+        let moves = moves::hold_moves(plan_moves);
+        let belongs = p.belongs;
+        let sizes = p.sizes;
+        let outcomes = p.outcomes;
+        HeldPlan {
+            finals: automaton.finals,
+            nodes,
+            count: automaton.count,
+            moves,
+            belongs,
+            sizes,
+            outcomes,
+            resources: p.resources,
+            peripherals: p.peripherals,
+            events: p.events,
+            activities: p.activities,
+            states: automaton.states,
+            initial: automaton.initial,
+        }
     }
 }
 
@@ -206,11 +199,11 @@ pub fn rest_with(
     last: Clock,
     window: [HeldEntry; WINDOW],
     reached: Progress,
-    stop: Halt,
+    stop: Option<Stop>,
 ) -> HeldRest
     ensures { result ≡ rest_with psi slack last window reached stop }
 {
-    let progress = progresses::hold_progress(reached);
+    let progress = HeldProgress::from(reached);
     let halt = halts::hold_halt(stop);
     HeldRest {
         psi,
@@ -229,7 +222,7 @@ pub fn rest_of(
     last: Clock,
     entries: [Entry; WINDOW],
     reached: Progress,
-    stop: Halt,
+    stop: Option<Stop>,
 ) -> HeldRest
     ensures { result ≡ rest_by psi slack last entries reached stop }
 {
@@ -237,16 +230,18 @@ pub fn rest_of(
     rest_with(psi, slack, last, window, reached, stop)
 }
 
-pub fn hold_run(run: Run) -> Held
-    ensures { result ≡ held_of run }
-{
-    let run_plan = run.plan;
-    let psi = run.psi;
-    let last = run.last;
-    let window = run.window;
-    let progress = run.progress;
-    let halt = run.halt;
-    let rest = rest_of(psi, run.slack, last, window, progress, halt);
-    let plan = hold_plan(run_plan);
-    Held { rest, plan }
+impl From<Run> for Held {
+    ghost from_gives = { λ run r. r ≡ held_of run };
+
+    fn from(run: Run) -> Held {
+        let run_plan = run.plan;
+        let psi = run.psi;
+        let last = run.last;
+        let window = run.window;
+        let progress = run.progress;
+        let halt = run.halt;
+        let rest = rest_of(psi, run.slack, last, window, progress, halt);
+        let plan = HeldPlan::from(run_plan);
+        Held { rest, plan }
+    }
 }

@@ -6,6 +6,7 @@ ghost use Rattle.held.specs.Inner.Plans.{moves_upto};
 use crate::HeldMove;
 use plan::{Input, Output, Transition};
 
+// C reads input and output as a number; a `From` of numbers would have to stand with `Input` and `Output`, in plan.
 fn input_of(input: u8, event: u8, outcome: u8) -> Input
     ensures { result ≡ input_of input event outcome }
 {
@@ -24,16 +25,18 @@ fn output_of(output: u8, activity: u8) -> Output
     Output::Empty
 }
 
-pub fn move_of(h: HeldMove) -> Transition
-    ensures { result ≡ move_of h }
-{
-    let input = input_of(h.input, h.event, h.outcome);
-    let output = output_of(h.output, h.activity);
-    Transition {
-        from: h.from,
-        to: h.to,
-        input,
-        output,
+impl From<HeldMove> for Transition {
+    ghost from_gives = { λ h r. r ≡ move_of h };
+
+    fn from(h: HeldMove) -> Transition {
+        let input = input_of(h.input, h.event, h.outcome);
+        let output = output_of(h.output, h.activity);
+        Transition {
+            from: h.from,
+            to: h.to,
+            input,
+            output,
+        }
     }
 }
 
@@ -82,20 +85,22 @@ fn output_activity(output: Output) -> u8
     }
 }
 
-fn hold_move(m: Transition) -> HeldMove
-    ensures { result ≡ held_move m }
-{
-    let input = m.input;
-    let output = m.output;
-    HeldMove {
-        from: m.from,
-        to: m.to,
-        input: input_number(input),
-        event: input_event(input),
-        outcome: input_outcome(input),
-        output: output_number(output),
-        activity: output_activity(output),
-        spare: 0,
+impl From<Transition> for HeldMove {
+    ghost from_gives = { λ m r. r ≡ held_move m };
+
+    fn from(m: Transition) -> HeldMove {
+        let input = m.input;
+        let output = m.output;
+        HeldMove {
+            from: m.from,
+            to: m.to,
+            input: input_number(input),
+            event: input_event(input),
+            outcome: input_outcome(input),
+            output: output_number(output),
+            activity: output_activity(output),
+            spare: 0,
+        }
     }
 }
 
@@ -109,17 +114,9 @@ pub fn moves_upto(count: u16, held: [HeldMove; 256]) -> [Transition; 256]
         input: Input::Nothing,
         output: Output::Empty,
     };
-    let most = count as usize;
     let mut moves = [zero; 256];
-    let mut i: usize = 0;
-    while i < 256 {
-        if i >= most {
-            return moves;
-        }
-        let h = held[i];
-        let m = move_of(h);
-        moves[i] = m;
-        i += 1;
+    for i in 0..usize::from(count).min(256) {
+        moves[i] = Transition::from(held[i]);
     }
     moves
 }
@@ -127,23 +124,9 @@ pub fn moves_upto(count: u16, held: [HeldMove; 256]) -> [Transition; 256]
 pub fn hold_moves(moves: [Transition; 256]) -> [HeldMove; 256]
     ensures { result ≡ map held_move moves }
 {
-    let zero = HeldMove {
-        from: 0,
-        to: 0,
-        input: 0,
-        event: 0,
-        outcome: 0,
-        output: 0,
-        activity: 0,
-        spare: 0,
-    };
-    let mut held = [zero; 256];
-    let mut i: usize = 0;
-    while i < 256 {
-        let m = moves[i];
-        let h = hold_move(m);
-        held[i] = h;
-        i += 1;
+    let mut held = [HeldMove::from(moves[0]); 256];
+    for i in 0..256usize {
+        held[i] = HeldMove::from(moves[i]);
     }
     held
 }

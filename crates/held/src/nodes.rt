@@ -5,6 +5,7 @@ ghost use Rattle.held.specs.Held.{kind_of, node_of, kind_number, number_in, peri
 use crate::HeldNode;
 use plan::{Kind, NODES, Node};
 
+// C reads the kind as a number; a `From` of numbers would have to stand with `Kind`, in plan.
 fn kind_of(kind: u8, number: u8, peripheral: u8) -> Kind
     ensures { result ≡ kind_of kind number peripheral }
 {
@@ -20,16 +21,18 @@ fn kind_of(kind: u8, number: u8, peripheral: u8) -> Kind
     Kind::Action(number, peripheral)
 }
 
-pub fn node_of(h: HeldNode) -> Node
-    ensures { result ≡ node_of h }
-{
-    let kind = kind_of(h.kind, h.number, h.peripheral);
-    let preds = h.preds;
-    Node {
-        duration: h.duration,
-        kind,
-        count: h.count,
-        preds,
+impl From<HeldNode> for Node {
+    ghost from_gives = { λ h r. r ≡ node_of h };
+
+    fn from(h: HeldNode) -> Node {
+        let kind = kind_of(h.kind, h.number, h.peripheral);
+        let preds = h.preds;
+        Node {
+            duration: h.duration,
+            kind,
+            count: h.count,
+            preds,
+        }
     }
 }
 
@@ -67,40 +70,29 @@ fn peripheral_in(kind: Kind) -> u8
     }
 }
 
-fn hold_node(n: Node) -> HeldNode
-    ensures { result ≡ held_node n }
-{
-    let kind = n.kind;
-    let preds = n.preds;
-    HeldNode {
-        duration: n.duration,
-        kind: kind_number(kind),
-        number: number_in(kind),
-        peripheral: peripheral_in(kind),
-        count: n.count,
-        preds,
+impl From<Node> for HeldNode {
+    ghost from_gives = { λ n r. r ≡ held_node n };
+
+    fn from(n: Node) -> HeldNode {
+        let kind = n.kind;
+        let preds = n.preds;
+        HeldNode {
+            duration: n.duration,
+            kind: kind_number(kind),
+            number: number_in(kind),
+            peripheral: peripheral_in(kind),
+            count: n.count,
+            preds,
+        }
     }
 }
 
 pub fn hold_nodes(nodes: [Node; NODES]) -> [HeldNode; NODES]
     ensures { result ≡ map held_node nodes }
 {
-    let preds = [0u8; 8];
-    let zero = HeldNode {
-        duration: 0,
-        kind: 0,
-        number: 0,
-        peripheral: 0,
-        count: 0,
-        preds,
-    };
-    let mut held = [zero; NODES];
-    let mut i: usize = 0;
-    while i < NODES {
-        let n = nodes[i];
-        let h = hold_node(n);
-        held[i] = h;
-        i += 1;
+    let mut held = [HeldNode::from(nodes[0]); NODES];
+    for i in 0..NODES {
+        held[i] = HeldNode::from(nodes[i]);
     }
     held
 }

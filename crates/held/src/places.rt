@@ -4,8 +4,8 @@ ghost use Rattle.held.specs.Held.{phase_of, entry_of, phase_number, held_entry};
 
 use crate::{HeldEntry, HeldRest};
 use run_window::{Entry, Phase, WINDOW};
-use time::Specified;
 
+// C reads the phase as a number; a `From` of numbers would have to stand with `Phase`, in run_window.
 fn phase_of(phase: u8) -> Phase
     ensures { result ≡ phase_of phase }
 {
@@ -18,19 +18,21 @@ fn phase_of(phase: u8) -> Phase
     Phase::Free
 }
 
-pub fn entry_of(h: HeldEntry) -> Entry
-    ensures { result ≡ entry_of h }
-{
-    let phase = phase_of(h.phase);
-    let start = h.start;
-    let end = h.end;
-    Entry {
-        start,
-        end,
-        position: h.position,
-        activity: h.activity,
-        node: h.node,
-        phase,
+impl From<HeldEntry> for Entry {
+    ghost from_gives = { λ h r. r ≡ entry_of h };
+
+    fn from(h: HeldEntry) -> Entry {
+        let phase = phase_of(h.phase);
+        let start = h.start;
+        let end = h.end;
+        Entry {
+            start,
+            end,
+            position: h.position,
+            activity: h.activity,
+            node: h.node,
+            phase,
+        }
     }
 }
 
@@ -44,20 +46,22 @@ fn phase_number(phase: Phase) -> u8
     }
 }
 
-pub fn hold_entry(e: Entry) -> HeldEntry
-    ensures { result ≡ held_entry e }
-{
-    let phase = e.phase;
-    let start = e.start;
-    let end = e.end;
-    HeldEntry {
-        start,
-        end,
-        position: e.position,
-        activity: e.activity,
-        node: e.node,
-        phase: phase_number(phase),
-        spare: 0,
+impl From<Entry> for HeldEntry {
+    ghost from_gives = { λ e r. r ≡ held_entry e };
+
+    fn from(e: Entry) -> HeldEntry {
+        let phase = e.phase;
+        let start = e.start;
+        let end = e.end;
+        HeldEntry {
+            start,
+            end,
+            position: e.position,
+            activity: e.activity,
+            node: e.node,
+            phase: phase_number(phase),
+            spare: 0,
+        }
     }
 }
 
@@ -66,12 +70,8 @@ pub fn window_of(held: [HeldEntry; WINDOW]) -> [Entry; WINDOW]
 {
     let free = run_window::vacant();
     let mut window = [free; WINDOW];
-    let mut i: usize = 0;
-    while i < WINDOW {
-        let h = held[i];
-        let e = entry_of(h);
-        window[i] = e;
-        i += 1;
+    for i in 0..WINDOW {
+        window[i] = Entry::from(held[i]);
     }
     window
 }
@@ -79,22 +79,10 @@ pub fn window_of(held: [HeldEntry; WINDOW]) -> [Entry; WINDOW]
 pub fn hold_window(window: [Entry; WINDOW]) -> [HeldEntry; WINDOW]
     ensures { result ≡ map held_entry window }
 {
-    let zero = HeldEntry {
-        start: Specified(0),
-        end: Specified(0),
-        position: 0,
-        activity: 0,
-        node: 0,
-        phase: 0,
-        spare: 0,
-    };
+    let zero = HeldEntry::from(run_window::vacant());
     let mut held = [zero; WINDOW];
-    let mut i: usize = 0;
-    while i < WINDOW {
-        let e = window[i];
-        let h = hold_entry(e);
-        held[i] = h;
-        i += 1;
+    for i in 0..WINDOW {
+        held[i] = HeldEntry::from(window[i]);
     }
     held
 }
@@ -104,13 +92,8 @@ pub fn fresh(rest: HeldRest) -> [HeldEntry; WINDOW]
     ensures { result ≡ map held_entry (map entry_of rest.window) }
 {
     let mut window = rest.window;
-    let mut i: usize = 0;
-    while i < WINDOW {
-        let h = window[i];
-        let e = entry_of(h);
-        let f = hold_entry(e);
-        window[i] = f;
-        i += 1;
+    for i in 0..WINDOW {
+        window[i] = HeldEntry::from(Entry::from(window[i]));
     }
     window
 }

@@ -2,18 +2,19 @@
 // whole: a function that indexes an array copies it, and one that only hands it on does not.
 #![tactic(auto)]
 
-ghost use Rattle.std.specs.Prelude.{true, map, ◌≡◌};
+ghost use Rattle.std.specs.Prelude.{true, map, ◌≡◌, Ok, Err};
 ghost use Rattle.run_window.specs.Inner.Search.{SoughtInTime, seen_of};
 ghost use Rattle.run_checks.specs.Order.{Timed, is_below, reading_then};
 ghost use Rattle.held.specs.Held.{entry_of, node_of};
-ghost use Rattle.held_checks.specs.Inner.Checks.{moment_at, run_by, limits_by, all_but_nodes, ScannedIn, check_seen, effect_read};
+ghost use Rattle.held_checks.specs.Inner.Checks.{moment_at, run_by, limits_by, all_but_nodes, ScannedIn, check_seen, effect_told};
 
 use held::{HeldPlan, HeldRest};
-use plans::Nodes;
+use plan::Kind;
 use run::{Call, Checked, Effect, Reply};
-use run_checks::{Check, Halt, Moment, Objection, Refusal};
+use run_checks::{Moment, Objection, Refusal, Stop};
 use run_window::{Found, Scan, Seen, Sought};
 use time::{Clock, HORIZON};
+use times::Progress;
 
 pub mod places; // the window
 pub mod plans; // the plan
@@ -36,7 +37,14 @@ pub fn moment_of(rest: HeldRest, c: Call) -> Moment
 // ---- 50
 
 // The run, where it is known of plan, progress and window whether they are within the limits.
-fn run_in_limits(good: bool, stands: bool, holds: bool, psi: Clock, slack: u64, halt: Halt) -> bool
+fn run_in_limits(
+    good: bool,
+    stands: bool,
+    holds: bool,
+    psi: Clock,
+    slack: u64,
+    halt: Option<Stop>,
+) -> bool
     ensures { result ≡ limits_by good stands holds psi slack halt }
 {
     if !good {
@@ -66,7 +74,7 @@ pub fn all_but_nodes(plan: HeldPlan, rest: HeldRest) -> bool
     let psi = rest.psi;
     let held_progress = rest.progress;
     let held_halt = rest.halt;
-    let progress = held::progresses::progress_of(held_progress);
+    let progress = Progress::from(held_progress);
     let halt = held::halts::halt_of(held_halt);
     let good = plans::numbers_in_limits(plan);
     let stands = run_limits::progress::progress_within(
@@ -89,9 +97,9 @@ fn scan(limits: bool, rest: HeldRest, m: Moment, sought: Sought) -> Scan
 {
     if !limits {
         return Scan::Untied(Seen {
-            overdue: Found::Nothing,
-            late: Found::Nothing,
-            sought: Found::Nothing,
+            overdue: None,
+            late: None,
+            sought: None,
         });
     }
     let psi = m.psi;
@@ -118,40 +126,45 @@ pub fn look(limits: bool, rest: HeldRest, plan: HeldPlan, m: Moment, sought: Sou
 // ---- what the checks say
 
 // 51: "reading below the last one"; then 42, then 41.
-fn check_reading(m: Moment, seen: Seen) -> Check
-    ensures { result ≡ reading_then (is_below m) seen.overdue seen.late Check.Objects (Check.Goes seen.sought) }
+fn check_reading(m: Moment, seen: Seen) -> Result<Option<Found>, Objection>
+    ensures { result ≡ reading_then (is_below m) seen.overdue seen.late Err (Ok seen.sought) }
 {
     if m.t.0 < m.last.0 {
-        return Check::Objects(Objection::Refuses(Refusal::ReadingBelow));
+        return Err(Objection::Refuses(Refusal::ReadingBelow));
     }
     run_checks::check_seen(seen)
 }
 
 // 50, and the stop that a run keeps; then the others.
-pub fn check_call(limits: bool, halt: Halt, m: Moment, seen: Seen) -> Check
+pub fn check_call(
+    limits: bool,
+    halt: Option<Stop>,
+    m: Moment,
+    seen: Seen,
+) -> Result<Option<Found>, Objection>
     ensures { result ≡ check_seen limits halt m seen }
 {
     if !limits {
-        return Check::Objects(Objection::Refuses(Refusal::OutOfLimits));
+        return Err(Objection::Refuses(Refusal::OutOfLimits));
     }
-    match halt {
-        Halt::Going => {
-            return check_reading(m, seen);
-        }
-        Halt::Stopped(s) => {
-            return Check::Objects(Objection::Keeps(s));
-        }
+    if let Some(s) = halt {
+        return Err(Objection::Keeps(s));
     }
+    check_reading(m, seen)
 }
 
 // What the call does; 50 where a node of the plan lies outside the limits.
-pub fn effect(c: Call, check: Check, nodes: Nodes, outcomes: [u8; 16]) -> Effect
-    ensures { result ≡ effect_read c check nodes.good nodes.kind outcomes }
+pub fn effect(
+    c: Call,
+    check: Result<Option<Found>, Objection>,
+    kind: Option<Kind>,
+    outcomes: [u8; 16],
+) -> Effect
+    ensures { result ≡ effect_told c check kind outcomes }
 {
-    if !nodes.good {
+    let Some(kind) = kind else {
         return Effect::Stays(Reply::Refused(Refusal::OutOfLimits));
-    }
-    let kind = nodes.kind;
+    };
     let most = run::effects::outcomes_for(kind, outcomes);
     run::effects::effect_of(c, Checked { check, kind, most })
 }

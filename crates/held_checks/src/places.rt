@@ -7,42 +7,28 @@ ghost use Rattle.run_window.specs.Inner.Times.{AllInTime, AllNamed};
 ghost use Rattle.run_window.specs.Inner.Search.{SoughtInTime, Scanned, seen_of};
 ghost use Rattle.held.specs.Held.{entry_of, node_of};
 
-use held::{HeldPlan, HeldRest, nodes, places};
-use run_window::{Found, Ranked, Scan, Seen, Sought, WINDOW, search};
+use held::{HeldPlan, HeldRest};
+use plan::Node;
+use run_window::{Entry, Ranked, Scan, Seen, Sought, WINDOW, search};
 use time::Clock;
 
 // Every place of the window.
 pub fn window_in_limits(activities: u8, sizes: [u8; 32], rest: HeldRest) -> bool
     ensures { result ≡ window_in_limits activities sizes (map entry_of rest.window) }
 {
-    let held = rest.window;
-    let mut i: usize = 0;
-    while i < WINDOW {
-        let h = held[i];
-        let e = places::entry_of(h);
-        if !run_limits::places::entry_in_limits(activities, sizes, e) {
-            return false;
-        }
-        i += 1;
-    }
-    true
+    rest.window.iter().all(|&h| run_limits::places::entry_in_limits(
+        activities,
+        sizes,
+        Entry::from(h),
+    ))
 }
 
 pub fn is_empty(rest: HeldRest) -> bool
     ensures { result ≡ is_empty (map entry_of rest.window) }
 {
-    let held = rest.window;
-    let mut i: usize = 0;
-    while i < WINDOW {
-        let h = held[i];
-        let e = places::entry_of(h);
-        if run_window::is_free(e) {
-            i += 1;
-        } else {
-            return false;
-        }
-    }
-    true
+    rest.window
+        .iter()
+        .all(|&h| run_window::is_free(Entry::from(h)))
 }
 
 // What a call finds, as long as no start ties.
@@ -52,17 +38,14 @@ pub fn scan(rest: HeldRest, psi: Clock, slack: u64, t: Clock, sought: Sought) ->
 {
     let held = rest.window;
     let none = Ranked {
-        found: Found::Nothing,
+        found: None,
         rank: 0,
     };
     let mut overdue = none;
     let mut late = none;
     let mut best = none;
-    let mut i: usize = WINDOW;
-    while 0 < i {
-        i -= 1;
-        let h = held[i];
-        let e = places::entry_of(h);
+    for i in (0..WINDOW).rev() {
+        let e = Entry::from(held[i]);
         if !search::is_noticed(psi, slack, t, sought, e) {
             continue;
         }
@@ -91,23 +74,19 @@ pub fn look_by_rank(
     let held_window = rest.window;
     let held_nodes = plan.nodes;
     let none = Ranked {
-        found: Found::Nothing,
+        found: None,
         rank: 0,
     };
     let mut overdue = none;
     let mut late = none;
     let mut best = none;
-    let mut i: usize = WINDOW;
-    while i > 0 {
-        i -= 1;
-        let h = held_window[i];
-        let e = places::entry_of(h);
+    for i in (0..WINDOW).rev() {
+        let e = Entry::from(held_window[i]);
         if !search::is_noticed(psi, slack, t, sought, e) {
             continue;
         }
         let k = run_window::node_place(e);
-        let x = held_nodes[k];
-        let node = nodes::node_of(x);
+        let node = Node::from(held_nodes[k]);
         let kind = node.kind;
         let r = search::rank(kind);
         overdue = search::kept(Sought::Overdue(psi, t), i, e, r, overdue);

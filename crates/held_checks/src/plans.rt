@@ -5,11 +5,11 @@ ghost use Rattle.plan_limits.specs.Limits.{moves_in_limits, automaton_in_limits}
 ghost use Rattle.held.specs.Held.{move_of, node_of, plan_of};
 ghost use Rattle.held_checks.specs.Inner.Limits.{counted_in_limits, numbers_in_limits, nodes_good};
 
-use held::{HeldMove, HeldPlan, moves, nodes};
-use plan::Kind;
+use held::{HeldMove, HeldPlan};
+use plan::{Kind, Node, Transition};
 use plan_limits::numbers;
 
-// Whether the nodes of a plan lie within the limits, and the kind of one of them.
+// Whether the nodes of a plan lie within the limits, and the kind of one of them. No Option: the kind is promised of any nodes.
 #[derive(Clone, Copy)]
 pub struct Nodes {
     pub good: bool,
@@ -24,24 +24,17 @@ fn moves_in_limits(
     count: u16,
     held: [HeldMove; 256],
 ) -> bool
-    requires { (events ≤ 16) × (count ≤ 256) }
+    requires { count ≤ 256 }
     ensures { result ≡ moves_in_limits states activities events outcomes count (map move_of held) }
 {
-    let mut left = count as usize;
-    while left > 0 {
-        let i = left - 1;
-        let h = held[i];
-        let t = moves::move_of(h);
-        if !plan_limits::moves::move_in_limits(states, activities, events, outcomes, t) {
-            return false;
-        }
-        left = i;
-    }
-    true
+    held[..usize::from(count)].iter().all(|&h| {
+        let t = Transition::from(h);
+        plan_limits::moves::move_in_limits(states, activities, events, outcomes, t)
+    })
 }
 
+#[tactic(auto, unfolding(plan_limits::specs::Limits::automaton_in_limits))]
 fn automaton_in_limits(h: HeldPlan) -> bool
-    requires { h.events ≤ 16 }
     ensures { result ≡ automaton_in_limits h.activities h.events h.outcomes (plan_of h).automaton }
 {
     if !plan_limits::moves::states_in_limits(h.states, h.initial, h.finals) {
@@ -56,6 +49,7 @@ fn automaton_in_limits(h: HeldPlan) -> bool
 }
 
 // What the counts count, but for the nodes.
+#[tactic(auto, unfolding(crate::specs::Inner::Limits::counted_in_limits))]
 fn counted_in_limits(h: HeldPlan) -> bool
     requires { (h.peripherals ≤ 64) × (h.events ≤ 16) × (h.activities ≤ 32) }
     ensures { result ≡ counted_in_limits (plan_of h) }
@@ -76,6 +70,7 @@ fn counted_in_limits(h: HeldPlan) -> bool
 }
 
 // All of a plan but its nodes.
+#[tactic(auto, unfolding(crate::specs::Inner::Limits::numbers_in_limits))]
 pub fn numbers_in_limits(h: HeldPlan) -> bool
     ensures { result ≡ numbers_in_limits (plan_of h) }
 {
@@ -94,25 +89,21 @@ pub fn numbers_in_limits(h: HeldPlan) -> bool
     counted_in_limits(h)
 }
 
-// Its nodes; the kind of node k is read on the way, where the nodes have been copied anyway.
+// Whether the nodes of a plan lie within the limits, and the kind of node k, which is read where the nodes have been copied anyway.
 pub fn nodes_in_limits(plan: HeldPlan, k: usize) -> Nodes
     requires { k < 2048 }
     ensures { (result.good ≡ nodes_good (plan_of plan)) × (result.kind ≡ (get_or (map node_of plan.nodes) k past_node).kind) }
 {
     let sizes = plan.sizes;
     let held = plan.nodes;
-    let x = held[k];
-    let named = nodes::node_of(x);
+    let named = Node::from(held[k]);
     let kind = named.kind;
     if plan.activities > 32 {
         return Nodes { good: false, kind };
     }
-    let mut left = 64 * (plan.activities as usize);
-    while left > 0 {
-        let i = left - 1;
+    for i in 0..64 * usize::from(plan.activities) {
         let size = sizes[i / 64];
-        let h = held[i];
-        let node = nodes::node_of(h);
+        let node = Node::from(held[i]);
         if !plan_limits::nodes::slot_in_limits(
             plan.resources,
             plan.peripherals,
@@ -123,7 +114,6 @@ pub fn nodes_in_limits(plan: HeldPlan, k: usize) -> Nodes
         ) {
             return Nodes { good: false, kind };
         }
-        left = i;
     }
     Nodes { good: true, kind }
 }

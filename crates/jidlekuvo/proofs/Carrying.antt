@@ -1,4 +1,5 @@
 -- What a call does, carried out on the numbers, gives the answer to the call.
+use Rattle.std.specs.Prelude.{Option, Some, None, Result, Ok, Err}
 use mathlib.Core.Path.{◌≡◌, refl}
 use mathlib.Core.List.{[], ◌∷◌}
 use mathlib.Core.Logic.{⊎_elim}
@@ -11,7 +12,6 @@ use Rattle.basis.proofs.Laws.Bools.{by_cond}
 use Rattle.plan.specs.declared.Kind.{Kind}
 use Rattle.run_window.specs.declared.Found.{Found}
 use Rattle.run_window.specs.Window.{is_started}
-use Rattle.run_checks.specs.declared.Check.{Check}
 use Rattle.run_checks.specs.declared.Objection.{Objection}
 use Rattle.run_checks.specs.declared.Refusal.{Refusal}
 use Rattle.run.specs.contracts.Effect as effect-type
@@ -42,15 +42,15 @@ completion_settles i (Kind.Claim r) = tt
 completion_settles i (Kind.Release r) = tt
 completion_settles i (Kind.Event e) = tt
 
-check_settles : (c : Call) → Plain c → (check : Check) (kind : Kind) (most : ℕ) → Settles (effect_by c check kind most)
-check_settles c p (Check.Objects (Objection.Refuses f)) kind most = tt
-check_settles c p (Check.Objects (Objection.Keeps s)) kind most = tt
-check_settles c p (Check.Objects (Objection.Stops s)) kind most = tt
-check_settles (Call.Ask t) p (Check.Goes Found.Nothing) kind most = tt
-check_settles (Call.Ask t) p (Check.Goes (Found.At i e)) kind most = tt
-check_settles (Call.Completion t m n) p (Check.Goes Found.Nothing) kind most = tt
-check_settles (Call.Completion t m n) p (Check.Goes (Found.At i e)) kind most = by_cond Settles (is_started e.phase) (completes_by i kind) (refusing Refusal.NotStarted) (completion_settles i kind) tt
-check_settles (Call.Outcome t m n o) p (Check.Goes found) kind most = absurd p
+check_settles : (c : Call) → Plain c → (check : Result (Option Found) Objection) (kind : Kind) (most : ℕ) → Settles (effect_by c check kind most)
+check_settles c p (Err (Objection.Refuses f)) kind most = tt
+check_settles c p (Err (Objection.Keeps s)) kind most = tt
+check_settles c p (Err (Objection.Stops s)) kind most = tt
+check_settles (Call.Ask t) p (Ok None) kind most = tt
+check_settles (Call.Ask t) p (Ok (Some x)) kind most = tt
+check_settles (Call.Completion t m n) p (Ok None) kind most = tt
+check_settles (Call.Completion t m n) p (Ok (Some x)) kind most = by_cond Settles (is_started x.entry.phase) (completes_by x.place kind) (refusing Refusal.NotStarted) (completion_settles x.place kind) tt
+check_settles (Call.Outcome t m n o) p (Ok found) kind most = absurd p
 
 pub plain_settles : (c : Call) → Plain c → (checked : Checked) → Settles (effect_of c checked)
 plain_settles c p checked = check_settles c p checked.check checked.kind checked.most

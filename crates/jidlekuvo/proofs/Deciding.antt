@@ -1,7 +1,9 @@
 -- What a call does to a run, from what the checks say of its numbers.
+use Rattle.std.specs.Prelude.{Option, Result}
 use mathlib.Core.Path.{◌≡◌, refl, ◌∙◌}
 use Prim.Native.Nat.{◌<◌}
-use Rattle.run_checks.specs.declared.Check.{Check}
+use Rattle.run_window.specs.declared.Found.{Found}
+use Rattle.run_checks.specs.declared.Objection.{Objection}
 use Rattle.run.specs.declared.Call.{Call}
 use Rattle.run.specs.declared.Effect.{Effect}
 use Rattle.run.specs.Calls.{reading_of}
@@ -12,7 +14,7 @@ use Rattle.held_checks.specs.Inner.Checks.{check_nodes_last}
 use Rattle.held_checks.proofs.Laws.Checks.{found_below, effect_read_lem}
 use Rattle.jidlekuvo.specs.Inner.Steps.{effect_in}
 
-module _ (h : Held) (c : Call) (check : Check) (q : check ≡ check_nodes_last (run_of h) (reading_of c) (sought_by h.rest.psi c)) where
+module _ (h : Held) (c : Call) (check : Result (Option Found) Objection) (q : check ≡ check_nodes_last (run_of h) (reading_of c) (sought_by h.rest.psi c)) where
   pub place_below : place_of (found_by check) < 2_048
   place_below = found_below (run_of h) (reading_of c) (sought_by h.rest.psi c) check q
 

@@ -1,7 +1,7 @@
 -- What the exported functions answer, and the run that they leave.
-use Rattle.std.specs.Prelude.{◌≡◌, Bool, true, false, cond, ℕ}
+use Rattle.std.specs.Prelude.{◌≡◌, Bool, true, false, cond, ℕ, Option, Some, None}
 use Rattle.time.specs.declared.Clock.{Clock}
-use Rattle.run_checks.specs.declared.Halt.{Halt}
+use Rattle.run_checks.specs.declared.Stop.{Stop}
 use Rattle.run.specs.declared.Reply.{Reply}
 use Rattle.run.specs.declared.Answer.{Answer}
 use Rattle.run.specs.declared.Opened.{Opened}
@@ -28,14 +28,14 @@ opened_as o = record { run = held_of o.run; reply = opening_told o.opening }
 -- ---- a call
 
 -- "A refused call hands back the run exactly as it came in. A call to a stopped run does too"
-abbrev pub is_kept : Halt → Reply → Bool
-is_kept (Halt.Stopped s) r = true
-is_kept Halt.Going (Reply.Refused f) = true
-is_kept Halt.Going (Reply.Start p a n) = false
-is_kept Halt.Going Reply.Wait = false
-is_kept Halt.Going Reply.Done = false
-is_kept Halt.Going Reply.Taken = false
-is_kept Halt.Going (Reply.Stopped s) = false
+abbrev pub is_kept : Option Stop → Reply → Bool
+is_kept (Some s) r = true
+is_kept None (Reply.Refused f) = true
+is_kept None (Reply.Start p a n) = false
+is_kept None Reply.Wait = false
+is_kept None Reply.Done = false
+is_kept None Reply.Taken = false
+is_kept None (Reply.Stopped s) = false
 
 -- then every byte stays, also a number that no case has; otherwise all but the plan is the run's after the call
 abbrev pub rest_after : Held → Answer → HeldRest

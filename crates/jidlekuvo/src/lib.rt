@@ -1,5 +1,5 @@
 // What a host in C or Rust links: a run that it keeps between two calls. The run crosses as numbers (crate held), and so do the
-// replies; the header is host/include/jidlekuvo.h.
+// replies; the header is host/include/jidlekuvo.h, and C has numbers for cases.
 #![tactic(auto)]
 
 ghost use Rattle.std.specs.Prelude.{◌≡◌};
@@ -15,6 +15,7 @@ ghost use Rattle.jidlekuvo.specs.Inner.Steps.{stepped_to, Plain, ask_step, compl
 use held::{Held, HeldRest};
 use run::{Call, Effect, Run};
 use time::Clock;
+use times::Progress;
 
 pub mod replies; // what is answered, as numbers
 mod steps; // what a call does, and its answer
@@ -98,7 +99,7 @@ fn outcome(h: Held, t: u64, position: u32, node: u8, o: u8) -> Stepped
     let rest = h.rest;
     let m = held_checks::moment_of(rest, c);
     let held_progress = rest.progress;
-    let progress = held::progresses::progress_of(held_progress);
+    let progress = Progress::from(held_progress);
     steps::learns(m, plan, rest, progress, i, x, e, told)
 }
 
@@ -128,7 +129,7 @@ pub extern "C" fn jidlekuvo_open(plan: &[u8], psi: u64, slack: u64, available: &
     let opening = opened.opening;
     let reply = replies::told_opening(opening);
     let made = opened.run;
-    let run = held::hold_run(made);
+    let run = Held::from(made);
     HeldOpened { run, reply }
 }
 

@@ -10,22 +10,17 @@ use run::{Opening, Reply};
 fn host_reply(r: Record) -> HostReply
     ensures { result ≡ host_reply r }
 {
-    if r.answer == 1 {
-        return HostReply {
-            place: r.place,
-            position: r.position,
-            kind: r.answer,
-            number: 0,
-            activity: r.number,
-            node: r.node,
-        };
-    }
+    let (number, activity) = if r.answer == 1 {
+        (0, r.number)
+    } else {
+        (r.number, 0)
+    };
     HostReply {
         place: r.place,
         position: r.position,
         kind: r.answer,
-        number: r.number,
-        activity: 0,
+        number,
+        activity,
         node: r.node,
     }
 }

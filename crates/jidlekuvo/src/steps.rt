@@ -1,7 +1,6 @@
 // What a call does to a run that is given as numbers, and the answer that it then gets.
-ghost use Rattle.std.specs.Prelude.{map, ◌≡◌, ◌<◌, set};
+ghost use Rattle.std.specs.Prelude.{map, ◌≡◌, ◌<◌, set, Some, None};
 ghost use Rattle.plan.specs.Plan.{outcomes_of};
-ghost use Rattle.run_checks.specs.declared.Halt.{Halt};
 ghost use Rattle.run_loading.specs.Inner.Loading.{Loads};
 ghost use Rattle.run.specs.declared.Effect.{Effect};
 ghost use Rattle.run.specs.declared.Reply.{Reply};
@@ -15,18 +14,20 @@ ghost use Rattle.jidlekuvo.specs.Inner.Steps.{effect_in, stepped_of, stepped_by,
 
 use crate::{Stepped, replies};
 use held::{HeldEntry, HeldPlan, HeldRest};
-use run::{Call, Effect, Halt, Reply, Stop};
-use run_checks::{Check, Moment};
+use run::{Call, Effect, Reply, Stop};
+use run_checks::{Moment, Objection};
 use run_loading::Loading;
-use run_window::{Entry, WINDOW};
+use run_window::{Entry, Found, WINDOW};
 use times::Progress;
 
 // The answer of a call that leaves every byte of the run.
 fn kept(rest: HeldRest, told: Reply) -> Stepped
     ensures { result ≡ record { rest = rest; reply = told_of told } }
 {
-    let reply = replies::told(told);
-    Stepped { rest, reply }
+    Stepped {
+        rest,
+        reply: replies::told(told),
+    }
 }
 
 // The answer of a call that changes the run, from the parts of the run after it; its window has been made fresh.
@@ -34,44 +35,39 @@ fn written(
     m: Moment,
     window: [HeldEntry; WINDOW],
     progress: Progress,
-    halt: Halt,
+    halt: Option<Stop>,
     told: Reply,
 ) -> Stepped
     ensures { result ≡ stepped_with m window progress halt told }
 {
-    let psi = m.psi;
-    let last = m.t;
-    let rest = held::rest_with(psi, m.slack, last, window, progress, halt);
-    let reply = replies::told(told);
-    Stepped { rest, reply }
+    Stepped {
+        rest: held::rest_with(m.psi, m.slack, m.t, window, progress, halt),
+        reply: replies::told(told),
+    }
 }
 
 // The answer of a call that leaves the window.
-fn heard(m: Moment, rest: HeldRest, progress: Progress, halt: Halt, told: Reply) -> Stepped
+fn heard(m: Moment, rest: HeldRest, progress: Progress, halt: Option<Stop>, told: Reply) -> Stepped
     ensures { result ≡ stepped_by m (map entry_of rest.window) progress halt told }
 {
-    let window = held::places::fresh(rest);
-    written(m, window, progress, halt, told)
+    written(m, held::places::fresh(rest), progress, halt, told)
 }
 
 // The answer of a call that stores entry e at place i.
 fn stored(m: Moment, rest: HeldRest, progress: Progress, i: usize, e: Entry, told: Reply) -> Stepped
     requires { i < 512 }
-    ensures { result ≡ stepped_by m (set (map entry_of rest.window) i e) progress Halt.Going told }
+    ensures { result ≡ stepped_by m (set (map entry_of rest.window) i e) progress None told }
 {
     let mut window = held::places::fresh(rest);
-    let x = held::places::hold_entry(e);
-    window[i] = x;
-    written(m, window, progress, Halt::Going, told)
+    window[i] = HeldEntry::from(e);
+    written(m, window, progress, None, told)
 }
 
 // The answer of a call that stops the run.
 fn stopped(m: Moment, rest: HeldRest, progress: Progress, s: Stop) -> Stepped
-    ensures { result ≡ stepped_by m (map entry_of rest.window) progress (Halt.Stopped s) (Reply.Stopped s) }
+    ensures { result ≡ stepped_by m (map entry_of rest.window) progress (Some s) (Reply.Stopped s) }
 {
-    let halt = Halt::Stopped(s);
-    let told = Reply::Stopped(s);
-    heard(m, rest, progress, halt, told)
+    heard(m, rest, progress, Some(s), Reply::Stopped(s))
 }
 
 // The answer of an outcome, with what was loaded after it.
@@ -102,7 +98,7 @@ pub fn learns(
     o: u8,
 ) -> Stepped
     requires { Loads (plan_of held) progress × (i < 512) × (e < held.events) × (o < outcomes_of (plan_of held) e) }
-    ensures { result ≡ stepped_of (acted (run_at (plan_of held) progress (map entry_of rest.window) m Halt.Going) m.t (Effect.Learns i x e o)) }
+    ensures { result ≡ stepped_of (acted (run_at (plan_of held) progress (map entry_of rest.window) m None) m.t (Effect.Learns i x e o)) }
 {
     let held_window = rest.window;
     let plan = held::plan_upto(held);
@@ -118,11 +114,8 @@ fn at_rest(finals: u64, state: u8, rest: HeldRest) -> Reply
     requires { state < 64 }
     ensures { result ≡ rests_as finals state (map entry_of rest.window) }
 {
-    if plan::is_final(finals, state as usize) {
-        if held_checks::places::is_empty(rest) {
-            return Reply::Done;
-        }
-        return Reply::Wait;
+    if plan::is_final(finals, usize::from(state)) && held_checks::places::is_empty(rest) {
+        return Reply::Done;
     }
     Reply::Wait
 }
@@ -133,28 +126,31 @@ fn at_rest(finals: u64, state: u8, rest: HeldRest) -> Reply
 // function the arrays that they index would be copied at its entry too. No more is made of the numbers than a call needs.
 
 // What the checks say, with the nodes taken to be within the limits.
-pub fn check_on(limits: bool, plan: HeldPlan, rest: HeldRest, c: Call) -> Check
+pub fn check_on(
+    limits: bool,
+    plan: HeldPlan,
+    rest: HeldRest,
+    c: Call,
+) -> Result<Option<Found>, Objection>
     requires { limits ≡ all_but_nodes (run_by plan rest) }
     ensures { result ≡ check_nodes_last (run_by plan rest) (reading_of c) (sought_by rest.psi c) }
 {
-    let held_halt = rest.halt;
     let m = held_checks::moment_of(rest, c);
-    let psi = m.psi;
-    let sought = run::effects::sought_by(psi, c);
+    let sought = run::effects::sought_by(m.psi, c);
     let seen = held_checks::look(limits, rest, plan, m, sought);
-    let halt = held::halts::halt_of(held_halt);
+    let halt = held::halts::halt_of(rest.halt);
     held_checks::check_call(limits, halt, m, seen)
 }
 
 // What the call then does.
-pub fn effect_on(plan: HeldPlan, c: Call, check: Check) -> Effect
+pub fn effect_on(plan: HeldPlan, c: Call, check: Result<Option<Found>, Objection>) -> Effect
     requires { place_of (found_by check) < 2_048 }
     ensures { result ≡ effect_in plan c check }
 {
-    let outcomes = plan.outcomes;
     let k = run::effects::place_of(check);
     let nodes = held_checks::plans::nodes_in_limits(plan, k);
-    held_checks::effect(c, check, nodes, outcomes)
+    let kind = nodes.good.then_some(nodes.kind);
+    held_checks::effect(c, check, kind, plan.outcomes)
 }
 
 // Carries out every effect but `Learns`: only `outcome` has that, and the room on the stack for it.
@@ -164,13 +160,13 @@ pub fn carried(finals: u64, rest: HeldRest, c: Call, effect: Effect) -> Stepped
 {
     let m = held_checks::moment_of(rest, c);
     let held_progress = rest.progress;
-    let progress = held::progresses::progress_of(held_progress);
+    let progress = Progress::from(held_progress);
     match effect {
         Effect::Stays(told) => return kept(rest, told),
         Effect::Stops(s) => return stopped(m, rest, progress, s),
         Effect::Rests => {
             let told = at_rest(finals, progress.state, rest);
-            return heard(m, rest, progress, Halt::Going, told);
+            return heard(m, rest, progress, None, told);
         }
         Effect::Stores(i, e, told) => return stored(m, rest, progress, i, e, told),
         Effect::Learns(_, _, _, _) => return kept(rest, Reply::Taken), // never: `Carries`

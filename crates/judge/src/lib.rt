@@ -3,20 +3,27 @@
 
 ghost use Rattle.std.specs.Prelude.{◌≡◌};
 ghost use Rattle.plan.specs.Limits.{InLimits};
-ghost use Rattle.judge.specs.Judge.{judge_of};
+ghost use Rattle.judge.specs.Judge.{refused_plan, judge_of};
 ghost use Rattle.judge.specs.Inner.Judge.{plan_verdict};
 
-use plan::{Plan, PlanRead, Verdict};
+use plan::{FaultAt, Plan, PlanRead, Verdict};
+
+// A refused plan: the fault and its place, and a plan of zeros.
+fn refused_plan(fault: FaultAt) -> PlanRead
+    ensures { result ≡ refused_plan fault.fault fault.place }
+{
+    PlanRead {
+        verdict: Err(fault),
+        plan: plan_read::zero_plan(),
+    }
+}
 
 // The verdict on a plan that was read.
 fn plan_verdict(plan: Plan) -> Verdict
     requires { InLimits plan }
     ensures { result ≡ plan_verdict plan }
 {
-    let v = activity::activities(plan);
-    let Verdict::Accepted = v else {
-        return v;
-    };
+    activity::activities(plan)?;
     let emits = automaton_verdict::emissions(plan);
     let automaton = plan.automaton;
     let outcomes = plan.outcomes;
@@ -27,18 +34,15 @@ fn plan_verdict(plan: Plan) -> Verdict
 pub fn judge(bytes: &[u8]) -> PlanRead
     ensures { result ≡ judge_of bytes.now }
 {
-    let read = plan_read::read(bytes);
-    let v = read.verdict;
-    match v {
-        Verdict::Refused(f, place) => plan_read::no_plan(f, place),
-        Verdict::Accepted => {
-            let plan = read.plan;
-            let w = plan_verdict(plan);
-            match w {
-                Verdict::Refused(f, place) => plan_read::no_plan(f, place),
-                Verdict::Accepted => read,
-            }
-        }
+    match plan_read::read(bytes) {
+        Err(fault) => refused_plan(fault),
+        Ok(plan) => match plan_verdict(plan) {
+            Err(fault) => refused_plan(fault),
+            Ok(()) => PlanRead {
+                verdict: Ok(()),
+                plan,
+            },
+        },
     }
 }
 
@@ -46,11 +50,6 @@ pub fn judge(bytes: &[u8]) -> PlanRead
 pub fn verdict(bytes: &[u8]) -> Verdict
     ensures { result ≡ (judge_of bytes.now).verdict }
 {
-    let read = plan_read::read(bytes);
-    let v = read.verdict;
-    let Verdict::Accepted = v else {
-        return v;
-    };
-    let plan = read.plan;
+    let plan = plan_read::read(bytes)?;
     plan_verdict(plan)
 }

@@ -5,10 +5,8 @@ ghost use Rattle.std.specs.Prelude.{◌≡◌};
 ghost use Rattle.run.specs.Calls.{refuse};
 ghost use Rattle.link.specs.Receive.{receive_of};
 
-pub use link_calls::{
-    AnswerRead, CallRead, of_call, of_reply, read_answer, read_call, write_answer, write_call,
-};
-pub use link_messages::{Message, NotSent, Sent};
+pub use link_calls::{of_call, of_reply, read_answer, read_call, write_answer, write_call};
+pub use link_messages::{Message, NotSent};
 use run::{Answer, Refusal, Reply, Run};
 
 // A bad message hands back the run exactly as it came in.
@@ -26,10 +24,10 @@ pub fn receive(run: Run, message: &[u8]) -> Answer
 {
     let read = link_calls::read_call(message);
     match read {
-        CallRead::Call(c) => {
+        Ok(c) => {
             return run.call(c);
         }
-        CallRead::Refused(f) => {
+        Err(f) => {
             return refused(run, f);
         }
     }

@@ -1,11 +1,10 @@
 -- Messages to the board: "Ask has bit 0. Completion has 0 to 2. Outcome has 0 to 3."
-use Rattle.std.specs.Prelude.{true, false, cond, List, [], ◌∷◌, ℕ, eqb}
+use Rattle.std.specs.Prelude.{true, false, cond, List, [], ◌∷◌, ℕ, eqb, Result, Ok, Err}
 use Rattle.time.specs.declared.Clock.{Clock}
 use Rattle.run.specs.declared.Call.{Call}
 use Rattle.run_checks.specs.declared.Refusal.{Refusal}
 use Rattle.format.specs.Format.{print}
 use Rattle.link_messages.specs.declared.Message.{Message}
-use Rattle.link_calls.specs.declared.CallRead.{CallRead}
 use Rattle.link_messages.specs.Message.{bits, Direction, message, read_by}
 
 abbrev pub ask_map : ℕ
@@ -50,13 +49,13 @@ abbrev pub refusal_of : ℕ → Refusal
 refusal_of n = cond (eqb n 61) Refusal.Unlisted Refusal.Length
 
 -- the call that a message is
-abbrev pub call_from : Message → CallRead
+abbrev pub call_from : Message → Result Call Refusal
 call_from s =
     by_call_map s.map
-    (CallRead.Call (Call.Ask (clock s.reading)))
-    (CallRead.Call (Call.Completion (clock s.reading) s.position s.node))
-    (CallRead.Call (Call.Outcome (clock s.reading) s.position s.node s.outcome))
-    (CallRead.Refused Refusal.Unlisted)
+    (Ok (Call.Ask (clock s.reading)))
+    (Ok (Call.Completion (clock s.reading) s.position s.node))
+    (Ok (Call.Outcome (clock s.reading) s.position s.node s.outcome))
+    (Err Refusal.Unlisted)
 
-unfoldable pub read_call : List ℕ → CallRead
-read_call b = read_by to_board b call_from (λ n. CallRead.Refused (refusal_of n))
+unfoldable pub read_call : List ℕ → Result Call Refusal
+read_call b = read_by to_board b call_from (λ n. Err (refusal_of n))

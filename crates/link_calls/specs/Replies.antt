@@ -1,13 +1,12 @@
 -- Messages to the host: "Start has 1, 2 and 4, wait none, a refusal 5 (50 to 55, 61 or 62), stops 41 and 42 have 1, 2 and 5, stops 43
 -- and 44 have 5."
-use Rattle.std.specs.Prelude.{Bool, true, false, cond, List, [], ◌∷◌, ℕ, eqb}
+use Rattle.std.specs.Prelude.{true, false, cond, List, [], ◌∷◌, ℕ, eqb, Result, Ok, Err, is_ok}
 use Rattle.run.specs.declared.Reply.{Reply}
 use Rattle.run_checks.specs.declared.Refusal.{Refusal}
 use Rattle.run_checks.specs.declared.Stop.{Stop}
 use Rattle.run.specs.Numbers.{refusal_number, stop_number}
 use Rattle.format.specs.Format.{print}
 use Rattle.link_messages.specs.declared.Message.{Message}
-use Rattle.link_calls.specs.declared.AnswerRead.{AnswerRead}
 use Rattle.link_messages.specs.Message.{bits, Direction, message, read_by}
 use Rattle.link_calls.specs.Calls.{refusal_of}
 
@@ -63,18 +62,14 @@ abbrev pub naming : ℕ → ℕ → List Reply
 naming p n = Reply.Stopped (Stop.Late p n) ∷ Reply.Stopped (Stop.Overdue p n) ∷ []
 
 -- the one of them that has number x
-abbrev pub with_number : ℕ → List Reply → AnswerRead
-with_number x [] = AnswerRead.Refused Refusal.Unlisted
-with_number x (r ∷ more) = cond (eqb x (reply_number r)) (AnswerRead.Reply r) (with_number x more)
-
-abbrev pub is_reply : AnswerRead → Bool
-is_reply (AnswerRead.Reply r) = true
-is_reply (AnswerRead.Refused f) = false
+abbrev pub with_number : ℕ → List Reply → Result Reply Refusal
+with_number x [] = Err Refusal.Unlisted
+with_number x (r ∷ more) = cond (eqb x (reply_number r)) (Ok r) (with_number x more)
 
 abbrev pub to_host : Direction
 to_host = record {
   listed = λ m. by_reply_map m true true true true true true false;
-  answers = λ m x. by_reply_map m false false false false (is_reply (with_number x numbered)) (is_reply (with_number x (naming 0 0))) false;
+  answers = λ m x. by_reply_map m false false false false (is_ok (with_number x numbered)) (is_ok (with_number x (naming 0 0))) false;
 }
 
 -- ---- a reply as a message
@@ -108,16 +103,16 @@ encode_reply r = print (message to_host) (of_reply r)
 -- ---- reading
 
 -- the reply that a message is
-abbrev pub reply_from : Message → AnswerRead
+abbrev pub reply_from : Message → Result Reply Refusal
 reply_from s =
     by_reply_map s.map
-    (AnswerRead.Reply (Reply.Start s.position s.activity s.node))
-    (AnswerRead.Reply Reply.Wait)
-    (AnswerRead.Reply Reply.Done)
-    (AnswerRead.Reply Reply.Taken)
+    (Ok (Reply.Start s.position s.activity s.node))
+    (Ok Reply.Wait)
+    (Ok Reply.Done)
+    (Ok Reply.Taken)
     (with_number s.number numbered)
     (with_number s.number (naming s.position s.node))
-    (AnswerRead.Refused Refusal.Unlisted)
+    (Err Refusal.Unlisted)
 
-unfoldable pub read_answer : List ℕ → AnswerRead
-read_answer b = read_by to_host b reply_from (λ n. AnswerRead.Refused (refusal_of n))
+unfoldable pub read_answer : List ℕ → Result Reply Refusal
+read_answer b = read_by to_host b reply_from (λ n. Err (refusal_of n))

@@ -3,36 +3,35 @@ ghost use Rattle.std.specs.Prelude.{true, false, ◌≡◌};
 ghost use Rattle.link_messages.specs.Writing.{sent_of, buffer_of};
 ghost use Rattle.link_calls.specs.Calls.{by_call_map, to_board, call_message, of_call, read_call};
 
-use crate::CallRead;
-use link_messages::{Message, Sent};
+use link_messages::{Message, NotSent};
 use run::{Call, Refusal};
 use time::Clock;
 
 // The call that a message says, or 62, then 61.
-pub fn read_call(bytes: &[u8]) -> CallRead
+pub fn read_call(bytes: &[u8]) -> Result<Call, Refusal>
     ensures { result ≡ read_call bytes.now }
 {
     if !link_messages::has_length(bytes) {
-        return CallRead::Refused(Refusal::Length);
+        return Err(Refusal::Length);
     }
     let map = bytes[0];
     match map {
         0x01 => {
             let t = Clock(wire::eight(bytes, 1));
-            return CallRead::Call(Call::Ask(t));
+            return Ok(Call::Ask(t));
         }
         0x07 => {
             let t = Clock(wire::eight(bytes, 1));
             let position = wire::four(bytes, 9);
-            return CallRead::Call(Call::Completion(t, position, bytes[13]));
+            return Ok(Call::Completion(t, position, bytes[13]));
         }
         0x0F => {
             let t = Clock(wire::eight(bytes, 1));
             let position = wire::four(bytes, 9);
-            return CallRead::Call(Call::Outcome(t, position, bytes[13], bytes[14]));
+            return Ok(Call::Outcome(t, position, bytes[13], bytes[14]));
         }
         _ => {
-            return CallRead::Refused(Refusal::Unlisted);
+            return Err(Refusal::Unlisted);
         }
     }
 }
@@ -75,7 +74,7 @@ fn is_call(m: u8) -> bool
 }
 
 // Writes a message to the board: 61, then 36.
-pub fn write_call(m: Message, out: &mut [u8]) -> Sent
+pub fn write_call(m: Message, out: &mut [u8]) -> Result<usize, NotSent>
     ensures { (result ≡ sent_of to_board m out.old) × (out.new ≡ buffer_of to_board m out.old) }
 {
     let good = is_call(m.map);

@@ -2,67 +2,66 @@
 // and 44 have 5."
 ghost use Rattle.std.specs.Prelude.{◌≡◌};
 ghost use Rattle.link_messages.specs.Writing.{permits, sent_of, buffer_of};
-ghost use Rattle.link_calls.specs.Replies.{with_number, numbered, naming, is_reply, to_host, plain, named, of_stop, of_reply, read_answer};
+ghost use Rattle.link_calls.specs.Replies.{with_number, numbered, naming, to_host, plain, named, of_stop, of_reply, read_answer};
 
-use crate::AnswerRead;
-use link_messages::{Message, Sent};
+use link_messages::{Message, NotSent};
 use run::{Refusal, Reply, Stop};
 
 // ---- reading
 
 // The answer that has a number alone: a refusal, or a stop that names no node.
-fn with_number(x: u8) -> AnswerRead
+fn with_number(x: u8) -> Result<Reply, Refusal>
     ensures { result ≡ with_number x numbered }
 {
     let number = x;
     match number {
-        50 => AnswerRead::Reply(Reply::Refused(Refusal::OutOfLimits)),
-        51 => AnswerRead::Reply(Reply::Refused(Refusal::ReadingBelow)),
-        52 => AnswerRead::Reply(Reply::Refused(Refusal::NoSuchNode)),
-        53 => AnswerRead::Reply(Reply::Refused(Refusal::NotStarted)),
-        54 => AnswerRead::Reply(Reply::Refused(Refusal::OtherKind)),
-        55 => AnswerRead::Reply(Reply::Refused(Refusal::OutcomeLacking)),
-        61 => AnswerRead::Reply(Reply::Refused(Refusal::Unlisted)),
-        62 => AnswerRead::Reply(Reply::Refused(Refusal::Length)),
-        43 => AnswerRead::Reply(Reply::Stopped(Stop::Full)),
-        44 => AnswerRead::Reply(Reply::Stopped(Stop::Beyond)),
-        _ => AnswerRead::Refused(Refusal::Unlisted),
+        50 => Ok(Reply::Refused(Refusal::OutOfLimits)),
+        51 => Ok(Reply::Refused(Refusal::ReadingBelow)),
+        52 => Ok(Reply::Refused(Refusal::NoSuchNode)),
+        53 => Ok(Reply::Refused(Refusal::NotStarted)),
+        54 => Ok(Reply::Refused(Refusal::OtherKind)),
+        55 => Ok(Reply::Refused(Refusal::OutcomeLacking)),
+        61 => Ok(Reply::Refused(Refusal::Unlisted)),
+        62 => Ok(Reply::Refused(Refusal::Length)),
+        43 => Ok(Reply::Stopped(Stop::Full)),
+        44 => Ok(Reply::Stopped(Stop::Beyond)),
+        _ => Err(Refusal::Unlisted),
     }
 }
 
 // The stop that has a number and names a node.
-fn with_node(position: u32, node: u8, x: u8) -> AnswerRead
+fn with_node(position: u32, node: u8, x: u8) -> Result<Reply, Refusal>
     ensures { result ≡ with_number x (naming position node) }
 {
     let number = x;
     match number {
-        41 => AnswerRead::Reply(Reply::Stopped(Stop::Late(position, node))),
-        42 => AnswerRead::Reply(Reply::Stopped(Stop::Overdue(position, node))),
-        _ => AnswerRead::Refused(Refusal::Unlisted),
+        41 => Ok(Reply::Stopped(Stop::Late(position, node))),
+        42 => Ok(Reply::Stopped(Stop::Overdue(position, node))),
+        _ => Err(Refusal::Unlisted),
     }
 }
 
 // The reply that a message says, or 62, then 61.
-pub fn read_answer(bytes: &[u8]) -> AnswerRead
+pub fn read_answer(bytes: &[u8]) -> Result<Reply, Refusal>
     ensures { result ≡ read_answer bytes.now }
 {
     if !link_messages::has_length(bytes) {
-        return AnswerRead::Refused(Refusal::Length);
+        return Err(Refusal::Length);
     }
     let map = bytes[0];
     match map {
         0x16 => {
             let position = wire::four(bytes, 1);
-            return AnswerRead::Reply(Reply::Start(position, bytes[6], bytes[5]));
+            return Ok(Reply::Start(position, bytes[6], bytes[5]));
         }
         0x00 => {
-            return AnswerRead::Reply(Reply::Wait);
+            return Ok(Reply::Wait);
         }
         0x40 => {
-            return AnswerRead::Reply(Reply::Done);
+            return Ok(Reply::Done);
         }
         0x80 => {
-            return AnswerRead::Reply(Reply::Taken);
+            return Ok(Reply::Taken);
         }
         0x20 => {
             return with_number(bytes[1]);
@@ -72,7 +71,7 @@ pub fn read_answer(bytes: &[u8]) -> AnswerRead
             return with_node(position, bytes[5], bytes[6]);
         }
         _ => {
-            return AnswerRead::Refused(Refusal::Unlisted);
+            return Err(Refusal::Unlisted);
         }
     }
 }
@@ -114,10 +113,8 @@ fn of_stop(s: Stop) -> Message
 {
     let x = numbers::stop_number(s);
     match s {
-        Stop::Late(p, n) => named(p, n, x),
-        Stop::Overdue(p, n) => named(p, n, x),
-        Stop::Full => plain(0x20, x),
-        Stop::Beyond => plain(0x20, x),
+        Stop::Late(p, n) | Stop::Overdue(p, n) => named(p, n, x),
+        Stop::Full | Stop::Beyond => plain(0x20, x),
     }
 }
 
@@ -143,15 +140,6 @@ pub fn of_reply(r: Reply) -> Message
     }
 }
 
-fn is_reply(read: AnswerRead) -> bool
-    ensures { result ≡ is_reply read }
-{
-    match read {
-        AnswerRead::Reply(_) => true,
-        AnswerRead::Refused(_) => false,
-    }
-}
-
 // Whether the map is listed, and an answer with this map has the number.
 fn is_answer(m: u8, number: u8) -> bool
     ensures { result ≡ permits to_host m number }
@@ -159,14 +147,14 @@ fn is_answer(m: u8, number: u8) -> bool
     let map = m;
     match map {
         0x16 | 0x00 | 0x40 | 0x80 => true,
-        0x20 => is_reply(with_number(number)),
-        0x26 => is_reply(with_node(0, 0, number)),
+        0x20 => with_number(number).is_ok(),
+        0x26 => with_node(0, 0, number).is_ok(),
         _ => false,
     }
 }
 
 // Writes a message to the host: 61, then 36.
-pub fn write_answer(m: Message, out: &mut [u8]) -> Sent
+pub fn write_answer(m: Message, out: &mut [u8]) -> Result<usize, NotSent>
     ensures { (result ≡ sent_of to_host m out.old) × (out.new ≡ buffer_of to_host m out.old) }
 {
     let good = is_answer(m.map, m.number);

@@ -1,4 +1,5 @@
 -- One turn of the loops over the messages.
+use Rattle.std.specs.Prelude.{Some, None}
 use mathlib.Core.Path.{◌≡◌, refl, ◌∙◌, ap}
 use mathlib.Core.Bool.{Bool, true, false, cond}
 use mathlib.Core.List.{List, [], ◌∷◌, ◌++◌}
@@ -13,7 +14,6 @@ use Rattle.run.specs.declared.Answer.{Answer}
 use Rattle.wire.specs.Puts.{Puts}
 use Rattle.drive_input.specs.Input.{byte_at}
 use Rattle.link.specs.Receive.{receive_of}
-use Rattle.link_drive.specs.declared.Next.{Next}
 use Rattle.link_drive.specs.LinkDrive.{message_at, past_message, messages_from, answered}
 use Rattle.link_drive.specs.Inner.Answers.{next_of, answers_from}
 
@@ -24,45 +24,45 @@ pub record Found (b : List ℕ) (at next : ℕ) : Type 0 where
   pub fits : next ≤ length b
 
 module _ (b : List ℕ) (at : ℕ) where
-  pub next_ends : length b ≤ at + byte_at b at → Next.Ends ≡ next_of b at
+  pub next_ends : length b ≤ at + byte_at b at → None ≡ next_of b at
   unfolding next_of
   next_ends h = rw (lt-leb (past_message b at) (length b) (omega arith))
 
-  pub next_at : past_message b at ≤ length b → (next : ℕ) → next ≡ past_message b at → Next.At next ≡ next_of b at
+  pub next_at : past_message b at ≤ length b → (next : ℕ) → next ≡ past_message b at → Some next ≡ next_of b at
   unfolding next_of
   next_at h next e = rw (le-leb (past_message b at) (length b) h, e)
 
-  pub found : (next : ℕ) → next_of b at ≡ Next.At next → Found b at next
+  pub found : (next : ℕ) → next_of b at ≡ Some next → Found b at next
   unfolding next_of
   found next e =
       elim (dec_le (past_message b at) (length b)) [
         | yes f ↦
-            let w : Next.At (past_message b at) ≡ Next.At next = rw (le-leb (past_message b at) (length b) f) at e in
+            let w : Some (past_message b at) ≡ Some next = rw (le-leb (past_message b at) (length b) f) at e in
             let z : next ≡ past_message b at = cc in
             record { is = z; ahead = omega arith; fits = omega arith }
         | no f ↦
-            let w : Next.Ends ≡ Next.At next = rw (lt-leb (past_message b at) (length b) (omega arith)) at e in
+            let w : None ≡ Some next = rw (lt-leb (past_message b at) (length b) (omega arith)) at e in
             let z : ◌≡◌ {A = ℕ} 0 1 = cc in
             absurd (omega arith)
       ]
 
-  ends : next_of b at ≡ Next.Ends → leb (past_message b at) (length b) ≡ false
+  ends : next_of b at ≡ None → leb (past_message b at) (length b) ≡ false
   unfolding next_of
   ends e =
       elim (dec_le (past_message b at) (length b)) [
         | yes f ↦
-            let w : Next.At (past_message b at) ≡ Next.Ends = rw (le-leb (past_message b at) (length b) f) at e in
+            let w : Some (past_message b at) ≡ None = rw (le-leb (past_message b at) (length b) f) at e in
             let z : ◌≡◌ {A = ℕ} 0 1 = cc in
             absurd (omega arith)
         | no f ↦ lt-leb (past_message b at) (length b) (omega arith)
       ]
 
-  pub none_left : next_of b at ≡ Next.Ends → (left : ℕ) → messages_from left b at ≡ []
+  pub none_left : next_of b at ≡ None → (left : ℕ) → messages_from left b at ≡ []
   unfolding messages_from
   none_left e zero = refl
   none_left e (suc left) = rw (ends e)
 
-  module _ (next : ℕ) (e : next_of b at ≡ Next.At next) (left k : ℕ) (more : left ≡ suc k) where
+  module _ (next : ℕ) (e : next_of b at ≡ Some next) (left k : ℕ) (more : left ≡ suc k) where
     pub one_more : messages_from left b at ≡ message_at b at ∷ messages_from k b next
     unfolding messages_from
     one_more = let f = found next e in rw (more, f.is, le-leb (past_message b at) (length b) (omega (arith, f.is, f.fits)))

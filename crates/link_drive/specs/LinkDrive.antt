@@ -1,12 +1,12 @@
 -- A list of messages driven through a run: the record that answers the opening and the answer to each message, up to where the
 -- input ends or ends inside a message, and what is left in a lent buffer.
-use Rattle.std.specs.Prelude.{cond, List, [], ◌∷◌, ◌++◌, ℕ, zero, suc, ◌+◌, length, take, drop, leb}
+use Rattle.std.specs.Prelude.{cond, List, [], ◌∷◌, ◌++◌, ℕ, zero, suc, ◌+◌, length, take, drop, leb, Result}
 use Rattle.wire.specs.Puts.{left_by}
 use Rattle.run.specs.declared.Run.{Run}
 use Rattle.run.specs.declared.Reply.{Reply}
 use Rattle.drive_input.specs.Input.{byte_at, is_whole, parts_at}
 use Rattle.drive_records.specs.Records.{record_bytes, opening_record}
-use Rattle.drive.specs.declared.Recorded.{Recorded}
+use Rattle.drive.specs.declared.NotRecorded.{NotRecorded}
 use Rattle.drive.specs.Drive.{opened, recorded_by}
 use Rattle.link_calls.specs.Replies.{encode_reply}
 use Rattle.link.specs.Receive.{receive_of}
@@ -56,7 +56,7 @@ link_text b =
 
 -- ---- a lent buffer: "Number 36 and the unchanged bytes after hold for every writer into a lent buffer."
 
-unfoldable pub linked_of : List ℕ → List ℕ → Recorded
+unfoldable pub linked_of : List ℕ → List ℕ → Result ℕ NotRecorded
 linked_of b out = recorded_by (link_text b) out
 
 unfoldable pub link_buffer : List ℕ → List ℕ → List ℕ

@@ -2,39 +2,31 @@
 // answers is in specs/LinkDrive.antt, that of the opening before them in drive_input.
 #![tactic(auto)]
 
-ghost use Rattle.std.specs.Prelude.{◌≡◌, ◌+◌, ◌≤◌, leb, length};
+ghost use Rattle.std.specs.Prelude.{◌≡◌, ◌+◌, ◌≤◌, leb, length, Some};
 ghost use Rattle.wire.specs.Puts.{Puts};
 ghost use Rattle.drive_input.specs.Input.{head_of};
-ghost use Rattle.drive_input.specs.declared.HeadRead.{HeadRead};
 ghost use Rattle.link_drive.specs.LinkDrive.{messages_from, answered, linked_of, link_buffer};
 ghost use Rattle.link_drive.specs.Inner.Answers.{next_of, answers_from};
 
-use basis::u8_to_usize;
-use drive::{NotRecorded, Recorded};
-use drive_input::{Head, HeadRead};
+use drive::NotRecorded;
+use drive_input::Head;
 use run::{Reply, Run};
-
-// The offset past a message, or the input ends, there or inside it.
-#[derive(Clone, Copy)]
-pub enum Next {
-    At(usize),
-    Ends,
-}
 
 // ---- the messages
 
-fn next_of(input: &[u8], at: usize) -> Next
+// The offset past the message at `at`, unless the input ends there or inside it.
+fn next_of(input: &[u8], at: usize) -> Option<usize>
     requires { at ≤ length input.now }
     ensures { result ≡ next_of input.now at }
 {
     if at == input.len() {
-        return Next::Ends;
+        return None;
     }
-    let n = u8_to_usize(input[at]);
+    let n = usize::from(input[at]);
     if input.len() - at <= n {
-        return Next::Ends;
+        return None;
     }
-    Next::At(at + 1 + n)
+    Some(at + 1 + n)
 }
 
 // How many messages there are from `from` on; the input holds fewer than it has bytes.
@@ -42,18 +34,15 @@ fn count_from(input: &[u8], from: usize) -> usize
     requires { from ≤ length input.now }
     ensures { result ≡ length (messages_from (length input.now) input.now from) }
 {
+    let most = input.len();
     let mut at = from;
-    let mut count = 0;
-    let mut left = input.len();
-    while 0 < left {
-        let Next::At(next) = next_of(input, at) else {
+    for count in 0..most {
+        let Some(next) = next_of(input, at) else {
             return count;
         };
         at = next;
-        count += 1;
-        left -= 1;
     }
-    count
+    most
 }
 
 // ---- an answer
@@ -76,7 +65,8 @@ fn put_answer(out: &mut [u8], at: usize, reply: Reply) -> usize
     let start = at + 1;
     let end = start + n;
     out[at] = n as u8;
-    link_calls::write_answer(m, &mut out[start..end]);
+    // It cannot fail: to_host has every reply, and `n` is its length.
+    let _ = link_calls::write_answer(m, &mut out[start..end]);
     end
 }
 
@@ -89,10 +79,9 @@ fn fit_from(input: &[u8], from: usize, first: Run, messages: usize, room: usize)
 {
     let mut run = first;
     let mut at = from;
-    let mut left = messages;
     let mut free = room;
-    while 0 < left {
-        let Next::At(next) = next_of(input, at) else {
+    for _ in 0..messages {
+        let Some(next) = next_of(input, at) else {
             return true;
         };
         let start = at + 1;
@@ -104,7 +93,6 @@ fn fit_from(input: &[u8], from: usize, first: Run, messages: usize, room: usize)
         }
         run = answer.run;
         at = next;
-        left -= 1;
         free -= size;
     }
     true
@@ -141,9 +129,8 @@ fn answers_from(
     let mut run = first;
     let mut at = from;
     let mut end = written;
-    let mut left = messages;
-    while 0 < left {
-        let Next::At(next) = next_of(input, at) else {
+    for _ in 0..messages {
+        let Some(next) = next_of(input, at) else {
             return end;
         };
         let start = at + 1;
@@ -152,39 +139,37 @@ fn answers_from(
         end = put_answer(out, end, reply);
         run = answer.run;
         at = next;
-        left -= 1;
     }
     end
 }
 
 // ---- the whole
 
-// The opening's record and the answers, if all of them fit.
-fn if_they_fit(input: &[u8], head: Head, out: &mut [u8]) -> Recorded
-    requires { head_of input.now ≡ HeadRead.Whole head }
+// The opening's record and the answers, if all of them fit: how many bytes were written.
+fn if_they_fit(input: &[u8], head: Head, out: &mut [u8]) -> Result<usize, NotRecorded>
+    requires { head_of input.now ≡ Some head }
     ensures { (result ≡ linked_of input.now out.old) × (out.new ≡ link_buffer input.now out.old) }
 {
     let opened = drive::open(input, head);
     let run = opened.run;
     let messages = count_from(input, head.parts);
     if !fit(input, head.parts, run, messages, out.len()) {
-        return Recorded::Refused(NotRecorded::TooShort);
+        return Err(NotRecorded::TooShort);
     }
     let opening = opened.opening;
     let record = drive_records::opening_record(opening);
     let end = drive_records::put_at(out, 0, record);
-    let past = answers_from(input, head.parts, run, out, end, messages);
-    Recorded::Bytes(past)
+    Ok(answers_from(input, head.parts, run, out, end, messages))
 }
 
 // Any input and any buffer are taken. What is written is measured first, so that a buffer that is too short stays as it was; bytes
 // after the answers stay as they are.
-pub fn drive(input: &[u8], out: &mut [u8]) -> Recorded
+pub fn drive(input: &[u8], out: &mut [u8]) -> Result<usize, NotRecorded>
     ensures { (result ≡ linked_of input.now out.old) × (out.new ≡ link_buffer input.now out.old) }
 {
     let head = drive_input::head_of(input);
     match head {
-        HeadRead::Ends => Recorded::Bytes(0),
-        HeadRead::Whole(h) => if_they_fit(input, h, out),
+        None => Ok(0),
+        Some(h) => if_they_fit(input, h, out),
     }
 }

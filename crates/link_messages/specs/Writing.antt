@@ -1,11 +1,10 @@
 -- Writing a message into a lent buffer: "61 .. (for a writer too, place 0, before 36)".
-use Rattle.std.specs.Prelude.{Bool, true, cond, ◌&&◌, List, ℕ, ◌^◌, ◌<◌, length, leb}
+use Rattle.std.specs.Prelude.{Bool, true, cond, ◌&&◌, List, ℕ, ◌^◌, ◌<◌, length, leb, Result, Ok, Err}
 use Rattle.wire.specs.Map.{bit}
 use Rattle.wire.specs.Puts.{left_by}
 use Rattle.format.specs.Format.{print}
 use Rattle.link_messages.specs.declared.Message.{Message}
 use Rattle.link_messages.specs.declared.NotSent.{NotSent}
-use Rattle.link_messages.specs.declared.Sent.{Sent}
 use Rattle.link_messages.specs.Message.{Direction, message}
 
 -- what the types of a message's fields hold
@@ -32,18 +31,18 @@ place_of n = 0
 
 -- what a writer of these bytes answers, where `good` says whether its direction has the message: how many bytes it wrote, or why it
 -- wrote none
-abbrev pub sent_by : Bool → List ℕ → List ℕ → Sent
+abbrev pub sent_by : Bool → List ℕ → List ℕ → Result ℕ NotSent
 sent_by good bytes out =
     cond good
-    (cond (leb (length bytes) (length out)) (Sent.Bytes (length bytes)) (Sent.Refused NotSent.TooShort))
-    (Sent.Refused NotSent.Unlisted)
+    (cond (leb (length bytes) (length out)) (Ok (length bytes)) (Err NotSent.TooShort))
+    (Err NotSent.Unlisted)
 
 -- the buffer that it leaves; a refusal leaves it as it was
 abbrev pub buffer_by : Bool → List ℕ → List ℕ → List ℕ
 buffer_by good bytes out = cond good (left_by bytes out) out
 
 -- both, of a direction and a message
-unfoldable pub sent_of : Direction → Message → List ℕ → Sent
+unfoldable pub sent_of : Direction → Message → List ℕ → Result ℕ NotSent
 sent_of d s out = sent_by (permits d s.map s.number) (print (message d) s) out
 
 unfoldable pub buffer_of : Direction → Message → List ℕ → List ℕ

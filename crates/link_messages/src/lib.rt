@@ -1,4 +1,5 @@
 // Messages of the host link: "A message is a map byte and the fields whose bits stand, in bit order, little-endian".
+// The map stays a number: it is a byte of the link, and other maps than the listed ones are written and read (61, 62).
 #![tactic(auto)]
 
 mod lengths;
@@ -30,23 +31,15 @@ pub enum NotSent {
     TooShort,
 }
 
-// How many bytes were written, or why none were.
-#[derive(Clone, Copy)]
-pub enum Sent {
-    Bytes(usize),
-    Refused(NotSent),
-}
-
-// Writes a message of any direction, where `good` says whether that direction has it.
-pub fn write(m: Message, good: bool, out: &mut [u8]) -> Sent
+// Writes a message of any direction, where `good` says whether that direction has it: how many bytes were written.
+pub fn write(m: Message, good: bool, out: &mut [u8]) -> Result<usize, NotSent>
     ensures { (result ≡ sent_by good (message_bytes m) out.old) × (out.new ≡ buffer_by good (message_bytes m) out.old) }
 {
     if !good {
-        return Sent::Refused(NotSent::Unlisted);
+        return Err(NotSent::Unlisted);
     }
     if length_of(m.map) <= out.len() {
-        let end = puts::put_message(out, m);
-        return Sent::Bytes(end);
+        return Ok(puts::put_message(out, m));
     }
-    Sent::Refused(NotSent::TooShort)
+    Err(NotSent::TooShort)
 }

@@ -25,9 +25,9 @@ pub fn put_message(out: &mut [u8], m: Message) -> usize
     let map = m.map;
     let a = wire::puts::put_byte(out, 0, map);
     let b = put_if(out, a, stands(map, 1), m.reading, 8);
-    let c = put_if(out, b, stands(map, 2), m.position as u64, 4);
-    let d = put_if(out, c, stands(map, 4), m.node as u64, 1);
-    let e = put_if(out, d, stands(map, 8), m.outcome as u64, 1);
-    let f = put_if(out, e, stands(map, 16), m.activity as u64, 1);
-    put_if(out, f, stands(map, 32), m.number as u64, 1)
+    let c = put_if(out, b, stands(map, 2), u64::from(m.position), 4);
+    let d = put_if(out, c, stands(map, 4), u64::from(m.node), 1);
+    let e = put_if(out, d, stands(map, 8), u64::from(m.outcome), 1);
+    let f = put_if(out, e, stands(map, 16), u64::from(m.activity), 1);
+    put_if(out, f, stands(map, 32), u64::from(m.number), 1)
 }

@@ -49,12 +49,8 @@ fn moves_of(bytes: &[u8]) -> [Transition; 256]
 {
     let first = move_at(bytes, MOVES);
     let mut moves = [first; 256];
-    let mut i: usize = 0;
-    let mut off = MOVES;
-    while i < 256 {
-        moves[i] = move_at(bytes, off);
-        off += 7;
-        i += 1;
+    for (i, x) in moves.iter_mut().enumerate() {
+        *x = move_at(bytes, MOVES + 7 * i);
     }
     moves
 }

@@ -10,13 +10,11 @@ use run_window::{Entry, Phase};
 fn phase_of(tag: u8) -> Phase
     ensures { result ≡ phase_of tag }
 {
-    if tag % 3 == 0 {
-        return Phase::Free;
+    match tag % 3 {
+        0 => Phase::Free,
+        1 => Phase::Loaded,
+        _ => Phase::Started,
     }
-    if tag % 3 == 1 {
-        return Phase::Loaded;
-    }
-    Phase::Started
 }
 
 fn entry_at(bytes: &[u8], at: usize) -> Entry
@@ -41,12 +39,8 @@ pub fn window_of(bytes: &[u8]) -> [Entry; run_window::WINDOW]
 {
     let first = entry_at(bytes, WINDOW);
     let mut window = [first; run_window::WINDOW];
-    let mut i: usize = 0;
-    let mut off = WINDOW;
-    while i < run_window::WINDOW {
-        window[i] = entry_at(bytes, off);
-        off += 23;
-        i += 1;
+    for (i, x) in window.iter_mut().enumerate() {
+        *x = entry_at(bytes, WINDOW + 23 * i);
     }
     window
 }

@@ -15,12 +15,8 @@ fn times_at(bytes: &[u8], at: usize) -> [Specified; 16]
     ensures { result ≡ array_at time_at time_size 16 bytes.now at }
 {
     let mut times = [Specified(0); 16];
-    let mut i: usize = 0;
-    let mut off = at;
-    while i < 16 {
-        times[i] = time(bytes, off);
-        off += 8;
-        i += 1;
+    for (i, x) in times.iter_mut().enumerate() {
+        *x = time(bytes, at + 8 * i);
     }
     times
 }
@@ -53,12 +49,8 @@ fn pending_of(bytes: &[u8]) -> [Instance; 128]
 {
     let first = instance_at(bytes, PENDING);
     let mut pending = [first; 128];
-    let mut i: usize = 0;
-    let mut off = PENDING;
-    while i < 128 {
-        pending[i] = instance_at(bytes, off);
-        off += 15;
-        i += 1;
+    for (i, x) in pending.iter_mut().enumerate() {
+        *x = instance_at(bytes, PENDING + 15 * i);
     }
     pending
 }

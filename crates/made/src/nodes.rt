@@ -10,16 +10,12 @@ use plan::{Kind, Node};
 fn kind_of(tag: u8, x: u8, y: u8) -> Kind
     ensures { result ≡ kind_of tag x y }
 {
-    if tag % 4 == 0 {
-        return Kind::Action(x, y);
+    match tag % 4 {
+        0 => Kind::Action(x, y),
+        1 => Kind::Claim(x),
+        2 => Kind::Release(x),
+        _ => Kind::Event(x),
     }
-    if tag % 4 == 1 {
-        return Kind::Claim(x);
-    }
-    if tag % 4 == 2 {
-        return Kind::Release(x);
-    }
-    Kind::Event(x)
 }
 
 fn preds_at(bytes: &[u8], at: usize) -> [u8; 8]
@@ -52,12 +48,8 @@ pub fn nodes_of(bytes: &[u8]) -> [Node; 2048]
 {
     let first = node_at(bytes, NODES);
     let mut nodes = [first; 2048];
-    let mut i: usize = 0;
-    let mut off = NODES;
-    while i < 2048 {
-        nodes[i] = node_at(bytes, off);
-        off += 16;
-        i += 1;
+    for (i, x) in nodes.iter_mut().enumerate() {
+        *x = node_at(bytes, NODES + 16 * i);
     }
     nodes
 }

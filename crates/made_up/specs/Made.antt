@@ -1,12 +1,11 @@
 -- A made-up run, one line for each field, and the two calls behind it.
-use Rattle.std.specs.Prelude.{cond, List, ℕ, ◌+◌, ◌%◌, eqb}
+use Rattle.std.specs.Prelude.{cond, List, ℕ, ◌+◌, ◌%◌, eqb, Option, Some, None}
 use Rattle.wire.specs.Number.{little}
 use Rattle.time.specs.declared.Clock.{Clock}
 use Rattle.made.specs.Layout.{psi_from, slack_from, last_from, halt_from}
 use Rattle.made.specs.Values.{byte_at}
 use Rattle.made.specs.Parts.{plan_of, progress_of, window_of}
 use Rattle.run.specs.declared.Run.{Run}
-use Rattle.run_checks.specs.declared.Halt.{Halt}
 use Rattle.run_checks.specs.declared.Stop.{Stop}
 use Rattle.run.specs.declared.Call.{Call}
 
@@ -20,11 +19,11 @@ stop_of tag position node =
     cond (eqb (tag % 4) 0) (Stop.Late position node)
     (cond (eqb (tag % 4) 1) (Stop.Overdue position node) (cond (eqb (tag % 4) 2) Stop.Full Stop.Beyond))
 
-unfoldable pub halt_of : ℕ → Stop → Halt
-halt_of tag stop = cond (eqb (tag % 2) 0) Halt.Going (Halt.Stopped stop)
+unfoldable pub halt_of : ℕ → Stop → Option Stop
+halt_of tag stop = cond (eqb (tag % 2) 0) None (Some stop)
 
 -- whether it has stopped, the stop, its position (4) and its node
-abbrev pub halt_at : List ℕ → ℕ → Halt
+abbrev pub halt_at : List ℕ → ℕ → Option Stop
 halt_at b at = halt_of (byte_at b at) (stop_of (byte_at b (at + 1)) (little 4 b (at + 2)) (byte_at b (at + 6)))
 
 unfoldable pub made_of : List ℕ → Run

@@ -8,7 +8,7 @@ ghost use Rattle.made_up.specs.Answers.{made_code, made_buffer};
 
 use made::layout::{HALT, LAST, PSI, SLACK};
 use made::numbers::{byte, eight, four};
-use run::{Call, Halt, Run, Stop};
+use run::{Call, Run, Stop};
 use time::Clock;
 
 pub const FIRST: usize = HALT + 7;
@@ -20,28 +20,24 @@ pub const SECOND: usize = FIRST + 15;
 fn stop_of(tag: u8, position: u32, node: u8) -> Stop
     ensures { result ≡ stop_of tag position node }
 {
-    if tag % 4 == 0 {
-        return Stop::Late(position, node);
+    match tag % 4 {
+        0 => Stop::Late(position, node),
+        1 => Stop::Overdue(position, node),
+        2 => Stop::Full,
+        _ => Stop::Beyond,
     }
-    if tag % 4 == 1 {
-        return Stop::Overdue(position, node);
-    }
-    if tag % 4 == 2 {
-        return Stop::Full;
-    }
-    Stop::Beyond
 }
 
-fn halt_of(tag: u8, stop: Stop) -> Halt
+fn halt_of(tag: u8, stop: Stop) -> Option<Stop>
     ensures { result ≡ halt_of tag stop }
 {
     if tag % 2 == 0 {
-        return Halt::Going;
+        return None;
     }
-    Halt::Stopped(stop)
+    Some(stop)
 }
 
-fn halt_at(bytes: &[u8], at: usize) -> Halt
+fn halt_at(bytes: &[u8], at: usize) -> Option<Stop>
     requires { at ≤ 65500 }
     ensures { result ≡ halt_at bytes.now at }
 {
@@ -76,13 +72,11 @@ pub fn run_of(bytes: &[u8]) -> Run
 fn call_of_kind(kind: u8, t: Clock, position: u32, node: u8, outcome: u8) -> Call
     ensures { result ≡ call_of_kind kind t position node outcome }
 {
-    if kind == 1 {
-        return Call::Completion(t, position, node);
+    match kind {
+        1 => Call::Completion(t, position, node),
+        2 => Call::Outcome(t, position, node, outcome),
+        _ => Call::Ask(t),
     }
-    if kind == 2 {
-        return Call::Outcome(t, position, node, outcome);
-    }
-    Call::Ask(t)
 }
 
 fn call_at(bytes: &[u8], at: usize) -> Call

@@ -8,6 +8,8 @@ use run::{Refusal, Stop, Unopened};
 
 pub mod codes; // a verdict as one number
 
+// C and the link have numbers; a `From` would have to stand with each enum, in run and run_checks.
+
 pub fn refusal_number(f: Refusal) -> u8
     ensures { result ≡ refusal_number f }
 {

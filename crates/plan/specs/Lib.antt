@@ -2,6 +2,7 @@
 pub mod Plan
 pub mod Limits
 pub mod Fault
+pub mod Verdict
 pub mod Fields
 pub mod Nodes
 pub mod Sections

@@ -1,17 +1,15 @@
 -- Inner: crate planfile shows that reading is what its description says.
 -- Reading the plan file: the plan, or the first faulty field from the front with its fault and byte offset.
-use Rattle.std.specs.Prelude.{cond, List, ℕ, length, replicate, eqb}
+use Rattle.std.specs.Prelude.{cond, List, ℕ, length, replicate, eqb, Result, Ok}
 use Rattle.wire.specs.Map.{bit}
 use Rattle.plan.specs.declared.Fault.{Fault}
-use Rattle.plan.specs.declared.Verdict.{Verdict}
+use Rattle.plan.specs.declared.FaultAt.{FaultAt}
+use Rattle.plan.specs.declared.Automaton.{Automaton}
 use Rattle.plan.specs.declared.Plan.{Plan}
-use Rattle.plan.specs.declared.PlanRead.{PlanRead}
-use Rattle.plan.specs.declared.fields.Field.{Field}
-use Rattle.plan.specs.declared.fields.PeripheralsRead.{PeripheralsRead}
-use Rattle.plan.specs.declared.fields.EventsRead.{EventsRead}
-use Rattle.plan.specs.declared.fields.ActivitiesRead.{ActivitiesRead}
-use Rattle.plan.specs.declared.fields.AutomatonRead.{AutomatonRead}
-use Rattle.plan.specs.Fields.{on_field, on_step, byte_at}
+use Rattle.plan.specs.declared.fields.Peripherals.{Peripherals}
+use Rattle.plan.specs.declared.fields.Events.{Events}
+use Rattle.plan.specs.declared.fields.Activities.{Activities}
+use Rattle.plan.specs.Fields.{Read, found, faulty, and_then, byte_at}
 use Rattle.plan.specs.Nodes.{zero_node}
 use Rattle.plan.specs.Sections.{resources_at, peripherals_at, events_at, activities_at}
 use Rattle.plan.specs.Moves.{zero_automaton, automaton_at}
@@ -30,18 +28,15 @@ zero_plan =
       automaton = zero_automaton;
     }
 
-abbrev pub no_plan : Fault → ℕ → PlanRead
-no_plan f p = record { verdict = Verdict.Refused f p; plan = zero_plan }
-
 -- "The first byte is a map of sections ...; bits 5 to 7 are 0." "bit 4: automaton; always present."
-unfoldable pub sections_at : List ℕ → ℕ → Field
-sections_at b at = on_field (byte_at 0 32 Fault.Map b at) (λ m next. cond (bit 4 m) (Field.Value m next) (Field.Refused Fault.NoAutomaton at)) Field.Refused
+unfoldable pub sections_at : List ℕ → ℕ → Read ℕ
+sections_at b at = and_then (byte_at 0 32 Fault.Map b at) (λ m next. cond (bit 4 m) (found m next) (faulty Fault.NoAutomaton at))
 
 -- "bytes left over": the plan is accepted where its last section ends the bytes
-unfoldable pub ended_at : List ℕ → ℕ → Plan → PlanRead
-ended_at b at p = cond (eqb at (length b)) (record { verdict = Verdict.Accepted; plan = p }) (no_plan Fault.LeftOver at)
+unfoldable pub ended_at : List ℕ → ℕ → Plan → Result Plan FaultAt
+ended_at b at p = cond (eqb at (length b)) (Ok p) (faulty Fault.LeftOver at)
 
-abbrev pub plan_of : ℕ → PeripheralsRead → EventsRead → ActivitiesRead → AutomatonRead → Plan
+abbrev pub plan_of : ℕ → Peripherals → Events → Activities → Automaton → Plan
 plan_of resources x e a t =
     record {
       resources = resources;
@@ -52,29 +47,26 @@ plan_of resources x e a t =
       activities = a.count;
       sizes = a.sizes;
       nodes = a.nodes;
-      automaton = t.automaton;
+      automaton = t;
     }
 
 module _ (b : List ℕ) where
-  -- what follows the sections that were read, the last of which may be refused
-  unfoldable pub with_automaton : ℕ → PeripheralsRead → EventsRead → ActivitiesRead → AutomatonRead → PlanRead
-  with_automaton resources x e a t = on_step t.step (λ next. ended_at b next (plan_of resources x e a t)) no_plan
+  -- what follows the sections that were read
+  unfoldable pub with_activities : ℕ → Peripherals → Events → Activities → ℕ → Result Plan FaultAt
+  with_activities resources x e a at =
+      and_then (automaton_at e.count e.outcomes a.count b at) (λ t next. ended_at b next (plan_of resources x e a t))
 
-  unfoldable pub with_activities : ℕ → PeripheralsRead → EventsRead → ActivitiesRead → PlanRead
-  with_activities resources x e a =
-      on_step a.step (λ next. with_automaton resources x e a (automaton_at e.count e.outcomes a.count b next)) no_plan
+  unfoldable pub with_events : ℕ → ℕ → Peripherals → Events → ℕ → Result Plan FaultAt
+  with_events m resources x e at = and_then (activities_at x.count resources e.count b m at) (with_activities resources x e)
 
-  unfoldable pub with_events : ℕ → ℕ → PeripheralsRead → EventsRead → PlanRead
-  with_events m resources x e =
-      on_step e.step (λ next. with_activities resources x e (activities_at x.count resources e.count b m next)) no_plan
-
-  unfoldable pub with_peripherals : ℕ → ℕ → PeripheralsRead → PlanRead
-  with_peripherals m resources x = on_step x.step (λ next. with_events m resources x (events_at m b next)) no_plan
+  unfoldable pub with_peripherals : ℕ → ℕ → Peripherals → ℕ → Result Plan FaultAt
+  with_peripherals m resources x at = and_then (events_at m b at) (with_events m resources x)
 
   -- the sections of a map, from the offset after it
-  unfoldable pub plan_at : ℕ → ℕ → PlanRead
+  unfoldable pub plan_at : ℕ → ℕ → Result Plan FaultAt
   plan_at m at =
-      on_field (resources_at m b at) (λ resources next. with_peripherals m resources (peripherals_at m resources b next)) no_plan
+      and_then (resources_at m b at)
+      (λ resources next. and_then (peripherals_at m resources b next) (with_peripherals m resources))
 
-  unfoldable pub read_plan : PlanRead
-  read_plan = on_field (sections_at b 0) plan_at no_plan
+  unfoldable pub read_plan : Result Plan FaultAt
+  read_plan = and_then (sections_at b 0) plan_at

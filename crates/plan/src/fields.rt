@@ -1,113 +1,51 @@
-// What reading a part of the plan file answers: the part and the offset past it, or a fault and its place.
-use crate::{Automaton, Fault, Kind, NODES, Node, Transition};
+// What reading a part of the plan file answers: the part and the offset past it, or what is wrong and its place.
+use crate::{FaultAt, NODES, Node};
 
-// A number of one byte.
+pub type Read<T> = Result<(T, usize), FaultAt>;
+
+// How many resources, peripherals and events the plan has: what the numbers of a node may name.
 #[derive(Clone, Copy)]
-pub enum Field {
-    Value(u8, usize),
-    Refused(Fault, usize),
+pub struct Named {
+    pub resources: u8,
+    pub peripherals: u8,
+    pub events: u8,
 }
 
-// A node's duration, four bytes.
-#[derive(Clone, Copy)]
-pub enum DurationField {
-    Value(u32, usize),
-    Refused(Fault, usize),
-}
-
-// The final-state bits, eight bytes.
-#[derive(Clone, Copy)]
-pub enum FinalsField {
-    Value(u64, usize),
-    Refused(Fault, usize),
-}
-
-// The transition count, two bytes.
-#[derive(Clone, Copy)]
-pub enum MoveCount {
-    Value(u16, usize),
-    Refused(Fault, usize),
-}
-
-// Which kind of node a map byte asks for, if it keeps its rule.
+// Which kind of node a map byte asks for.
 #[derive(Clone, Copy)]
 pub enum Asks {
     Action,
     Claim,
     Release,
     Event,
-    Nothing,
 }
 
-// A node's kind, with the numbers that it names.
+// The predecessors of a node.
 #[derive(Clone, Copy)]
-pub enum KindRead {
-    Value(Kind, usize),
-    Refused(Fault, usize),
-}
-
-#[derive(Clone, Copy)]
-pub enum InputRead {
-    Value(crate::Input, usize),
-    Refused(Fault, usize),
-}
-
-#[derive(Clone, Copy)]
-pub enum OutputRead {
-    Value(crate::Output, usize),
-    Refused(Fault, usize),
-}
-
-#[derive(Clone, Copy)]
-pub enum MoveRead {
-    Value(Transition, usize),
-    Refused(Fault, usize),
-}
-
-// Where a longer part ends, or the first fault in it.
-#[derive(Clone, Copy)]
-pub enum Step {
-    Read(usize),
-    Refused(Fault, usize),
-}
-
-#[derive(Clone, Copy)]
-pub struct PredsRead {
-    pub step: Step,
+pub struct Preds {
     pub count: u8,
     pub preds: [u8; 8],
 }
 
 #[derive(Clone, Copy)]
-pub struct NodeRead {
-    pub step: Step,
-    pub node: Node,
-}
-
-#[derive(Clone, Copy)]
-pub struct PeripheralsRead {
-    pub step: Step,
+pub struct Peripherals {
     pub count: u8,
+    // the resource of each peripheral
     pub belongs: [u8; 64],
 }
 
 #[derive(Clone, Copy)]
-pub struct EventsRead {
-    pub step: Step,
+pub struct Events {
     pub count: u8,
+    // how many outcomes each event has
     pub outcomes: [u8; 16],
 }
 
 #[derive(Clone, Copy)]
-pub struct ActivitiesRead {
-    pub step: Step,
+pub struct Activities {
     pub count: u8,
+    // how many nodes each activity has
     pub sizes: [u8; 32],
+    // node n of activity a stands at 64 * a + n
     pub nodes: [Node; NODES],
-}
-
-#[derive(Clone, Copy)]
-pub struct AutomatonRead {
-    pub step: Step,
-    pub automaton: Automaton,
 }

@@ -1,5 +1,6 @@
 // The plan of a behaviour, as document 01's section "The plan file" describes it: its types.
-// Slots past a count are spare room: zeros where the engine makes them, and never read.
+// Slots past a count are spare room: zeros where the engine makes them, and never read. Arrays with a count beside them, and a node's
+// place by the number of its activity, since the engine has fixed memory and no heap.
 #![tactic(auto)]
 
 ghost use Rattle.std.specs.Prelude.{◌≡◌, ◌<◌};
@@ -35,6 +36,16 @@ pub struct Node {
     pub preds: [u8; 8],
 }
 
+impl Node {
+    // what stands in spare room
+    pub const ZERO: Node = Node {
+        duration: 0,
+        kind: Kind::Action(0, 0),
+        count: 0,
+        preds: [0; 8],
+    };
+}
+
 // One activity, copied out of a plan.
 #[derive(Clone, Copy)]
 pub struct Activity {
@@ -42,7 +53,7 @@ pub struct Activity {
     pub nodes: [Node; 64],
 }
 
-// What a transition processes.
+// What a transition processes. No Option: `Some((e, o))` would not say that the numbers are of an event and its outcome.
 #[derive(Clone, Copy)]
 pub enum Input {
     Nothing,
@@ -50,7 +61,7 @@ pub enum Input {
     Outcome(u8, u8),
 }
 
-// What a transition emits: the empty activity, or an activity of the plan.
+// What a transition emits: the empty activity, or an activity of the plan. No Option: the empty activity is emitted too.
 #[derive(Clone, Copy)]
 pub enum Output {
     Empty,
@@ -63,6 +74,16 @@ pub struct Transition {
     pub to: u8,
     pub input: Input,
     pub output: Output,
+}
+
+impl Transition {
+    // what stands in spare room
+    pub const ZERO: Transition = Transition {
+        from: 0,
+        to: 0,
+        input: Input::Nothing,
+        output: Output::Empty,
+    };
 }
 
 // The automaton that picks the next activity.
@@ -132,14 +153,25 @@ pub enum Fault {
     TooManyPending,
 }
 
-// The verdict on a plan: accepted, or the first fault and its place.
+// A fault and its place.
 #[derive(Clone, Copy)]
-pub enum Verdict {
-    Accepted,
-    Refused(Fault, usize),
+pub struct FaultAt {
+    pub fault: Fault,
+    pub place: usize,
 }
 
-// A plan as its bytes give it: accepted, or refused with the first faulty field; a refused plan is all zeros.
+impl Fault {
+    pub fn at(self, place: usize) -> FaultAt
+        ensures { result ≡ record { fault = self; place = place } }
+    {
+        FaultAt { fault: self, place }
+    }
+}
+
+// The verdict on a plan: accepted, or the first fault and its place.
+pub type Verdict = Result<(), FaultAt>;
+
+// What is handed on of a plan file: the verdict, and the plan, all zeros where it is refused (demands' StatementRefusedPlan speaks of it).
 #[derive(Clone, Copy)]
 pub struct PlanRead {
     pub verdict: Verdict,

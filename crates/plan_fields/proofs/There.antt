@@ -1,4 +1,4 @@
--- What the answers of the crate wire say of the bytes, one law at four widths; and the power of two that bounds the
+-- What the answers of the crate wire say of the bytes, one law at each width; and the power of two that bounds the
 -- final-state bits.
 use mathlib.Core.Path.{◌≡◌, sym, ◌∙◌}
 use mathlib.Core.List.{List}
@@ -10,37 +10,33 @@ use lib.ListN.{length}
 use lib.Dec.{ltb, eqb}
 use lib.Pow.{pow_pos}
 use borrow.Author.Tests.{lt-ltb, le-ltb, eq-eqb, ne_eqb}
-use Rattle.wire.specs.Number.{field_at}
-use Rattle.wire.proofs.Laws.Fields.{Present, are_there, are_short}
-use Rattle.wire.specs.declared.Byte.{Byte}
-use Rattle.wire.specs.declared.Short.{Short}
-use Rattle.wire.specs.declared.Long.{Long}
-use Rattle.wire.specs.declared.Wide.{Wide}
+use Rattle.wire.specs.Number.{field_at, number}
+use Rattle.wire.proofs.Laws.Fields.{Present, are_there, are_short, short, too_low, too_high, in_range}
+use Rattle.plan.specs.declared.Fault.{Fault}
+use Rattle.plan.specs.Fields.{found, faulty}
+use Rattle.std.specs.Prelude.{Option, Some, None}
 
-module _ (b : List ℕ) (at : ℕ) where
-  pub byte_there : (x : ℕ) → field_at Byte.Value Byte.Ends 1 b at ≡ Byte.Value x → Present 1 b at x
-  byte_there = are_there Byte.Value Byte.Ends (λ y e. let z : ◌≡◌ {A = ℕ} 0 1 = cc in omega arith) (λ y z e. cc) 1 b at
+module _ (w : ℕ) (b : List ℕ) (at : ℕ) where
+  pub there : (x : ℕ) → field_at Some None w b at ≡ Some x → Present w b at x
+  there = are_there Some None (λ y e. let z : ◌≡◌ {A = ℕ} 0 1 = cc in omega arith) (λ y z e. cc) w b at
 
-  pub byte_short : field_at Byte.Value Byte.Ends 1 b at ≡ Byte.Ends → length b < at + 1
-  byte_short = are_short Byte.Value Byte.Ends (λ y e. let z : ◌≡◌ {A = ℕ} 0 1 = cc in omega arith) (λ y z e. cc) 1 b at
+  pub nothing : field_at {A = Option ℕ} Some None w b at ≡ None → length b < at + w
+  nothing = are_short Some None (λ y e. let z : ◌≡◌ {A = ℕ} 0 1 = cc in omega arith) (λ y z e. cc) w b at
 
-  pub short_there : (x : ℕ) → field_at Short.Value Short.Ends 2 b at ≡ Short.Value x → Present 2 b at x
-  short_there = are_there Short.Value Short.Ends (λ y e. let z : ◌≡◌ {A = ℕ} 0 1 = cc in omega arith) (λ y z e. cc) 2 b at
+-- what is answered of a field, by what stands there
+module _ (w low below : ℕ) (wrong : Fault) (b : List ℕ) (at : ℕ) where
+  pub ended : field_at {A = Option ℕ} Some None w b at ≡ None → faulty Fault.Ends at ≡ number found faulty Fault.Ends w low below wrong b at
+  ended e = short found faulty Fault.Ends w low below wrong b at (nothing w b at e)
 
-  pub short_short : field_at Short.Value Short.Ends 2 b at ≡ Short.Ends → length b < at + 2
-  short_short = are_short Short.Value Short.Ends (λ y e. let z : ◌≡◌ {A = ℕ} 0 1 = cc in omega arith) (λ y z e. cc) 2 b at
+  module _ (x : ℕ) (e : field_at Some None w b at ≡ Some x) where
+    pub below_low : x < low → faulty wrong at ≡ number found faulty Fault.Ends w low below wrong b at
+    below_low h = let p = there w b at x e in too_low found faulty Fault.Ends w low below wrong b at x p.is p.fits h
 
-  pub long_there : (x : ℕ) → field_at Long.Value Long.Ends 4 b at ≡ Long.Value x → Present 4 b at x
-  long_there = are_there Long.Value Long.Ends (λ y e. let z : ◌≡◌ {A = ℕ} 0 1 = cc in omega arith) (λ y z e. cc) 4 b at
+    pub past_most : low ≤ x → below ≤ x → faulty wrong at ≡ number found faulty Fault.Ends w low below wrong b at
+    past_most l h = let p = there w b at x e in too_high found faulty Fault.Ends w low below wrong b at x p.is p.fits l h
 
-  pub long_short : field_at Long.Value Long.Ends 4 b at ≡ Long.Ends → length b < at + 4
-  long_short = are_short Long.Value Long.Ends (λ y e. let z : ◌≡◌ {A = ℕ} 0 1 = cc in omega arith) (λ y z e. cc) 4 b at
-
-  pub wide_there : (x : ℕ) → field_at Wide.Value Wide.Ends 8 b at ≡ Wide.Value x → Present 8 b at x
-  wide_there = are_there Wide.Value Wide.Ends (λ y e. let z : ◌≡◌ {A = ℕ} 0 1 = cc in omega arith) (λ y z e. cc) 8 b at
-
-  pub wide_short : field_at Wide.Value Wide.Ends 8 b at ≡ Wide.Ends → length b < at + 8
-  wide_short = are_short Wide.Value Wide.Ends (λ y e. let z : ◌≡◌ {A = ℕ} 0 1 = cc in omega arith) (λ y z e. cc) 8 b at
+    pub good : low ≤ x → x < below → found x (at + w) ≡ number found faulty Fault.Ends w low below wrong b at
+    good l h = let p = there w b at x e in in_range found faulty Fault.Ends w low below wrong b at x p.is p.fits l h
 
 -- shifting out the bits of the states leaves nothing iff no bit past them stands
 shift_some : (x k : ℕ) → 2 ^ k ≤ x → x / 2 ^ k ≡ 0 → ⊥

@@ -4,91 +4,79 @@
 ghost use Rattle.std.specs.Prelude.{◌≡◌, ◌+◌, ◌^◌, ◌<◌, ltb};
 ghost use Rattle.wire.specs.Number.{number};
 ghost use Rattle.plan.specs.Limits.{longest};
-ghost use Rattle.plan.specs.Fields.{byte_at, any_at, count_at, name_at, optional_count};
+ghost use Rattle.plan.specs.Fields.{found, faulty, byte_at, any_at, count_at, name_at, optional_count};
 ghost use Rattle.plan.specs.Nodes.{duration_at};
 ghost use Rattle.plan.specs.Moves.{finals_at, move_count_at};
 
-use basis::u8_to_u16;
 use plan::Fault;
-use plan::fields::{DurationField, Field, FinalsField, MoveCount};
-use wire::{Byte, Long, Short, Wide};
+use plan::fields::Read;
 
 // A number of one byte in low .. below - 1.
-pub fn byte_in(bytes: &[u8], at: usize, low: u8, below: u16, wrong: Fault) -> Field
+pub fn byte_in(bytes: &[u8], at: usize, low: u8, below: u16, wrong: Fault) -> Read<u8>
     ensures { result ≡ byte_at low below wrong bytes.now at }
 {
-    let f = wire::byte_at(bytes, at);
-    match f {
-        Byte::Ends => Field::Refused(Fault::Ends, at),
-        Byte::Value(x) => {
-            if x < low {
-                return Field::Refused(wrong, at);
-            }
-            if u8_to_u16(x) < below {
-                return Field::Value(x, at + 1);
-            }
-            Field::Refused(wrong, at)
-        }
+    let Some(x) = wire::byte_at(bytes, at) else {
+        return Err(Fault::Ends.at(at));
+    };
+    if x < low || u16::from(x) >= below {
+        return Err(wrong.at(at));
     }
+    Ok((x, at + 1))
 }
 
 // Any byte.
-pub fn any_at(bytes: &[u8], at: usize) -> Field
+pub fn any_at(bytes: &[u8], at: usize) -> Read<u8>
     ensures { result ≡ any_at bytes.now at }
 {
     byte_in(bytes, at, 0, 256, Fault::Names)
 }
 
 // A count of 1 to `most`.
-pub fn count_at(bytes: &[u8], at: usize, most: u8) -> Field
+pub fn count_at(bytes: &[u8], at: usize, most: u8) -> Read<u8>
     ensures { result ≡ count_at most bytes.now at }
 {
-    byte_in(bytes, at, 1, u8_to_u16(most) + 1, Fault::Count)
+    byte_in(bytes, at, 1, u16::from(most) + 1, Fault::Count)
 }
 
 // A number that names one of `many` things.
-pub fn name_at(bytes: &[u8], at: usize, many: u8) -> Field
+pub fn name_at(bytes: &[u8], at: usize, many: u8) -> Read<u8>
     ensures { result ≡ name_at many bytes.now at }
 {
-    byte_in(bytes, at, 0, u8_to_u16(many), Fault::Names)
+    byte_in(bytes, at, 0, u16::from(many), Fault::Names)
 }
 
 // A count of 1 to `most` that is present iff its bit stands.
-pub fn optional_count(bytes: &[u8], at: usize, most: u8, stands: bool) -> Field
+pub fn optional_count(bytes: &[u8], at: usize, most: u8, stands: bool) -> Read<u8>
     ensures { result ≡ optional_count most stands bytes.now at }
 {
     if stands {
-        return count_at(bytes, at, most);
+        count_at(bytes, at, most)
+    } else {
+        Ok((0, at))
     }
-    Field::Value(0, at)
 }
 
-fn duration_in(bytes: &[u8], at: usize) -> DurationField
-    ensures { result ≡ number DurationField.Value DurationField.Refused Fault.Ends 4 1 (longest + 1) Fault.Duration bytes.now at }
+fn duration_in(bytes: &[u8], at: usize) -> Read<u32>
+    ensures { result ≡ number found faulty Fault.Ends 4 1 (longest + 1) Fault.Duration bytes.now at }
 {
-    let f = wire::long_at(bytes, at);
-    match f {
-        Long::Ends => DurationField::Refused(Fault::Ends, at),
-        Long::Value(x) => {
-            if x < 1 {
-                return DurationField::Refused(Fault::Duration, at);
-            }
-            if x <= 60_000_000 {
-                return DurationField::Value(x, at + 4);
-            }
-            DurationField::Refused(Fault::Duration, at)
-        }
+    let Some(x) = wire::long_at(bytes, at) else {
+        return Err(Fault::Ends.at(at));
+    };
+    if x < 1 || x > 60_000_000 {
+        return Err(Fault::Duration.at(at));
     }
+    Ok((x, at + 4))
 }
 
 // The duration of a node whose map is m; 0 without bit 4.
-pub fn duration_at(bytes: &[u8], at: usize, m: u8) -> DurationField
+pub fn duration_at(bytes: &[u8], at: usize, m: u8) -> Read<u32>
     ensures { result ≡ duration_at m bytes.now at }
 {
     if m / 16 % 2 == 1 {
-        return duration_in(bytes, at);
+        duration_in(bytes, at)
+    } else {
+        Ok((0, at))
     }
-    DurationField::Value(0, at)
 }
 
 // Whether no bit past the last state stands.
@@ -102,33 +90,27 @@ pub fn in_states(finals: u64, states: u8) -> bool
 }
 
 // The final-state bits.
-pub fn finals_at(bytes: &[u8], at: usize, states: u8) -> FinalsField
+pub fn finals_at(bytes: &[u8], at: usize, states: u8) -> Read<u64>
     ensures { result ≡ finals_at states bytes.now at }
 {
-    let f = wire::wide_at(bytes, at);
-    match f {
-        Wide::Ends => FinalsField::Refused(Fault::Ends, at),
-        Wide::Value(x) => {
-            if in_states(x, states) {
-                return FinalsField::Value(x, at + 8);
-            }
-            FinalsField::Refused(Fault::Names, at)
-        }
+    let Some(x) = wire::wide_at(bytes, at) else {
+        return Err(Fault::Ends.at(at));
+    };
+    if !in_states(x, states) {
+        return Err(Fault::Names.at(at));
     }
+    Ok((x, at + 8))
 }
 
 // The transition count.
-pub fn move_count_at(bytes: &[u8], at: usize) -> MoveCount
+pub fn move_count_at(bytes: &[u8], at: usize) -> Read<u16>
     ensures { result ≡ move_count_at bytes.now at }
 {
-    let f = wire::short_at(bytes, at);
-    match f {
-        Short::Ends => MoveCount::Refused(Fault::Ends, at),
-        Short::Value(x) => {
-            if x <= 256 {
-                return MoveCount::Value(x, at + 2);
-            }
-            MoveCount::Refused(Fault::Count, at)
-        }
+    let Some(x) = wire::short_at(bytes, at) else {
+        return Err(Fault::Ends.at(at));
+    };
+    if x > 256 {
+        return Err(Fault::Count.at(at));
     }
+    Ok((x, at + 2))
 }

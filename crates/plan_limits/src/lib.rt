@@ -15,6 +15,7 @@ mod written;
 use plan::Plan;
 
 // What the counts count.
+#[tactic(auto, unfolding(crate::specs::Limits::parts_in_limits))]
 fn parts_in_limits(plan: Plan) -> bool
     requires { (plan.peripherals ≤ 64) × (plan.events ≤ 16) × (plan.activities ≤ 32) }
     ensures { result ≡ parts_in_limits plan }
@@ -47,6 +48,7 @@ fn parts_in_limits(plan: Plan) -> bool
 }
 
 // Every stored count, number and duration of the plan lies within the limits.
+#[tactic(auto, unfolding(crate::specs::Limits::in_limits))]
 pub fn in_limits(plan: Plan) -> bool
     ensures { result ≡ in_limits plan }
 {

@@ -6,17 +6,11 @@ use plan::{Automaton, Input, Output, Transition};
 
 // What a transition processes names an event and an outcome of it.
 fn input_names(events: u8, outcomes: [u8; 16], input: Input) -> bool
-    requires { events ≤ 16 }
     ensures { result ≡ input_names events outcomes input }
 {
     match input {
         Input::Nothing => true,
-        Input::Outcome(e, o) => {
-            if e >= events {
-                return false;
-            }
-            o < outcomes[e as usize]
-        }
+        Input::Outcome(e, o) => e < events && outcomes.get(usize::from(e)).is_some_and(|&n| o < n),
     }
 }
 
@@ -30,6 +24,7 @@ fn output_names(activities: u8, output: Output) -> bool
     }
 }
 
+#[tactic(auto, unfolding(crate::specs::Limits::move_in_limits))]
 pub fn move_in_limits(
     states: u8,
     activities: u8,
@@ -37,7 +32,6 @@ pub fn move_in_limits(
     outcomes: [u8; 16],
     t: Transition,
 ) -> bool
-    requires { events ≤ 16 }
     ensures { result ≡ move_in_limits states activities events outcomes t }
 {
     if t.from >= states {
@@ -62,19 +56,12 @@ fn moves_in_limits(
     count: u16,
     moves: [Transition; 256],
 ) -> bool
-    requires { (events ≤ 16) × (count ≤ 256) }
+    requires { count ≤ 256 }
     ensures { result ≡ moves_in_limits states activities events outcomes count moves }
 {
-    let mut left = count as usize;
-    while left > 0 {
-        let i = left - 1;
-        let t = moves[i];
-        if !move_in_limits(states, activities, events, outcomes, t) {
-            return false;
-        }
-        left = i;
-    }
-    true
+    moves[..usize::from(count)].iter().all(|&t| move_in_limits(
+        states, activities, events, outcomes, t,
+    ))
 }
 
 // No final bit stands past the last state.
@@ -104,13 +91,13 @@ pub fn states_in_limits(states: u8, initial: u8, finals: u64) -> bool
     finals_in_limits(states, finals)
 }
 
+#[tactic(auto, unfolding(crate::specs::Limits::automaton_in_limits))]
 pub fn automaton_in_limits(
     activities: u8,
     events: u8,
     outcomes: [u8; 16],
     automaton: Automaton,
 ) -> bool
-    requires { events ≤ 16 }
     ensures { result ≡ automaton_in_limits activities events outcomes automaton }
 {
     if !states_in_limits(automaton.states, automaton.initial, automaton.finals) {

@@ -21,6 +21,7 @@ fn kind_names(resources: u8, peripherals: u8, events: u8, kind: Kind) -> bool
 }
 
 // A node of an activity of `size` nodes.
+#[tactic(auto, unfolding(crate::specs::Limits::node_in_limits))]
 fn node_in_limits(resources: u8, peripherals: u8, events: u8, size: u8, node: Node) -> bool
     ensures { result ≡ node_in_limits resources peripherals events size node }
 {
@@ -39,6 +40,7 @@ fn node_in_limits(resources: u8, peripherals: u8, events: u8, size: u8, node: No
 }
 
 // Place n of an activity of `size` nodes: a node, or spare room.
+#[tactic(auto, unfolding(crate::specs::Limits::slot_in_limits))]
 pub fn slot_in_limits(
     resources: u8,
     peripherals: u8,
@@ -49,7 +51,7 @@ pub fn slot_in_limits(
 ) -> bool
     ensures { result ≡ slot_in_limits resources peripherals events size n node }
 {
-    if (size as usize) <= n {
+    if usize::from(size) <= n {
         return true;
     }
     node_in_limits(resources, peripherals, events, size, node)
@@ -67,15 +69,12 @@ pub fn nodes_in_limits(
     requires { activities ≤ 32 }
     ensures { result ≡ nodes_in_limits resources peripherals events activities sizes nodes }
 {
-    let mut left = 64 * (activities as usize);
-    while left > 0 {
-        let i = left - 1;
+    for i in 0..64 * usize::from(activities) {
         let size = sizes[i / 64];
         let node = nodes[i];
         if !slot_in_limits(resources, peripherals, events, size, i % 64, node) {
             return false;
         }
-        left = i;
     }
     true
 }

@@ -7,16 +7,7 @@ pub fn within(low: u8, below: u8, count: u8, numbers: &[u8]) -> bool
     requires { count ≤ length numbers.now }
     ensures { result ≡ within low below count numbers.now }
 {
-    let mut left = count as usize;
-    while left > 0 {
-        let i = left - 1;
-        if numbers[i] < low {
-            return false;
-        }
-        if numbers[i] >= below {
-            return false;
-        }
-        left = i;
-    }
-    true
+    numbers[..usize::from(count)]
+        .iter()
+        .all(|&x| low <= x && x < below)
 }

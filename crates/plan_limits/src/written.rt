@@ -11,15 +11,7 @@ fn is_rising(count: u8, preds: [u8; 8]) -> bool
     if count > 8 {
         return false;
     }
-    let mut left = count as usize;
-    while left > 1 {
-        let i = left - 1;
-        if preds[i - 1] >= preds[i] {
-            return false;
-        }
-        left = i;
-    }
-    true
+    preds[..usize::from(count)].is_sorted_by(|a, b| a < b)
 }
 
 // An action number is one byte. "Claims and releases have no bit 4. No bit 4 means duration 0."
@@ -35,10 +27,11 @@ fn is_brief(kind: Kind, duration: u32) -> bool
 }
 
 // Place n of an activity of `size` nodes: a node that the file can hold, or spare room.
+#[tactic(auto, unfolding(crate::specs::Limits::slot_written))]
 fn slot_written(size: u8, n: usize, node: Node) -> bool
     ensures { result ≡ slot_written size n node }
 {
-    if (size as usize) <= n {
+    if usize::from(size) <= n {
         return true;
     }
     let preds = node.preds;
@@ -54,15 +47,12 @@ pub fn nodes_written(activities: u8, sizes: [u8; 32], nodes: [Node; 2048]) -> bo
     requires { activities ≤ 32 }
     ensures { result ≡ nodes_written activities sizes nodes }
 {
-    let mut left = 64 * (activities as usize);
-    while left > 0 {
-        let i = left - 1;
+    for i in 0..64 * usize::from(activities) {
         let size = sizes[i / 64];
         let node = nodes[i];
         if !slot_written(size, i % 64, node) {
             return false;
         }
-        left = i;
     }
     true
 }

@@ -5,24 +5,24 @@ use Prim.Native.Nat.{ℕ, suc, ◌+◌, ◌-◌, ◌≤◌, ◌<◌}
 use native.Mathlib.Omega.{arith}
 use lib.ListN.{set}
 use borrow.Author.Tests.{le-ltb, lt-ltb}
-use Rattle.plan.specs.Fields.{name_at}
-use Rattle.plan.specs.Nodes.{preds_loop, no_preds}
+use Rattle.std.specs.Prelude.{Ok, Err}
+use Rattle.plan.specs.Fields.{found, faulty, name_at}
+use Rattle.plan.specs.Nodes.{preds_loop}
 use Rattle.plan.specs.declared.Fault.{Fault}
-use Rattle.plan.specs.declared.fields.Field.{Field}
-use Rattle.plan.specs.declared.fields.Step.{Step}
+use Rattle.plan.specs.declared.FaultAt.{FaultAt}
 
 module _ (b : List ℕ) (size count i off low : ℕ) (preds : List ℕ) where
-  pub preds_done : count ≤ i → record { step = Step.Read off; count = count; preds = preds } ≡ preds_loop size b count (count - i) off i low preds
+  pub preds_done : count ≤ i → found (record { count = count; preds = preds }) off ≡ preds_loop size b count (count - i) off i low preds
   unfolding preds_loop
   preds_done h = let e : count - i ≡ 0 = omega arith in rw e
 
   module _ (h : i < count) where
-    pub preds_refused : (f : Fault) (p : ℕ) → name_at size b off ≡ Field.Refused f p → no_preds f p ≡ preds_loop size b count (count - i) off i low preds
+    pub preds_refused : (f : FaultAt) → name_at size b off ≡ Err f → Err f ≡ preds_loop size b count (count - i) off i low preds
     unfolding preds_loop
-    preds_refused f p e = let z : count - i ≡ suc (count - (i + 1)) = omega arith in rw (z, e)
+    preds_refused f e = let z : count - i ≡ suc (count - (i + 1)) = omega arith in rw (z, e)
 
-    module _ (x next : ℕ) (e : name_at size b off ≡ Field.Value x next) where
-      pub preds_fall : x < low → no_preds Fault.NotRising off ≡ preds_loop size b count (count - i) off i low preds
+    module _ (x next : ℕ) (e : name_at size b off ≡ Ok (x, next)) where
+      pub preds_fall : x < low → faulty Fault.NotRising off ≡ preds_loop size b count (count - i) off i low preds
       unfolding preds_loop
       preds_fall l = let z : count - i ≡ suc (count - (i + 1)) = omega arith in rw (z, e, lt-ltb _ _ l)
 

@@ -2,17 +2,15 @@
 #![tactic(auto)]
 
 ghost use Rattle.std.specs.Prelude.{◌≡◌, ◌≤◌};
-ghost use Rattle.plan.specs.Reading.{zero_plan, no_plan, sections_at, ended_at, plan_of, with_automaton, with_events, with_peripherals, plan_at, read_plan};
+ghost use Rattle.plan.specs.Reading.{zero_plan, sections_at, plan_of, with_activities, with_events, with_peripherals, plan_at, read_plan};
 
-use plan::fields::{ActivitiesRead, AutomatonRead, EventsRead, Field, PeripheralsRead, Step};
-use plan::{Fault, Plan, PlanRead, Verdict};
+use plan::fields::{Activities, Events, Named, Peripherals, Read};
+use plan::{Automaton, Fault, FaultAt, NODES, Node, Plan};
 
 // A plan of zeros.
 pub fn zero_plan() -> Plan
     ensures { result ≡ zero_plan }
 {
-    let z = plan_nodes::zero_node();
-    let automaton = plan_automaton::zero_automaton();
     Plan {
         resources: 0,
         peripherals: 0,
@@ -21,150 +19,94 @@ pub fn zero_plan() -> Plan
         outcomes: [0u8; 16],
         activities: 0,
         sizes: [0u8; 32],
-        nodes: [z; 2048],
-        automaton,
-    }
-}
-
-// A refused plan: the fault and its place, and a plan of zeros.
-pub fn no_plan(fault: Fault, place: usize) -> PlanRead
-    ensures { result ≡ no_plan fault place }
-{
-    PlanRead {
-        verdict: Verdict::Refused(fault, place),
-        plan: zero_plan(),
+        nodes: [Node::ZERO; NODES],
+        automaton: plan_automaton::zero_automaton(),
     }
 }
 
 // The map of sections.
-fn sections_at(bytes: &[u8], at: usize) -> Field
+#[tactic(auto, unfolding(plan::specs::Reading::sections_at))]
+fn sections_at(bytes: &[u8], at: usize) -> Read<u8>
     ensures { result ≡ sections_at bytes.now at }
 {
-    let f = plan_fields::byte_in(bytes, at, 0, 32, Fault::Map);
-    match f {
-        Field::Refused(f, p) => Field::Refused(f, p),
-        Field::Value(m, next) => {
-            if m / 16 % 2 == 1 {
-                return Field::Value(m, next);
-            }
-            Field::Refused(Fault::NoAutomaton, at)
-        }
+    let (m, next) = plan_fields::byte_in(bytes, at, 0, 32, Fault::Map)?;
+    if m / 16 % 2 == 1 {
+        return Ok((m, next));
     }
+    Err(Fault::NoAutomaton.at(at))
 }
 
-fn ended_at(bytes: &[u8], at: usize, plan: Plan) -> PlanRead
-    ensures { result ≡ ended_at bytes.now at plan }
+fn plan_of(resources: u8, x: Peripherals, e: Events, a: Activities, automaton: Automaton) -> Plan
+    ensures { result ≡ plan_of resources x e a automaton }
 {
-    if at == bytes.len() {
-        return PlanRead {
-            verdict: Verdict::Accepted,
-            plan,
-        };
-    }
-    no_plan(Fault::LeftOver, at)
-}
-
-fn plan_of(
-    resources: u8,
-    x: PeripheralsRead,
-    e: EventsRead,
-    a: ActivitiesRead,
-    t: AutomatonRead,
-) -> Plan
-    ensures { result ≡ plan_of resources x e a t }
-{
-    let belongs = x.belongs;
-    let outcomes = e.outcomes;
-    let sizes = a.sizes;
-    let nodes = a.nodes;
-    let automaton = t.automaton;
+    let Peripherals {
+        count: peripherals,
+        belongs,
+    } = x;
+    let Events {
+        count: events,
+        outcomes,
+    } = e;
+    let Activities {
+        count: activities,
+        sizes,
+        nodes,
+    } = a;
     Plan {
         resources,
-        peripherals: x.count,
+        peripherals,
         belongs,
-        events: e.count,
+        events,
         outcomes,
-        activities: a.count,
+        activities,
         sizes,
         nodes,
         automaton,
     }
 }
 
-fn with_automaton(
+// The automaton, after the sections before it, and the end of the bytes: the plan is made where nothing can be refused any more.
+#[tactic(auto, unfolding(plan::specs::Reading::with_activities, plan::specs::Reading::ended_at))]
+fn with_activities(
     bytes: &[u8],
+    at: usize,
     resources: u8,
-    x: PeripheralsRead,
-    e: EventsRead,
-    a: ActivitiesRead,
-    t: AutomatonRead,
-) -> PlanRead
-    ensures { result ≡ with_automaton bytes.now resources x e a t }
-{
-    let v = t.step;
-    match v {
-        Step::Refused(f, p) => no_plan(f, p),
-        Step::Read(next) => ended_at(bytes, next, plan_of(resources, x, e, a, t)),
-    }
-}
-
-// What was read of the activities is not handed on before the automaton is read.
-fn with_events(bytes: &[u8], m: u8, resources: u8, x: PeripheralsRead, e: EventsRead) -> PlanRead
+    x: Peripherals,
+    e: Events,
+    a: Activities,
+) -> Result<Plan, FaultAt>
     requires { e.count ≤ 16 }
-    ensures { result ≡ with_events bytes.now m resources x e }
+    ensures { result ≡ with_activities bytes.now resources x e a at }
 {
-    let v = e.step;
-    match v {
-        Step::Refused(f, p) => no_plan(f, p),
-        Step::Read(next) => {
-            let a = plan_sections::activities_at(bytes, next, m, x.count, resources, e.count);
-            let w = a.step;
-            match w {
-                Step::Refused(f, p) => no_plan(f, p),
-                Step::Read(after) => {
-                    let outcomes = e.outcomes;
-                    let t = plan_automaton::automaton_at(bytes, after, e.count, outcomes, a.count);
-                    with_automaton(bytes, resources, x, e, a, t)
-                }
-            }
-        }
+    let (automaton, next) = plan_automaton::automaton_at(bytes, at, e, a.count)?;
+    if next != bytes.len() {
+        return Err(Fault::LeftOver.at(next));
     }
-}
-
-fn with_peripherals(bytes: &[u8], m: u8, resources: u8, x: PeripheralsRead) -> PlanRead
-    ensures { result ≡ with_peripherals bytes.now m resources x }
-{
-    let v = x.step;
-    match v {
-        Step::Refused(f, p) => no_plan(f, p),
-        Step::Read(next) => {
-            let e = plan_sections::events_at(bytes, next, m);
-            with_events(bytes, m, resources, x, e)
-        }
-    }
+    Ok(plan_of(resources, x, e, a, automaton))
 }
 
 // The sections of the map m, from the offset after it.
-fn plan_at(bytes: &[u8], m: u8, at: usize) -> PlanRead
+#[tactic(auto, unfolding(plan::specs::Reading::plan_at, plan::specs::Reading::with_peripherals, plan::specs::Reading::with_events, plan::specs::Sections::resources_at))]
+fn plan_at(bytes: &[u8], m: u8, at: usize) -> Result<Plan, FaultAt>
     ensures { result ≡ plan_at bytes.now m at }
 {
-    let f = plan_fields::optional_count(bytes, at, 16, m % 2 == 1);
-    match f {
-        Field::Refused(f, p) => no_plan(f, p),
-        Field::Value(resources, next) => {
-            let x = plan_sections::peripherals_at(bytes, next, m, resources);
-            with_peripherals(bytes, m, resources, x)
-        }
-    }
+    let (resources, at) = plan_fields::optional_count(bytes, at, 16, m % 2 == 1)?;
+    let (x, at) = plan_sections::peripherals_at(bytes, at, m, resources)?;
+    let (e, at) = plan_sections::events_at(bytes, at, m)?;
+    let named = Named {
+        resources,
+        peripherals: x.count,
+        events: e.count,
+    };
+    let (a, at) = plan_sections::activities_at(bytes, at, m, named)?;
+    with_activities(bytes, at, resources, x, e, a)
 }
 
 // Any bytes are read: the plan, or the first faulty field.
-pub fn read(bytes: &[u8]) -> PlanRead
+#[tactic(auto, unfolding(plan::specs::Reading::read_plan))]
+pub fn read(bytes: &[u8]) -> Result<Plan, FaultAt>
     ensures { result ≡ read_plan bytes.now }
 {
-    let f = sections_at(bytes, 0);
-    match f {
-        Field::Refused(f, p) => no_plan(f, p),
-        Field::Value(m, next) => plan_at(bytes, m, next),
-    }
+    let (m, next) = sections_at(bytes, 0)?;
+    plan_at(bytes, m, next)
 }

@@ -11,14 +11,13 @@ ghost use Rattle.plan_file.specs.PlanFile.{node_map, input_bit, output_bit, move
 ghost use Rattle.plan_write.specs.Inner.Bytes.{kind_bytes, node_bytes, input_bytes, output_bytes, move_bytes, automaton_bytes, named_bytes, section_bytes, activity_bytes};
 ghost use Rattle.plan_write.specs.Inner.Bits.{digit, kind_bit};
 
-use basis::u8_to_u32;
 use plan::{Automaton, Input, Kind, Node, Output, Plan, Transition};
 
 // The bit of a number that is absent where it is 0.
 fn bit_of(x: u32) -> u8
     ensures { (result ≡ digit (present x)) × (result ≤ 1) }
 {
-    if x == 0 { 0 } else { 1 }
+    u8::from(x != 0)
 }
 
 fn kind_bit(kind: Kind) -> u8
@@ -38,7 +37,7 @@ fn node_map(n: Node) -> u8
     let kind = n.kind;
     let k = kind_bit(kind);
     let d = bit_of(n.duration);
-    let c = bit_of(u8_to_u32(n.count));
+    let c = bit_of(u32::from(n.count));
     k + (16 * d + 32 * c)
 }
 
@@ -62,7 +61,7 @@ fn put_preds(out: &mut [u8], at: usize, preds: [u8; 8], k: u8) -> usize
     requires { (at < 131000) × (k ≤ 8) }
     ensures { Puts out.old at (optional_bytes 1 k ++ number_bytes preds 0 k) out.new result }
 {
-    let next = wire::puts::put_optional(out, at, k);
+    let next = wire::puts::put_optional(out, at, u64::from(k), 1);
     wire::puts::put_list(out, next, &preds, k)
 }
 
@@ -75,37 +74,25 @@ fn put_node(out: &mut [u8], at: usize, n: Node) -> usize
     let map = node_map(n);
     let a = wire::puts::put_byte(out, at, map);
     let b = put_kind(out, a, kind);
-    let c = wire::puts::put_optional_four(out, b, n.duration);
+    let c = wire::puts::put_optional(out, b, u64::from(n.duration), 4);
     put_preds(out, c, preds, n.count)
 }
 
-// The activities, one after the other: `left` nodes of the last activity begun are still to be put, the next from place i.
+// The activities, one after the other: the size of each, then its nodes.
 fn put_activities(out: &mut [u8], at: usize, plan: Plan) -> usize
     requires { (at < 65536) × InLimits plan }
     ensures { (result ≤ at + 1025 * plan.activities) × Puts out.old at (activity_bytes plan 0 plan.activities) out.new result }
 {
-    let count = plan.activities as usize;
     let mut off = at;
-    let mut i: usize = 0;
-    let mut a: usize = 0;
-    let mut left: u8 = 0;
-    loop {
-        if left > 0 {
-            let node = plan.nodes[i];
-            off = put_node(out, off, node);
-            i += 1;
-            left -= 1;
-            continue;
-        }
-        if a == count {
-            return off;
-        }
+    for a in 0..usize::from(plan.activities) {
         let size = plan.sizes[a];
         off = wire::puts::put_byte(out, off, size);
-        i = 64 * a;
-        a += 1;
-        left = size;
+        for n in 0..usize::from(size) {
+            let node = plan.nodes[64 * a + n];
+            off = put_node(out, off, node);
+        }
     }
+    off
 }
 
 fn input_digit(input: Input) -> u8
@@ -178,12 +165,8 @@ fn put_moves(out: &mut [u8], at: usize, t: Automaton) -> usize
     ensures { Puts out.old at (flat move_bytes (moves_of t)) out.new result }
 {
     let mut off = at;
-    let mut i: usize = 0;
-    let n = t.count as usize;
-    while i < n {
-        let m = t.moves[i];
-        off = put_move(out, off, m);
-        i += 1;
+    for m in &t.moves[..usize::from(t.count)] {
+        off = put_move(out, off, *m);
     }
     off
 }
@@ -195,17 +178,17 @@ fn put_automaton(out: &mut [u8], at: usize, t: Automaton) -> usize
     let a = wire::puts::put_byte(out, at, t.states);
     let b = wire::puts::put_byte(out, a, t.initial);
     let c = wire::puts::put_number(out, b, t.finals, 8);
-    let d = wire::puts::put_number(out, c, t.count as u64, 2);
+    let d = wire::puts::put_number(out, c, u64::from(t.count), 2);
     put_moves(out, d, t)
 }
 
 fn section_map(resources: u8, peripherals: u8, events: u8, activities: u8) -> u8
     ensures { result ≡ map_of (present resources ∷ present peripherals ∷ present events ∷ present activities ∷ true ∷ []) }
 {
-    let r = bit_of(u8_to_u32(resources));
-    let x = bit_of(u8_to_u32(peripherals));
-    let e = bit_of(u8_to_u32(events));
-    let a = bit_of(u8_to_u32(activities));
+    let r = bit_of(u32::from(resources));
+    let x = bit_of(u32::from(peripherals));
+    let e = bit_of(u32::from(events));
+    let a = bit_of(u32::from(activities));
     r + (2 * x + (4 * e + (8 * a + 16)))
 }
 
@@ -221,9 +204,9 @@ fn put_named(
     requires { (at < 65536) × (peripherals ≤ 64) × (events ≤ 16) }
     ensures { (result ≤ at + 82) × Puts out.old at (named_bytes peripherals belongs events outcomes) out.new result }
 {
-    let a = wire::puts::put_optional(out, at, peripherals);
+    let a = wire::puts::put_optional(out, at, u64::from(peripherals), 1);
     let b = wire::puts::put_list(out, a, &belongs, peripherals);
-    let c = wire::puts::put_optional(out, b, events);
+    let c = wire::puts::put_optional(out, b, u64::from(events), 1);
     wire::puts::put_list(out, c, &outcomes, events)
 }
 
@@ -239,11 +222,11 @@ fn put_sections(out: &mut [u8], plan: Plan) -> usize
         plan.activities,
     );
     let a = wire::puts::put_byte(out, 0, map);
-    let b = wire::puts::put_optional(out, a, plan.resources);
+    let b = wire::puts::put_optional(out, a, u64::from(plan.resources), 1);
     let belongs = plan.belongs;
     let outcomes = plan.outcomes;
     let c = put_named(out, b, plan.peripherals, belongs, plan.events, outcomes);
-    wire::puts::put_optional(out, c, plan.activities)
+    wire::puts::put_optional(out, c, u64::from(plan.activities), 1)
 }
 
 // The bytes of a plan within the limits, from the front of the buffer.

@@ -15,25 +15,18 @@ pub enum NotWritten {
     TooShort,
 }
 
-// How many bytes were written, or why none were.
-#[derive(Clone, Copy)]
-pub enum Written {
-    Bytes(usize),
-    Refused(NotWritten),
-}
-
-// Any plan and any buffer are taken. The plan's length is found by putting it into a buffer that holds nothing of it.
-pub fn write(plan: Plan, out: &mut [u8]) -> Written
+// How many bytes were written, or why none were. Any plan and any buffer are taken. The plan's length is found by putting it into a
+// buffer that holds nothing of it.
+pub fn write(plan: Plan, out: &mut [u8]) -> Result<usize, NotWritten>
     ensures { (result ≡ written_of plan out.old) × (out.new ≡ buffer_of plan out.old) }
 {
-    if plan_limits::file_rules(plan) {
-        let mut none = [0u8; 1];
-        let size = bytes::put_plan(&mut none, plan);
-        if size <= out.len() {
-            let end = bytes::put_plan(out, plan);
-            return Written::Bytes(end);
-        }
-        return Written::Refused(NotWritten::TooShort);
+    if !plan_limits::file_rules(plan) {
+        return Err(NotWritten::BreaksRule);
     }
-    Written::Refused(NotWritten::BreaksRule)
+    let mut none = [0u8; 1];
+    let size = bytes::put_plan(&mut none, plan);
+    if size > out.len() {
+        return Err(NotWritten::TooShort);
+    }
+    Ok(bytes::put_plan(out, plan))
 }

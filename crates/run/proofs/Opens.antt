@@ -1,5 +1,6 @@
 -- An opening, check by check; its first run can be loaded; and a judged plan is within the limits.
-use mathlib.Core.Path.{◌≡◌, refl, sym, ap, ◌∙◌}
+use Rattle.std.specs.Prelude.{Option, Some, None, Ok}
+use mathlib.Core.Path.{◌≡◌, sym, ap, ◌∙◌}
 use mathlib.Core.Bool.{true, false}
 use mathlib.Core.List.{List}
 use Prim.Native.Nat.{ℕ, ◌<◌, ◌≤◌}
@@ -10,12 +11,11 @@ use Rattle.time.specs.declared.Clock.{Clock}
 use Rattle.plan.specs.Limits.{InLimits}
 use Rattle.plan.specs.declared.Plan.{Plan}
 use Rattle.plan.specs.declared.Fault.{Fault}
-use Rattle.plan.specs.declared.Verdict.{Verdict}
+use Rattle.plan.specs.Verdict.{Verdict, faulty}
 use Rattle.plan.specs.declared.PlanRead.{PlanRead}
-use Rattle.judge.specs.Judge.{accepted, judge_of}
+use Rattle.judge.specs.Judge.{judge_of}
 use Rattle.judge.proofs.Laws.Judge.{passed, read_limits}
 use Rattle.run.specs.declared.Unopened.{Unopened}
-use Rattle.run_opening.specs.declared.Short.{Short}
 use Rattle.run_opening.specs.Given.{at_first, availabilities, any_above}
 use Rattle.run_opening.specs.Short.{on_short}
 use Rattle.run_opening.proofs.Laws.Given.{first_in}
@@ -44,12 +44,12 @@ begins p psi slack g l e =
 
 -- ---- 33
 
-module _ {A : Type 0} (x : Short) (f : ℕ → A) (z : A) (s : Short) (e : s ≡ x) where
-  pub none_short : s ≡ Short.Nothing → on_short x f z ≡ z
-  none_short g = ap (λ (y : Short). on_short y f z) (sym e ∙ g)
+module _ {A : Type 0} (x : Option ℕ) (f : ℕ → A) (z : A) (s : Option ℕ) (e : s ≡ x) where
+  pub none_short : s ≡ None → on_short x f z ≡ z
+  none_short g = ap (λ (y : Option ℕ). on_short y f z) (sym e ∙ g)
 
-  pub one_short : (a : ℕ) → s ≡ Short.Activity a → on_short x f z ≡ f a
-  one_short a g = ap (λ (y : Short). on_short y f z) (sym e ∙ g)
+  pub one_short : (a : ℕ) → s ≡ Some a → on_short x f z ≡ f a
+  one_short a g = ap (λ (y : Option ℕ). on_short y f z) (sym e ∙ g)
 
 -- ---- 30 to 32
 
@@ -79,18 +79,18 @@ module _ (p : Plan) (psi : Clock) (slack : ℕ) (ts : List ℕ) where
 -- ---- the judged plan
 
 module _ (bytes : List ℕ) (r : PlanRead) (e : r ≡ judge_of bytes) where
-  pub judged_limits : ((k : ℕ) → get_or bytes k 0 < 256) → r.verdict ≡ Verdict.Accepted → InLimits r.plan
+  pub judged_limits : ((k : ℕ) → get_or bytes k 0 < 256) → r.verdict ≡ Ok tt → InLimits r.plan
   judged_limits small v =
       let q = passed r.plan bytes (sym e ∙ (λ i. record { verdict = v i; plan = r.plan })) in
-      read_limits bytes small (accepted r.plan) (sym q.read) refl
+      read_limits bytes small r.plan q.read
 
   module _ (psi : Clock) (slack : ℕ) (ts : List ℕ) where
     opened_as_lem : open_of bytes psi slack ts ≡ open_judged r.verdict r.plan psi slack ts
     unfolding open_of
     opened_as_lem = ap (λ (x : PlanRead). open_judged x.verdict x.plan psi slack ts) (sym e)
 
-    pub opens_plan : r.verdict ≡ Verdict.Accepted → open_of bytes psi slack ts ≡ open_plan r.plan psi slack ts
+    pub opens_plan : r.verdict ≡ Ok tt → open_of bytes psi slack ts ≡ open_plan r.plan psi slack ts
     opens_plan v = opened_as_lem ∙ ap (λ (x : Verdict). open_judged x r.plan psi slack ts) v
 
-    pub refuses_plan : (f : Fault) (place : ℕ) → r.verdict ≡ Verdict.Refused f place → open_of bytes psi slack ts ≡ unopened (Unopened.Plan f place)
+    pub refuses_plan : (f : Fault) (place : ℕ) → r.verdict ≡ faulty f place → open_of bytes psi slack ts ≡ unopened (Unopened.Plan f place)
     refuses_plan f place v = opened_as_lem ∙ ap (λ (x : Verdict). open_judged x r.plan psi slack ts) v

@@ -1,5 +1,5 @@
 -- "Calls carry a clock reading: ask, completion of an action, outcome of an event (which completes it)."
-use Rattle.std.specs.Prelude.{Bool, cond, ◌&&◌, List, ℕ, ltb, eqb, set}
+use Rattle.std.specs.Prelude.{Bool, cond, ◌&&◌, List, ℕ, ltb, eqb, set, Option, Some, None}
 use Rattle.time.specs.declared.Clock.{Clock}
 use Rattle.plan.specs.Plan.{is_final, outcomes_of}
 use Rattle.plan.specs.Limits.{node_at}
@@ -8,7 +8,6 @@ use Rattle.plan.specs.declared.Plan.{Plan}
 use Rattle.times.specs.declared.Progress.{Progress}
 use Rattle.run_window.specs.declared.Entry.{Entry}
 use Rattle.run_checks.specs.declared.Stop.{Stop}
-use Rattle.run_checks.specs.declared.Halt.{Halt}
 use Rattle.run.specs.declared.Run.{Run}
 use Rattle.run_checks.specs.declared.Refusal.{Refusal}
 use Rattle.run.specs.declared.Reply.{Reply}
@@ -32,12 +31,12 @@ abbrev pub refuse : Run → Refusal → Answer
 refuse run f = answer (Reply.Refused f) run
 
 -- "Any other answer makes its reading the last one"
-abbrev pub heard : Run → Clock → Halt → Progress → List Entry → Run
+abbrev pub heard : Run → Clock → Option Stop → Progress → List Entry → Run
 heard run t h g w =
     record { plan = run.plan; psi = run.psi; slack = run.slack; progress = g; window = w; last = t; halt = h }
 
 abbrev pub stops : Run → Clock → Stop → Answer
-stops run t s = answer (Reply.Stopped s) (heard run t (Halt.Stopped s) run.progress run.window)
+stops run t s = answer (Reply.Stopped s) (heard run t (Some s) run.progress run.window)
 
 -- ---- ask
 
@@ -49,8 +48,8 @@ is_done run = is_final run.plan.automaton run.progress.state && is_empty run.win
 unfoldable pub asked : Run → Clock → Answer
 asked run t =
     on_found (first (is_due run.psi t) (starts_before run.plan.nodes) 0 run.window)
-    (λ i e. answer (Reply.Start e.position e.activity e.node) (heard run t Halt.Going run.progress (set run.window i (started_of e))))
-    (answer (cond (is_done run) Reply.Done Reply.Wait) (heard run t Halt.Going run.progress run.window))
+    (λ i e. answer (Reply.Start e.position e.activity e.node) (heard run t None run.progress (set run.window i (started_of e))))
+    (answer (cond (is_done run) Reply.Done Reply.Wait) (heard run t None run.progress run.window))
 
 -- ---- reports
 
@@ -65,7 +64,7 @@ reported run position node f =
 
 -- the reported node leaves the window
 abbrev pub cleared : Run → Clock → ℕ → Progress → Run
-cleared run t i g = heard run t Halt.Going g (set run.window i vacant)
+cleared run t i g = heard run t None g (set run.window i vacant)
 
 -- 54 completion of an event
 abbrev pub completed_by : Run → Clock → ℕ → Kind → Answer
@@ -81,14 +80,14 @@ completed run t position node = reported run position node (λ i e. completed_by
 
 abbrev pub halted_by : Run → Stop → Run
 halted_by run s =
-    record { plan = run.plan; psi = run.psi; slack = run.slack; progress = run.progress; window = run.window; last = run.last; halt = Halt.Stopped s }
+    record { plan = run.plan; psi = run.psi; slack = run.slack; progress = run.progress; window = run.window; last = run.last; halt = Some s }
 
 -- "An accepted report is taken; if loading after it fails the answer is stopped, the report and any path loaded before
 -- still count"
-abbrev pub after_loading : Failure → Run → Answer
-after_loading Failure.None run = answer Reply.Taken run
-after_loading Failure.Full run = answer (Reply.Stopped Stop.Full) (halted_by run Stop.Full)
-after_loading Failure.Beyond run = answer (Reply.Stopped Stop.Beyond) (halted_by run Stop.Beyond)
+abbrev pub after_loading : Option Failure → Run → Answer
+after_loading None run = answer Reply.Taken run
+after_loading (Some Failure.Full) run = answer (Reply.Stopped Stop.Full) (halted_by run Stop.Full)
+after_loading (Some Failure.Beyond) run = answer (Reply.Stopped Stop.Beyond) (halted_by run Stop.Beyond)
 
 abbrev pub learnt : Run → Answer
 learnt run = after_loading (further most_pending run).failure (further most_pending run).run

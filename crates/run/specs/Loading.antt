@@ -1,6 +1,6 @@
 -- "Paths are loaded up to a waiting or final state; the next is loaded in the call that reports the awaited outcome, and
 -- further ones while their outcomes are already reported."
-use Rattle.std.specs.Prelude.{cond, ℕ, zero, suc, ltb, length}
+use Rattle.std.specs.Prelude.{cond, ℕ, zero, suc, ltb, length, Option, Some, None}
 use Rattle.automaton.specs.Next.{next_of}
 use Rattle.automaton.specs.declared.Next.{Next}
 use Rattle.run.specs.declared.Run.{Run}
@@ -14,10 +14,10 @@ use Rattle.run_outcomes.specs.Way.{way_on}
 
 -- the run after loading; after a failure, as it was before the failing path
 pub record Loading : Type 0 where
-  pub failure : Failure
+  pub failure : Option Failure
   pub run : Run
 
-abbrev pub loading : Failure → Run → Loading
+abbrev pub loading : Option Failure → Run → Loading
 loading f run = record { failure = f; run = run }
 
 abbrev pub with_path : Run → Path → Run
@@ -34,9 +34,9 @@ with_path run q = record {
 -- "44 ..; then 43 the window would pass 512"; "the failing path adds nothing"
 abbrev pub load_path : Run → Path → Loading
 load_path run q =
-    cond q.beyond (loading Failure.Beyond run)
-    (cond (ltb (vacancies run.window) (length q.entries)) (loading Failure.Full run)
-    (loading Failure.None (with_path run q)))
+    cond q.beyond (loading (Some Failure.Beyond) run)
+    (cond (ltb (vacancies run.window) (length q.entries)) (loading (Some Failure.Full) run)
+    (loading None (with_path run q)))
 
 unfoldable pub load : Run → Next → Loading
 load run next = load_path run (path_from run.plan longest_path next run.progress)
@@ -48,8 +48,8 @@ on_loading l f = on_failure l.failure l (f l.run)
 
 -- at most k paths; each processes a reported instance, of which there are at most 128
 unfoldable pub further : ℕ → Run → Loading
-further zero run = loading Failure.None run
+further zero run = loading None run
 further (suc k) run =
     on_way (way_on run.plan.automaton run.progress (next_of run.plan.automaton run.progress.state))
     (λ t. on_loading (load run (Next.Goes t)) (further k))
-    (loading Failure.None run)
+    (loading None run)

@@ -1,15 +1,14 @@
 -- "An opening gives a plan, Ψ, a slack of 1 to 1,000,000, and one availability, in specified time, for each resource. The
 -- plan comes as bytes and is judged first; the run keeps it."
-use Rattle.std.specs.Prelude.{cond, ◌||◌, List, ℕ, ltb, eqb, length, replicate}
+use Rattle.std.specs.Prelude.{cond, ◌||◌, List, ℕ, ltb, eqb, length, replicate, Option, Some, None, Ok, Err}
 use Rattle.time.specs.Time.{horizon}
 use Rattle.time.specs.declared.Clock.{Clock}
 use Rattle.plan.specs.declared.Plan.{Plan}
-use Rattle.plan.specs.declared.Verdict.{Verdict}
+use Rattle.plan.specs.Verdict.{Verdict}
 use Rattle.plan.specs.Reading.{zero_plan}
 use Rattle.judge.specs.Judge.{judge_of}
 use Rattle.automaton.specs.Next.{next_of}
 use Rattle.times.specs.declared.Progress.{Progress}
-use Rattle.run_checks.specs.declared.Halt.{Halt}
 use Rattle.run.specs.declared.Run.{Run}
 use Rattle.run.specs.declared.Unopened.{Unopened}
 use Rattle.run.specs.declared.Opening.{Opening}
@@ -28,7 +27,7 @@ use Rattle.run.specs.Loading.{Loading, load}
 -- "0 at opening" is the last reading
 abbrev pub uncalled : Plan → Clock → ℕ → Progress → List Entry → Run
 uncalled p psi slack g w =
-    record { plan = p; psi = psi; slack = slack; progress = g; window = w; last = record { 0 = 0 }; halt = Halt.Going }
+    record { plan = p; psi = psi; slack = slack; progress = g; window = w; last = record { 0 = 0 }; halt = None }
 
 abbrev pub fresh : Plan → Clock → ℕ → Progress → Run
 fresh p psi slack g = uncalled p psi slack g (replicate 512 vacant)
@@ -42,10 +41,10 @@ unopened u = record { opening = Opening.Refused u; run = zero_run }
 
 -- ---- the opening
 
-abbrev pub after_first : Failure → Run → Opened
-after_first Failure.None run = record { opening = Opening.Opened; run = run }
-after_first Failure.Full run = unopened Unopened.Full
-after_first Failure.Beyond run = unopened Unopened.Beyond
+abbrev pub after_first : Option Failure → Run → Opened
+after_first None run = record { opening = Opening.Opened; run = run }
+after_first (Some Failure.Full) run = unopened Unopened.Full
+after_first (Some Failure.Beyond) run = unopened Unopened.Beyond
 
 abbrev pub first_loaded : Loading → Opened
 first_loaded l = after_first l.failure l.run
@@ -66,8 +65,8 @@ open_plan p psi slack ts =
     (unopened Unopened.Availabilities)
 
 abbrev pub open_judged : Verdict → Plan → Clock → ℕ → List ℕ → Opened
-open_judged Verdict.Accepted p psi slack ts = open_plan p psi slack ts
-open_judged (Verdict.Refused f place) p psi slack ts = unopened (Unopened.Plan f place)
+open_judged (Ok u) p psi slack ts = open_plan p psi slack ts
+open_judged (Err e) p psi slack ts = unopened (Unopened.Plan e.fault e.place)
 
 unfoldable pub open_of : List ℕ → Clock → ℕ → List ℕ → Opened
 open_of bytes psi slack ts = open_judged (judge_of bytes).verdict (judge_of bytes).plan psi slack ts

@@ -12,17 +12,9 @@ fn stored_in_limits(run: Run) -> bool
     ensures { result ≡ stored_in_limits run }
 {
     let plan = run.plan;
-    let progress = run.progress;
-    if !run_limits::progress_in_limits(plan, progress) {
-        return false;
-    }
-    let sizes = plan.sizes;
-    let window = run.window;
-    if !run_limits::places::window_in_limits(plan.activities, sizes, window) {
-        return false;
-    }
-    let halt = run.halt;
-    run_checks::bounds::halt_in_limits(halt)
+    run_limits::progress_in_limits(plan, run.progress)
+        && run_limits::places::window_in_limits(plan.activities, plan.sizes, run.window)
+        && run_checks::bounds::halt_in_limits(run.halt)
 }
 
 // The whole run, where its plan is known to be `good` or not; its last reading is any number.
@@ -30,14 +22,5 @@ pub fn run_in_limits(good: bool, run: Run) -> bool
     requires { good ≡ in_limits run.plan }
     ensures { result ≡ run_in_limits run }
 {
-    if !good {
-        return false;
-    }
-    if run.psi.0 > Run::HORIZON {
-        return false;
-    }
-    if !slack_in_limits(run.slack) {
-        return false;
-    }
-    stored_in_limits(run)
+    good && run.psi.0 <= Run::HORIZON && slack_in_limits(run.slack) && stored_in_limits(run)
 }

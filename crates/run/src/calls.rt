@@ -3,8 +3,7 @@ ghost use Rattle.std.specs.Prelude.{◌≡◌, ◌<◌};
 ghost use Rattle.run.specs.Calls.{stops};
 ghost use Rattle.run.specs.Inner.Effects.{rests_as};
 
-use crate::{Answer, Halt, Reply, Run, Stop};
-use basis::u8_to_usize;
+use crate::{Answer, Reply, Run, Stop};
 use plan::is_final;
 use run_window::Entry;
 use time::Clock;
@@ -13,20 +12,12 @@ use time::Clock;
 pub fn stops(run: Run, t: Clock, s: Stop) -> Answer
     ensures { result ≡ stops run t s }
 {
-    let plan = run.plan;
-    let psi = run.psi;
-    let progress = run.progress;
-    let window = run.window;
     Answer {
         reply: Reply::Stopped(s),
         run: Run {
-            plan,
-            psi,
-            slack: run.slack,
-            progress,
-            window,
             last: t,
-            halt: Halt::Stopped(s),
+            halt: Some(s),
+            ..run
         },
     }
 }
@@ -36,11 +27,8 @@ pub fn at_rest(finals: u64, s: u8, window: [Entry; Run::WINDOW]) -> Reply
     requires { s < 64 }
     ensures { result ≡ rests_as finals s window }
 {
-    if is_final(finals, u8_to_usize(s)) {
-        if run_window::is_empty(window) {
-            return Reply::Done;
-        }
-        return Reply::Wait;
+    if is_final(finals, usize::from(s)) && run_window::is_empty(window) {
+        return Reply::Done;
     }
     Reply::Wait
 }

@@ -18,22 +18,18 @@ fn check_call(run: Run, t: Clock, sought: Sought) -> Checked
     let good = plan_limits::in_limits(plan);
     let limits = bounds::run_in_limits(good, run);
     let halt = run.halt;
-    let psi = run.psi;
-    let last = run.last;
     let m = Moment {
-        psi,
+        psi: run.psi,
         slack: run.slack,
-        last,
+        last: run.last,
         t,
     };
     let window = run.window;
     let nodes = plan.nodes;
     let check = run_checks::check_call(limits, halt, m, window, nodes, sought);
     let k = effects::place_of(check);
-    let node = plan.nodes[k];
-    let kind = node.kind;
-    let outcomes = plan.outcomes;
-    let most = effects::outcomes_for(kind, outcomes);
+    let kind = plan.nodes[k].kind;
+    let most = effects::outcomes_for(kind, plan.outcomes);
     Checked { check, kind, most }
 }
 
@@ -41,7 +37,6 @@ fn check_call(run: Run, t: Clock, sought: Sought) -> Checked
 pub fn effect_at(run: Run, t: Clock, c: Call) -> Effect
     ensures { result ≡ effect_of c (checked_of run t (sought_by run.psi c)) }
 {
-    let psi = run.psi;
-    let checked = check_call(run, t, effects::sought_by(psi, c));
+    let checked = check_call(run, t, effects::sought_by(run.psi, c));
     effects::effect_of(c, checked)
 }

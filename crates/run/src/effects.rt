@@ -6,9 +6,8 @@ ghost use Rattle.run.specs.Calls.{reading_of};
 ghost use Rattle.run.specs.Inner.Effects.{sought_by, found_by, place_of, outcomes_for, refusing, completes_by, hears_as, learns_as, starts_by, effect_for, effect_on, effect_of};
 
 use crate::{Call, Checked, Effect, Refusal, Reply};
-use basis::u8_to_usize;
 use plan::Kind;
-use run_checks::{Check, Objection, Report};
+use run_checks::Objection;
 use run_window::{Entry, Found, Sought};
 use time::Clock;
 
@@ -36,24 +35,13 @@ pub fn sought_by(psi: Clock, c: Call) -> Sought
     }
 }
 
-// What the checks found; nothing where they object.
-fn found_by(check: Check) -> Found
-    ensures { result ≡ found_by check }
-{
-    match check {
-        Check::Goes(found) => found,
-        Check::Objects(_) => Found::Nothing,
-    }
-}
-
 // Where the node that they found stands among the nodes of the plan; 0 where they found none.
-pub fn place_of(check: Check) -> usize
+pub fn place_of(check: Result<Option<Found>, Objection>) -> usize
     ensures { result ≡ place_of (found_by check) }
 {
-    let found = found_by(check);
-    match found {
-        Found::Nothing => 0,
-        Found::At(_, e) => run_window::node_place(e),
+    match check {
+        Ok(Some(found)) => run_window::node_place(found.entry),
+        Ok(None) | Err(_) => 0,
     }
 }
 
@@ -61,14 +49,10 @@ pub fn place_of(check: Check) -> usize
 pub fn outcomes_for(kind: Kind, outcomes: [u8; 16]) -> u8
     ensures { result ≡ outcomes_for outcomes kind }
 {
-    let Kind::Event(e) = kind else {
-        return 0;
-    };
-    let i = u8_to_usize(e);
-    if i < 16 {
-        return outcomes[i];
+    match kind {
+        Kind::Event(e) if e < 16 => outcomes[usize::from(e)],
+        _ => 0,
     }
-    0
 }
 
 // ---- the effect
@@ -116,41 +100,41 @@ fn learns(i: usize, x: Entry, o: u8, kind: Kind, most: u8) -> Effect
 }
 
 // "Ask starts the due, unstarted node with the earliest specified start"
-fn of_ask(found: Found) -> Effect
+fn of_ask(found: Option<Found>) -> Effect
     ensures { result ≡ starts_by found }
 {
     match found {
-        Found::Nothing => Effect::Rests,
-        Found::At(i, e) => {
+        None => Effect::Rests,
+        Some(Found { place, entry }) => {
             Effect::Stores(
-                i,
-                run_window::started(e),
-                Reply::Start(e.position, e.activity, e.node),
+                place,
+                run_window::started(entry),
+                Reply::Start(entry.position, entry.activity, entry.node),
             )
         }
     }
 }
 
-fn of_completion(report: Report, kind: Kind) -> Effect
+fn of_completion(report: Result<Found, Refusal>, kind: Kind) -> Effect
     ensures { result ≡ on_report report (λ i e. completes_by i kind) refusing }
 {
     match report {
-        Report::Refuses(f) => refusing(f),
-        Report::Names(i, _) => completes(i, kind),
+        Err(f) => refusing(f),
+        Ok(found) => completes(found.place, kind),
     }
 }
 
-fn of_outcome(report: Report, o: u8, kind: Kind, most: u8) -> Effect
+fn of_outcome(report: Result<Found, Refusal>, o: u8, kind: Kind, most: u8) -> Effect
     ensures { result ≡ on_report report (λ i e. learns_as i e o most kind) refusing }
 {
     match report {
-        Report::Refuses(f) => refusing(f),
-        Report::Names(i, x) => learns(i, x, o, kind, most),
+        Err(f) => refusing(f),
+        Ok(found) => learns(found.place, found.entry, o, kind, most),
     }
 }
 
 // The effect of a call that passes its checks.
-fn of_call(c: Call, found: Found, kind: Kind, most: u8) -> Effect
+fn of_call(c: Call, found: Option<Found>, kind: Kind, most: u8) -> Effect
     ensures { result ≡ effect_on c found kind most }
 {
     match c {
@@ -174,10 +158,8 @@ fn of_objection(o: Objection) -> Effect
 pub fn effect_of(c: Call, checked: Checked) -> Effect
     ensures { result ≡ effect_of c checked }
 {
-    let check = checked.check;
-    let kind = checked.kind;
-    match check {
-        Check::Goes(found) => of_call(c, found, kind, checked.most),
-        Check::Objects(o) => of_objection(o),
+    match checked.check {
+        Ok(found) => of_call(c, found, checked.kind, checked.most),
+        Err(o) => of_objection(o),
     }
 }

@@ -7,31 +7,31 @@ ghost use Rattle.run_loading.specs.Loading.{further, most_pending};
 ghost use Rattle.run_loading.specs.Inner.Loading.{Loads};
 ghost use Rattle.run.specs.Inner.Calls.{halt_after, reply_after};
 
-use crate::{Halt, Reply, Run, Stop};
+use crate::{Reply, Run, Stop};
 use plan::Plan;
 use run_loading::{Failure, Loading};
 use run_window::Entry;
 use times::Progress;
 
 // Whether the run keeps a stop after loading.
-pub fn halt_after(failure: Failure) -> Halt
+pub fn halt_after(failure: Option<Failure>) -> Option<Stop>
     ensures { result ≡ halt_after failure }
 {
     match failure {
-        Failure::None => Halt::Going,
-        Failure::Full => Halt::Stopped(Stop::Full),
-        Failure::Beyond => Halt::Stopped(Stop::Beyond),
+        None => None,
+        Some(Failure::Full) => Some(Stop::Full),
+        Some(Failure::Beyond) => Some(Stop::Beyond),
     }
 }
 
 // What an outcome is answered: it is taken, or loading after it stops the run.
-pub fn reply_after(failure: Failure) -> Reply
+pub fn reply_after(failure: Option<Failure>) -> Reply
     ensures { result ≡ reply_after failure }
 {
     match failure {
-        Failure::None => Reply::Taken,
-        Failure::Full => Reply::Stopped(Stop::Full),
-        Failure::Beyond => Reply::Stopped(Stop::Beyond),
+        None => Reply::Taken,
+        Some(Failure::Full) => Reply::Stopped(Stop::Full),
+        Some(Failure::Beyond) => Reply::Stopped(Stop::Beyond),
     }
 }
 

@@ -12,10 +12,10 @@ pub mod effects;
 pub mod learning;
 mod openings;
 
-use plan::{Fault, Kind, Plan, Verdict};
-use run_checks::Check;
-pub use run_checks::{Halt, Refusal, Stop};
-use run_window::Entry;
+use plan::{Fault, FaultAt, Kind, Plan};
+use run_checks::Objection;
+pub use run_checks::{Refusal, Stop};
+use run_window::{Entry, Found};
 use time::Clock;
 use times::Progress;
 
@@ -28,7 +28,8 @@ pub struct Run {
     pub window: [Entry; Run::WINDOW],
     // the last reading, 0 at opening
     pub last: Clock,
-    pub halt: Halt,
+    // the stop that the run keeps
+    pub halt: Option<Stop>,
 }
 
 impl Run {
@@ -73,7 +74,7 @@ pub enum Call {
 // What the checks say at a call; of the node that they found, its kind and how many outcomes it has.
 #[derive(Clone, Copy)]
 pub struct Checked {
-    pub check: Check,
+    pub check: Result<Option<Found>, Objection>,
     pub kind: Kind,
     pub most: u8,
 }
@@ -115,7 +116,7 @@ pub enum Opening {
     Refused(Unopened),
 }
 
-// The answer to an opening; a refused one hands back a run of zeros.
+// The answer to an opening; a refused one hands back a run of zeros (demands' StatementRefusedOpening speaks of it, so it is no Result).
 #[derive(Clone, Copy)]
 pub struct Opened {
     pub opening: Opening,
@@ -130,10 +131,10 @@ impl Run {
         let judged = judge::judge(bytes);
         let verdict = judged.verdict;
         match verdict {
-            Verdict::Refused(f, place) => {
-                return openings::unopened(Unopened::Plan(f, place));
+            Err(FaultAt { fault, place }) => {
+                return openings::unopened(Unopened::Plan(fault, place));
             }
-            Verdict::Accepted => {
+            Ok(()) => {
                 let plan = judged.plan;
                 return openings::open_plan(plan, psi, slack, availabilities);
             }
@@ -173,8 +174,7 @@ impl Run {
             Effect::Stops(s) => return calls::stops(self, t, s),
             Effect::Rests => {
                 let finals = self.plan.automaton.finals;
-                let window = self.window;
-                let reply = calls::at_rest(finals, self.progress.state, window);
+                let reply = calls::at_rest(finals, self.progress.state, self.window);
                 self.last = t;
                 return Answer { reply, run: self };
             }
@@ -185,13 +185,11 @@ impl Run {
             }
             Effect::Learns(i, x, e, o) => {
                 let loading = learning::load_after(self, i, x, e, o);
-                let failure = loading.failure;
-                let progress = loading.progress;
-                let places = loading.window;
-                self.progress = progress;
-                self.window = places;
+                let window = loading.window;
+                self.progress = loading.progress;
+                self.window = window;
                 self.last = t;
-                let Halt::Stopped(s) = learning::halt_after(failure) else {
+                let Some(s) = learning::halt_after(loading.failure) else {
                     let reply = Reply::Taken;
                     return Answer { reply, run: self };
                 };

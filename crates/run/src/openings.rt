@@ -5,10 +5,9 @@ ghost use Rattle.run_opening.specs.Given.{any_above};
 ghost use Rattle.run.specs.Opening.{uncalled, zero_run, unopened, after_first, open_plan};
 ghost use Rattle.run.specs.Inner.Calls.{first_path};
 
-use crate::{Halt, Opened, Opening, Run, Unopened, bounds};
+use crate::{Opened, Opening, Run, Unopened, bounds};
 use plan::Plan;
 use run_loading::{Failure, Loading};
-use run_opening::Short;
 use run_window::Entry;
 use time::{Clock, Specified};
 use times::Progress;
@@ -32,7 +31,7 @@ fn uncalled(
         progress,
         window,
         last: Clock(0),
-        halt: Halt::Going,
+        halt: None,
     }
 }
 
@@ -65,7 +64,7 @@ fn after_first(plan: Plan, psi: Clock, slack: u64, loading: Loading) -> Opened
 {
     let failure = loading.failure;
     match failure {
-        Failure::None => {
+        None => {
             let progress = loading.progress;
             let window = loading.window;
             let run = uncalled(plan, psi, slack, progress, window);
@@ -74,10 +73,10 @@ fn after_first(plan: Plan, psi: Clock, slack: u64, loading: Loading) -> Opened
                 run,
             };
         }
-        Failure::Full => {
+        Some(Failure::Full) => {
             return unopened(Unopened::Full);
         }
-        Failure::Beyond => {
+        Some(Failure::Beyond) => {
             return unopened(Unopened::Beyond);
         }
     }
@@ -92,10 +91,10 @@ fn first_path(plan: Plan, psi: Clock, slack: u64, ts: &[u64]) -> Opened
 {
     let short = run_opening::short_from(plan, slack);
     match short {
-        Short::Activity(a) => {
+        Some(a) => {
             return unopened(Unopened::Short(a));
         }
-        Short::Nothing => {
+        None => {
             let available = run_opening::given(ts);
             let progress = run_opening::at_first(available, plan.automaton.initial);
             let loading = run_loading::first(plan, progress);

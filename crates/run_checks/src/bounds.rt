@@ -2,7 +2,7 @@
 ghost use Rattle.std.specs.Prelude.{◌≡◌};
 ghost use Rattle.run_checks.specs.Limits.{node_named, stop_in_limits, halt_in_limits, slack_in_limits};
 
-use crate::{Halt, Stop};
+use crate::Stop;
 use times::LAST_POSITION;
 
 // the least and the largest slack
@@ -14,41 +14,24 @@ pub const SLACK_MOST: u64 = 1_000_000;
 fn node_named(position: u32, node: u8) -> bool
     ensures { result ≡ node_named position node }
 {
-    if position > LAST_POSITION {
-        return false;
-    }
-    node < 64
+    position <= LAST_POSITION && node < 64
 }
 
 fn stop_in_limits(stop: Stop) -> bool
     ensures { result ≡ stop_in_limits stop }
 {
     match stop {
-        Stop::Late(p, n) => {
-            return node_named(p, n);
-        }
-        Stop::Overdue(p, n) => {
-            return node_named(p, n);
-        }
-        Stop::Full => {
-            return true;
-        }
-        Stop::Beyond => {
-            return true;
-        }
+        Stop::Late(p, n) | Stop::Overdue(p, n) => node_named(p, n),
+        Stop::Full | Stop::Beyond => true,
     }
 }
 
-pub fn halt_in_limits(halt: Halt) -> bool
+pub fn halt_in_limits(halt: Option<Stop>) -> bool
     ensures { result ≡ halt_in_limits halt }
 {
     match halt {
-        Halt::Going => {
-            return true;
-        }
-        Halt::Stopped(s) => {
-            return stop_in_limits(s);
-        }
+        None => true,
+        Some(s) => stop_in_limits(s),
     }
 }
 
@@ -56,8 +39,5 @@ pub fn halt_in_limits(halt: Halt) -> bool
 pub fn slack_in_limits(slack: u64) -> bool
     ensures { result ≡ slack_in_limits slack }
 {
-    if slack < SLACK_LEAST {
-        return false;
-    }
-    slack <= SLACK_MOST
+    SLACK_LEAST <= slack && slack <= SLACK_MOST
 }

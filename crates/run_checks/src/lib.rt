@@ -1,10 +1,10 @@
 // The checks of a call: "Order at a call: 50, kept stop, 51, 42, 41, 52 to 55." Each takes the parts of a run that it needs.
 #![tactic(auto)]
 
-ghost use Rattle.std.specs.Prelude.{true, ◌≡◌};
-ghost use Rattle.run_window.specs.Window.{is_started};
+ghost use Rattle.std.specs.Prelude.{true, ◌≡◌, Ok, Err};
 ghost use Rattle.run_window.specs.Inner.Search.{SoughtInTime, first_of};
-ghost use Rattle.run_checks.specs.Order.{Timed, overdue_then, late_then, timely_by, called_by, started_then, reported_by};
+ghost use Rattle.run_checks.specs.Order.{Timed, overdue_then, late_then, timely_by, called_by, reported_by};
+ghost use Rattle.run_checks.specs.Inner.Report.{named};
 
 use plan::{NODES, Node};
 use run_window::{Entry, Found, Phase, Seen, Sought, WINDOW};
@@ -23,12 +23,6 @@ pub enum Stop {
     Full,
     // a completion or availability of the next path above 10^15, or a position above 1,000,000,000
     Beyond,
-}
-
-#[derive(Clone, Copy)]
-pub enum Halt {
-    Going,
-    Stopped(Stop),
 }
 
 // Why a call, or a message that is none, is refused. Document 01's number for each case is `refusal_number` in
@@ -70,125 +64,89 @@ pub enum Objection {
     Stops(Stop),
 }
 
-// What the checks at a call say; where they object to nothing, the first of what the call looks for.
-#[derive(Clone, Copy)]
-pub enum Check {
-    Goes(Found),
-    Objects(Objection),
-}
-
-// What a report names: a started node of the window, with its place.
-#[derive(Clone, Copy)]
-pub enum Report {
-    Refuses(Refusal),
-    Names(usize, Entry),
-}
-
 // ---- 50, kept stop, 51, 42, 41
 
 // 41: "the reading exceeds Ψ + start + slack of an unstarted node, naming the one with the earliest start"
-fn check_late(late: Found, next: Check) -> Check
-    ensures { result ≡ late_then late Check.Objects next }
+fn check_late(late: Option<Found>) -> Result<(), Objection>
+    ensures { result ≡ late_then late Err (Ok tt) }
 {
     match late {
-        Found::Nothing => next,
-        Found::At(_, e) => Check::Objects(Objection::Stops(Stop::Late(e.position, e.node))),
+        Some(Found { entry, .. }) => {
+            Err(Objection::Stops(Stop::Late(entry.position, entry.node)))
+        }
+        None => Ok(()),
     }
 }
 
 // 42: "the reading is at or past Ψ + completion of a started, unreported node, naming the one with the earliest
 // completion"
-fn check_overdue(overdue: Found, next: Check) -> Check
-    ensures { result ≡ overdue_then overdue Check.Objects next }
+fn check_overdue(overdue: Option<Found>) -> Result<(), Objection>
+    ensures { result ≡ overdue_then overdue Err (Ok tt) }
 {
     match overdue {
-        Found::Nothing => next,
-        Found::At(_, e) => Check::Objects(Objection::Stops(Stop::Overdue(e.position, e.node))),
+        Some(Found { entry, .. }) => {
+            Err(Objection::Stops(Stop::Overdue(entry.position, entry.node)))
+        }
+        None => Ok(()),
     }
 }
 
-// 42, then 41, of what a call has found in the window.
-pub fn check_seen(seen: Seen) -> Check
-    ensures { result ≡ overdue_then seen.overdue Check.Objects (late_then seen.late Check.Objects (Check.Goes seen.sought)) }
+// 42, then 41, of what a call has found in the window; where they object to nothing, the first of what the call looks for.
+pub fn check_seen(seen: Seen) -> Result<Option<Found>, Objection>
+    ensures { result ≡ overdue_then seen.overdue Err (late_then seen.late Err (Ok seen.sought)) }
 {
-    let overdue = seen.overdue;
-    let late = seen.late;
-    let found = seen.sought;
-    check_overdue(overdue, check_late(late, Check::Goes(found)))
+    check_overdue(seen.overdue)?;
+    check_late(seen.late)?;
+    Ok(seen.sought)
 }
 
 // 51: "reading below the last one"; then 42, then 41.
-fn check_reading(m: Moment, window: [Entry; WINDOW], nodes: [Node; NODES], sought: Sought) -> Check
+fn check_reading(
+    m: Moment,
+    window: [Entry; WINDOW],
+    nodes: [Node; NODES],
+    sought: Sought,
+) -> Result<Option<Found>, Objection>
     requires { Timed m window × SoughtInTime sought }
-    ensures { result ≡ timely_by m nodes window Check.Objects (Check.Goes (first_of nodes sought window)) }
+    ensures { result ≡ timely_by m nodes window Err (Ok (first_of nodes sought window)) }
 {
     if m.t.0 < m.last.0 {
-        return Check::Objects(Objection::Refuses(Refusal::ReadingBelow));
+        return Err(Objection::Refuses(Refusal::ReadingBelow));
     }
-    let psi = m.psi;
-    let t = m.t;
-    let seen = run_window::look(window, nodes, psi, m.slack, t, sought);
+    let seen = run_window::look(window, nodes, m.psi, m.slack, m.t, sought);
     check_seen(seen)
 }
 
 // 50, and the stop that a run keeps; then the others.
 pub fn check_call(
     limits: bool,
-    halt: Halt,
+    halt: Option<Stop>,
     m: Moment,
     window: [Entry; WINDOW],
     nodes: [Node; NODES],
     sought: Sought,
-) -> Check
+) -> Result<Option<Found>, Objection>
     requires { limits ≡ true → Timed m window × SoughtInTime sought }
-    ensures { result ≡ called_by limits halt m nodes window Check.Objects (Check.Goes (first_of nodes sought window)) }
+    ensures { result ≡ called_by limits halt m nodes window Err (Ok (first_of nodes sought window)) }
 {
     if !limits {
-        return Check::Objects(Objection::Refuses(Refusal::OutOfLimits));
+        return Err(Objection::Refuses(Refusal::OutOfLimits));
     }
-    match halt {
-        Halt::Going => {
-            return check_reading(m, window, nodes, sought);
-        }
-        Halt::Stopped(s) => {
-            return Check::Objects(Objection::Keeps(s));
-        }
+    if let Some(s) = halt {
+        return Err(Objection::Keeps(s));
     }
+    check_reading(m, window, nodes, sought)
 }
 
 // ---- 52, 53
 
-fn is_started(e: Entry) -> bool
-    ensures { result ≡ is_started e.phase }
+// What a report names, a started node of the window. 52: "no such node in the window"; 53: "node not started".
+pub fn report_of(found: Option<Found>) -> Result<Found, Refusal>
+    ensures { result ≡ reported_by found named Err }
 {
-    let phase = e.phase;
-    match phase {
-        Phase::Free => false,
-        Phase::Loaded => false,
-        Phase::Started => true,
+    let found = found.ok_or(Refusal::NoSuchNode)?;
+    if found.entry.phase != Phase::Started {
+        return Err(Refusal::NotStarted);
     }
-}
-
-// 53: "node not started"
-fn started_report(i: usize, e: Entry) -> Report
-    ensures { result ≡ started_then i e Report.Names Report.Refuses }
-{
-    if is_started(e) {
-        return Report::Names(i, e);
-    }
-    Report::Refuses(Refusal::NotStarted)
-}
-
-// 52: "no such node in the window"; then 53.
-pub fn report_of(found: Found) -> Report
-    ensures { result ≡ reported_by found Report.Names Report.Refuses }
-{
-    match found {
-        Found::Nothing => {
-            return Report::Refuses(Refusal::NoSuchNode);
-        }
-        Found::At(i, e) => {
-            return started_report(i, e);
-        }
-    }
+    Ok(found)
 }

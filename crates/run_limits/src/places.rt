@@ -16,10 +16,11 @@ fn names_node(activities: u8, sizes: [u8; 32], a: u8, n: u8) -> bool
     if a >= 32 {
         return false;
     }
-    n < sizes[a as usize]
+    n < sizes[usize::from(a)]
 }
 
 // A place that is held names a node of the plan, and its times are at most 10^15.
+#[tactic(auto, unfolding(crate::specs::Window::entry_in_limits))]
 pub fn entry_in_limits(activities: u8, sizes: [u8; 32], e: Entry) -> bool
     ensures { result ≡ entry_in_limits activities sizes e }
 {
@@ -42,13 +43,7 @@ pub fn entry_in_limits(activities: u8, sizes: [u8; 32], e: Entry) -> bool
 pub fn window_in_limits(activities: u8, sizes: [u8; 32], window: [Entry; WINDOW]) -> bool
     ensures { result ≡ window_in_limits activities sizes window }
 {
-    let mut i: usize = 0;
-    while i < WINDOW {
-        let e = window[i];
-        if !entry_in_limits(activities, sizes, e) {
-            return false;
-        }
-        i += 1;
-    }
-    true
+    window
+        .iter()
+        .all(|&e| entry_in_limits(activities, sizes, e))
 }

@@ -11,16 +11,7 @@ fn times_in_limits(count: u8, times: [Specified; 16]) -> bool
     requires { count ≤ 16 }
     ensures { result ≡ times_in_limits count times }
 {
-    let mut left = count as usize;
-    while left > 0 {
-        let i = left - 1;
-        let t = times[i];
-        if t.0 > HORIZON {
-            return false;
-        }
-        left = i;
-    }
-    true
+    times[..usize::from(count)].iter().all(|t| t.0 <= HORIZON)
 }
 
 // A reported outcome is one of the event's outcomes.
@@ -34,6 +25,7 @@ fn told_names(outcomes: u8, told: Told) -> bool
 }
 
 // A pending instance of an event that has so many outcomes.
+#[tactic(auto, unfolding(crate::specs::Progress::instance_in_limits))]
 fn instance_in_limits(outcomes: u8, x: Instance) -> bool
     ensures { result ≡ instance_in_limits outcomes x }
 {
@@ -51,10 +43,11 @@ fn instance_in_limits(outcomes: u8, x: Instance) -> bool
 }
 
 // Place i of a queue of `size` instances: an instance, or spare room.
+#[tactic(auto, unfolding(crate::specs::Progress::place_in_limits))]
 fn place_in_limits(outcomes: u8, size: u8, i: usize, x: Instance) -> bool
     ensures { result ≡ place_in_limits outcomes size i x }
 {
-    if (size as usize) <= i {
+    if usize::from(size) <= i {
         return true;
     }
     instance_in_limits(outcomes, x)
@@ -70,21 +63,19 @@ fn pending_in_limits(
     requires { events ≤ 16 }
     ensures { result ≡ pending_in_limits events outcomes lengths pending }
 {
-    let mut left = 8 * (events as usize);
-    while left > 0 {
-        let i = left - 1;
+    for i in 0..8 * usize::from(events) {
         let most = outcomes[i / 8];
         let size = lengths[i / 8];
         let x = pending[i];
         if !place_in_limits(most, size, i % 8, x) {
             return false;
         }
-        left = i;
     }
     true
 }
 
 // Where a behaviour stands, of a plan with so many resources, events and states.
+#[tactic(auto, unfolding(crate::specs::Progress::progress_fits))]
 fn progress_fits(
     resources: u8,
     events: u8,

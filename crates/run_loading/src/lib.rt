@@ -6,7 +6,7 @@ ghost use Rattle.std.specs.Prelude.{◌≡◌, replicate};
 ghost use Rattle.automaton.specs.Next.{next_of};
 ghost use Rattle.run_window.specs.Window.{vacant};
 ghost use Rattle.run_loading.specs.Loading.{loading, load, further, most_pending};
-ghost use Rattle.run_loading.specs.Inner.Loading.{Loads, failure_by, has_failed};
+ghost use Rattle.run_loading.specs.Inner.Loading.{Loads, failure_by};
 
 use automaton::{Next, next_of};
 use plan::Plan;
@@ -15,47 +15,37 @@ use run_path::path;
 use run_window::{Entry, WINDOW, is_free, vacancies, vacant};
 use times::Progress;
 
-// Whether loading failed.
+// Why loading failed.
 #[derive(Clone, Copy)]
 pub enum Failure {
-    None,
     Full,
     Beyond,
 }
 
-// Where the behaviour stands and what the window holds after loading; after a failure, as before the failing path.
+// Where the behaviour stands and what the window holds after loading; after a failure, as before the failing path, so both stand
+// beside it: `further` gives them then too.
 #[derive(Clone, Copy)]
 pub struct Loading {
-    pub failure: Failure,
+    pub failure: Option<Failure>,
     pub progress: Progress,
     pub window: [Entry; WINDOW],
 }
 
 // "44 ..; then 43 the window would pass 512": how loading a path with so many entries ends where so many places are free.
-fn failure_of(beyond: bool, count: usize, free: usize) -> Failure
+fn failure_of(beyond: bool, count: usize, free: usize) -> Option<Failure>
     ensures { result ≡ failure_by beyond count free }
 {
     if beyond {
-        return Failure::Beyond;
+        return Some(Failure::Beyond);
     }
     if free < count {
-        return Failure::Full;
+        return Some(Failure::Full);
     }
-    Failure::None
-}
-
-fn has_failed(failure: Failure) -> bool
-    ensures { result ≡ has_failed failure }
-{
-    match failure {
-        Failure::None => false,
-        Failure::Full => true,
-        Failure::Beyond => true,
-    }
+    None
 }
 
 // What loading answers.
-fn ended(failure: Failure, progress: Progress, window: [Entry; WINDOW]) -> Loading
+fn ended(failure: Option<Failure>, progress: Progress, window: [Entry; WINDOW]) -> Loading
     ensures { result ≡ loading failure progress window }
 {
     Loading {
@@ -74,14 +64,10 @@ pub fn first(plan: Plan, progress: Progress) -> Loading
     let next = next_of(automaton, automaton.initial);
     let found = path(plan, next, progress);
     let failure = failure_of(found.beyond, found.count, WINDOW);
-    if has_failed(failure) {
-        let free = vacant();
-        let window = [free; WINDOW];
-        return ended(failure, progress, window);
+    if failure.is_some() {
+        return ended(failure, progress, [vacant(); WINDOW]);
     }
-    let after = found.progress;
-    let window = found.entries;
-    ended(failure, after, window)
+    ended(failure, found.progress, found.entries)
 }
 
 // The next paths, each of which processes a reported instance: at most 128 are pending. "the failing path adds nothing". The
@@ -91,33 +77,27 @@ pub fn further(plan: Plan, mut progress: Progress, mut window: [Entry; WINDOW]) 
     ensures { result ≡ further plan most_pending progress window }
 {
     let automaton = plan.automaton;
-    let mut left: usize = 128;
-    while 0 < left {
+    for _ in 0..128usize {
         let way = way_on(automaton, progress);
         let Next::Goes(_) = way else {
-            return ended(Failure::None, progress, window);
+            return ended(None, progress, window);
         };
         let found = path(plan, way, progress);
         let failure = failure_of(found.beyond, found.count, vacancies(window));
-        if has_failed(failure) {
+        if failure.is_some() {
             return ended(failure, progress, window);
         }
-        let mut at: usize = 0;
-        let mut next: usize = 0;
-        while next < found.count {
-            let w = window[at];
-            if is_free(w) {
-                let e = found.entries[next];
-                window[at] = e;
+        let mut next = 0;
+        for at in 0..WINDOW {
+            if next == found.count {
+                break;
+            }
+            if is_free(window[at]) {
+                window[at] = found.entries[next];
                 next += 1;
-                at += 1;
-            } else {
-                at += 1;
             }
         }
-        let after = found.progress;
-        progress = after;
-        left -= 1;
+        progress = found.progress;
     }
-    ended(Failure::None, progress, window)
+    ended(None, progress, window)
 }

@@ -1,36 +1,17 @@
 -- One turn of each search at an opening: for an availability above 10^15, for an action or event that is too short, and for
 -- the lowest activity that has one.
+use Rattle.std.specs.Prelude.{Some, None}
 use mathlib.Core.Path.{◌≡◌, ap, ◌∙◌}
 use mathlib.Core.Bool.{true, false}
 use mathlib.Core.List.{List}
 use Prim.Native.Nat.{ℕ, suc, ◌+◌, ◌-◌, ◌<◌, ◌≤◌}
-use native.Mathlib.Numerals.{add-one}
 use native.Mathlib.Omega.{arith}
-use lib.Dec.{ltb}
-use lib.ListN.{length, get_or, drop, drop_of_length-le}
-use lib.Seq.{drop-cons}
+use lib.ListN.{get_or}
 use Rattle.basis.specs.Parts.{part}
-use Rattle.time.specs.Time.{horizon}
 use Rattle.plan.specs.Plan.{past_node, activity_of}
 use Rattle.plan.specs.declared.Node.{Node}
 use Rattle.plan.specs.declared.Plan.{Plan}
-use Rattle.run_opening.specs.declared.Short.{Short}
-use Rattle.run_opening.specs.Given.{any_above}
 use Rattle.run_opening.specs.Short.{is_short, any_short, short_from}
-
--- availability i of those given
-module _ (ts : List ℕ) (i : ℕ) where
-  pub above_here : i < length ts → ltb horizon (get_or ts i 0) ≡ true → any_above (drop i ts) ≡ true
-  unfolding any_above
-  above_here l h = rw (drop-cons ts i 0 l, h)
-
-  pub above_past : i < length ts → ltb horizon (get_or ts i 0) ≡ false → any_above (drop i ts) ≡ any_above (drop (i + 1) ts)
-  unfolding any_above
-  above_past l h = rw (add-one, drop-cons ts i 0 l, h)
-
-  pub above_none : length ts ≤ i → any_above (drop i ts) ≡ false
-  unfolding any_above
-  above_none h = rw (drop_of_length-le ts h)
 
 -- node n of an activity of `size` nodes, the first of which is node `first` of all
 module _ (slack first size n : ℕ) (ns : List Node) where
@@ -58,7 +39,7 @@ short_starts slack first size ns =
 
 -- activity a of `end` activities
 module _ (p : Plan) (slack end a : ℕ) where
-  pub low_here : a < end → any_short slack (activity_of p a) ≡ true → short_from p slack a (end - a) ≡ Short.Activity a
+  pub low_here : a < end → any_short slack (activity_of p a) ≡ true → short_from p slack a (end - a) ≡ Some a
   unfolding short_from
   low_here l h = let e : end - a ≡ suc (end - (a + 1)) = omega arith in rw (e, h)
 
@@ -66,7 +47,7 @@ module _ (p : Plan) (slack end a : ℕ) where
   unfolding short_from
   low_past l h = let e : end - a ≡ suc (end - (a + 1)) = omega arith in rw (e, h)
 
-  pub low_none : end ≤ a → short_from p slack a (end - a) ≡ Short.Nothing
+  pub low_none : end ≤ a → short_from p slack a (end - a) ≡ None
   unfolding short_from
   low_none l = let e : end - a ≡ 0 = omega arith in rw e
 

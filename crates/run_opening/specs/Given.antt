@@ -1,5 +1,6 @@
 -- "An opening gives .. one availability, in specified time, for each resource.": where the behaviour stands at first.
-use Rattle.std.specs.Prelude.{Bool, false, ◌||◌, List, [], ◌∷◌, ◌++◌, map, ℕ, ◌-◌, ltb, length, replicate}
+use Rattle.std.specs.Prelude.{Bool, List, ◌++◌, map, ℕ, ◌-◌, ltb, length, replicate}
+use Rattle.std.specs.List.{list_any}
 use Rattle.time.specs.Time.{horizon}
 use Rattle.time.specs.declared.Specified.{Specified}
 use Rattle.times.specs.declared.Progress.{Progress}
@@ -23,5 +24,4 @@ availabilities ts = map specified ts ++ replicate (16 - length ts) (specified 0)
 
 -- 31: some availability is above 10^15
 unfoldable pub any_above : List ℕ → Bool
-any_above [] = false
-any_above (t ∷ ts) = ltb horizon t || any_above ts
+any_above ts = list_any (λ t. ltb horizon t) ts

@@ -6,32 +6,18 @@ ghost use Rattle.plan.specs.Limits.{InLimits};
 ghost use Rattle.run_opening.specs.Given.{at_first, availabilities, any_above};
 ghost use Rattle.run_opening.specs.Short.{is_short, short_from};
 
-use basis::u8_to_usize;
 use plan::{Node, Plan};
 use time::{HORIZON, Specified};
 use times::{Instance, Progress, Told};
 
-// The lowest activity with an action or event whose duration is not above the slack.
-#[derive(Clone, Copy)]
-pub enum Short {
-    Nothing,
-    Activity(usize),
-}
-
 // ---- 31
 
 // Some availability is above 10^15.
+#[tactic(auto, unfolding(crate::specs::Given::any_above))]
 pub fn any_above(ts: &[u64]) -> bool
     ensures { result ≡ any_above ts.now }
 {
-    let mut i: usize = 0;
-    while i < ts.len() {
-        if ts[i] > HORIZON {
-            return true;
-        }
-        i += 1;
-    }
-    false
+    ts.iter().any(|&t| t > HORIZON)
 }
 
 // ---- 33
@@ -40,33 +26,22 @@ pub fn any_above(ts: &[u64]) -> bool
 fn is_short(slack: u64, n: Node) -> bool
     ensures { result ≡ is_short slack n }
 {
-    let kind = n.kind;
-    if run_path::is_work(kind) {
-        return (n.duration as u64) <= slack;
-    }
-    false
+    run_path::is_work(n.kind) && u64::from(n.duration) <= slack
 }
 
-// "the lowest such activity"
-pub fn short_from(plan: Plan, slack: u64) -> Short
+// "the lowest such activity", if there is one
+pub fn short_from(plan: Plan, slack: u64) -> Option<usize>
     requires { InLimits plan }
     ensures { result ≡ short_from plan slack 0 plan.activities }
 {
-    let activities = u8_to_usize(plan.activities);
-    let mut a: usize = 0;
-    while a < activities {
-        let size = u8_to_usize(plan.sizes[a]);
-        let mut n: usize = 0;
-        while n < size {
-            let x = plan.nodes[64 * a + n];
-            if is_short(slack, x) {
-                return Short::Activity(a);
+    for a in 0..usize::from(plan.activities) {
+        for n in 0..usize::from(plan.sizes[a]) {
+            if is_short(slack, plan.nodes[64 * a + n]) {
+                return Some(a);
             }
-            n += 1;
         }
-        a += 1;
     }
-    Short::Nothing
+    None
 }
 
 // ---- where the behaviour stands at first
@@ -77,10 +52,8 @@ pub fn given(ts: &[u64]) -> [Specified; 16]
     ensures { result ≡ availabilities ts.now }
 {
     let mut available = [Specified(0); 16];
-    let mut i: usize = 0;
-    while i < ts.len() {
-        available[i] = Specified(ts[i]);
-        i += 1;
+    for (i, &t) in ts.iter().enumerate() {
+        available[i] = Specified(t);
     }
     available
 }

@@ -1,9 +1,8 @@
 -- "further ones while their outcomes are already reported": the way on from a waiting state.
-use Rattle.std.specs.Prelude.{◌≡◌, ℕ, ◌≤◌, ◌<◌}
+use Rattle.std.specs.Prelude.{◌≡◌, ℕ, ◌≤◌, ◌<◌, Option, None, Some}
 use Rattle.plan.specs.declared.Automaton.{Automaton}
 use Rattle.automaton.specs.Next.{next_of, chosen_of}
 use Rattle.automaton.specs.declared.Next.{Next}
-use Rattle.automaton.specs.declared.Chosen.{Chosen}
 use Rattle.times.specs.declared.Told.{Told}
 use Rattle.times.specs.declared.Progress.{Progress}
 use Rattle.run_outcomes.specs.Told.{oldest_told}
@@ -12,12 +11,12 @@ abbrev pub on_told : {A : Type 0} → Told → (ℕ → A) → A → A
 on_told Told.Nothing f z = z
 on_told (Told.Outcome o) f z = f o
 
-abbrev pub on_chosen : {A : Type 0} → Chosen → (ℕ → A) → A → A
-on_chosen Chosen.Nothing f z = z
-on_chosen (Chosen.Move t) f z = f t
+abbrev pub on_chosen : {A : Type 0} → Option ℕ → (ℕ → A) → A → A
+on_chosen None f z = z
+on_chosen (Some t) f z = f t
 
 -- the transition of an outcome of event e, if the state has one
-abbrev pub by_choice : Chosen → ℕ → Next
+abbrev pub by_choice : Option ℕ → ℕ → Next
 by_choice c e = on_chosen c Next.Goes (Next.Waits e)
 
 -- by what was reported of the oldest instance of event e

@@ -7,7 +7,7 @@ ghost use Rattle.times.specs.Queues.{pending_of};
 ghost use Rattle.run_outcomes.specs.Told.{tell, is_instance, told_from, told_of, oldest_told};
 ghost use Rattle.run_outcomes.specs.Way.{Awaits, by_choice, by_told, way_on};
 
-use automaton::{Chosen, Next, chosen_of, next_of};
+use automaton::{Next, chosen_of, next_of};
 use plan::Automaton;
 use run_window::Entry;
 use times::{Instance, Progress, Told};
@@ -18,12 +18,9 @@ use times::{Instance, Progress, Told};
 fn tell(x: Instance, o: u8) -> Instance
     ensures { result ≡ tell x o }
 {
-    let end = x.end;
     Instance {
-        position: x.position,
-        node: x.node,
-        end,
         told: Told::Outcome(o),
+        ..x
     }
 }
 
@@ -31,15 +28,12 @@ fn tell(x: Instance, o: u8) -> Instance
 fn is_instance(x: Instance, position: u32, node: u8) -> bool
     ensures { result ≡ is_instance position node x }
 {
-    if x.position == position {
-        return x.node == node;
-    }
-    false
+    x.position == position && x.node == node
 }
 
 // The outcome o of the instance (position, node), among the `count` pending ones from place `from` on.
 fn told_from(
-    pending: [Instance; 128],
+    mut pending: [Instance; 128],
     from: usize,
     count: u8,
     position: u32,
@@ -49,16 +43,12 @@ fn told_from(
     requires { from + count ≤ 128 }
     ensures { result ≡ told_from position node o from count pending }
 {
-    let end = from + count as usize;
-    let mut i = from;
-    while i < end {
+    for i in from..from + usize::from(count) {
         let x = pending[i];
         if is_instance(x, position, node) {
-            let mut next = pending;
-            next[i] = tell(x, o);
-            return next;
+            pending[i] = tell(x, o);
+            return pending;
         }
-        i += 1;
     }
     pending
 }
@@ -68,13 +58,11 @@ pub fn told_of(g: Progress, e: u8, x: Entry, o: u8) -> Progress
     requires { (e < 16) × (pending_of g e ≤ 8) }
     ensures { result ≡ told_of g e x o }
 {
-    let i = e as usize;
-    let pending = g.pending;
-    let count = g.lengths[i];
-    let told = told_from(pending, 8 * i, count, x.position, x.node, o);
-    let mut next = g;
-    next.pending = told;
-    next
+    let i = usize::from(e);
+    Progress {
+        pending: told_from(g.pending, 8 * i, g.lengths[i], x.position, x.node, o),
+        ..g
+    }
 }
 
 // What was reported of the oldest pending instance of event e.
@@ -82,7 +70,7 @@ fn oldest_told(g: Progress, e: u8) -> Told
     requires { e < 16 }
     ensures { result ≡ oldest_told g e }
 {
-    let i = e as usize;
+    let i = usize::from(e);
     if 0 < g.lengths[i] {
         let x = g.pending[8 * i];
         x.told
@@ -94,12 +82,12 @@ fn oldest_told(g: Progress, e: u8) -> Told
 // ---- the way on
 
 // The transition of an outcome of event e, if the state has one.
-fn by_choice(chosen: Chosen, e: u8) -> Next
+fn by_choice(chosen: Option<u16>, e: u8) -> Next
     ensures { result ≡ by_choice chosen e }
 {
     match chosen {
-        Chosen::Nothing => Next::Waits(e),
-        Chosen::Move(t) => Next::Goes(t),
+        None => Next::Waits(e),
+        Some(t) => Next::Goes(t),
     }
 }
 

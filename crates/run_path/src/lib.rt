@@ -5,19 +5,18 @@ ghost use Rattle.std.specs.Prelude.{◌≡◌, ◌≤◌};
 ghost use Rattle.plan.specs.Limits.{InLimits, OutputNames};
 ghost use Rattle.run_path.specs.Path.{is_work, activity_number, path_from, longest_path};
 ghost use Rattle.run_path.specs.Pathed.{ProgressIn, Leads, pathed};
-ghost use Rattle.activity.specs.Inner.Copied.{empty_node};
 ghost use Rattle.run_path.specs.Inner.Path.{emitted_of, emitted_count, entry_of, counted_of, is_kept};
 
 use activity::activity_of;
 use automaton::{Next, next_of};
-use basis::{u8_to_usize, u16_to_usize};
 use plan::{Activity, Kind, Node, Output, Plan};
 use run_window::{Entry, Phase, WINDOW, vacant};
 use time::Specified;
 use times::Progress;
 use times::engine::advance;
 
-// A path: its entries, all counted and the first 512 kept, and where it ends.
+// A path: its entries, all counted and the first 512 kept, and where it ends; fixed memory. The flag stands beside them, since
+// `path_from` gives the entries before the limit too.
 #[derive(Clone, Copy)]
 pub struct Pathed {
     // it passes a limit of time or position (number 44)
@@ -49,35 +48,17 @@ pub fn activity_number(output: Output) -> u8
     }
 }
 
-// A node of zeros, for spare room.
-fn empty_node() -> Node
-    ensures { result ≡ empty_node }
-{
-    Node {
-        kind: Kind::Action(0, 0),
-        duration: 0,
-        count: 0,
-        preds: [0u8; 8],
-    }
-}
-
 // The activity that a transition emits.
 pub fn emitted(plan: Plan, output: Output) -> Activity
     requires { InLimits plan × OutputNames plan output }
     ensures { result ≡ emitted_of plan output }
 {
     match output {
-        Output::Empty => {
-            let empty = empty_node();
-            let nodes = [empty; 64];
-            return Activity {
-                count: 0,
-                nodes: nodes,
-            };
-        }
-        Output::Activity(a) => {
-            return activity_of(plan, a);
-        }
+        Output::Empty => Activity {
+            count: 0,
+            nodes: [Node::ZERO; 64],
+        },
+        Output::Activity(a) => activity_of(plan, a),
     }
 }
 
@@ -97,11 +78,11 @@ pub fn entry_of(position: u32, number: u8, node: u8, start: Specified, end: Spec
 {
     Entry {
         phase: Phase::Loaded,
-        position: position,
+        position,
         activity: number,
-        node: node,
-        start: start,
-        end: end,
+        node,
+        start,
+        end,
     }
 }
 
@@ -110,22 +91,14 @@ fn counted(count: usize, x: Node) -> usize
     requires { count ≤ 4_096 }
     ensures { result ≡ counted_of count x }
 {
-    let kind = x.kind;
-    if is_work(kind) {
-        return count + 1;
-    }
-    count
+    count + usize::from(is_work(x.kind))
 }
 
 // "at most 512": whether a node has an entry, and that entry a place.
 fn is_kept(place: usize, x: Node) -> bool
     ensures { result ≡ is_kept place x }
 {
-    let kind = x.kind;
-    if is_work(kind) {
-        return place < WINDOW;
-    }
-    false
+    is_work(x.kind) && place < WINDOW
 }
 
 // The path from what a state does next, up to a waiting or final state, which an accepted plan reaches within 64 transitions. Its
@@ -138,47 +111,39 @@ pub fn path(plan: Plan, mut next: Next, progress: Progress) -> Pathed
     ensures { result ≡ pathed (path_from plan longest_path next progress) }
 {
     let automaton = plan.automaton;
-    let free = vacant();
     let mut found = Pathed {
         beyond: false,
-        entries: [free; WINDOW],
+        entries: [vacant(); WINDOW],
         count: 0,
-        progress: progress,
+        progress,
     };
     for _ in 0..64usize {
         let Next::Goes(t) = next else {
             return found;
         };
-        let m = automaton.moves[u16_to_usize(t)];
-        let input = m.input;
-        let output = m.output;
-        let number = activity_number(output);
-        let a = u8_to_usize(number);
-        let count = emitted_count(output, plan.sizes[a]);
-        let size = u8_to_usize(count);
-        let mut nodes = [empty_node(); 64];
-        for n in 0..size {
-            nodes[n] = plan.nodes[64 * a + n];
+        let m = automaton.moves[usize::from(t)];
+        let a = activity_number(m.output);
+        let count = emitted_count(m.output, plan.sizes[usize::from(a)]);
+        let mut nodes = [Node::ZERO; 64];
+        for n in 0..usize::from(count) {
+            nodes[n] = plan.nodes[64 * usize::from(a) + n];
         }
-        let from = found.progress;
-        let advanced = advance(plan.resources, Activity { count, nodes }, input, m.to, from);
+        let g = found.progress;
+        let advanced = advance(plan.resources, Activity { count, nodes }, m.input, m.to, g);
         if advanced.beyond {
             found.beyond = true;
             return found;
         }
         let times = advanced.schedule;
-        for n in 0..size {
-            let x = nodes[n];
-            let place = found.count;
-            found.count = counted(place, x);
-            if is_kept(place, x) {
-                let e = entry_of(from.position, number, n as u8, times.start[n], times.end[n]);
-                found.entries[place] = e;
+        for n in 0..usize::from(count) {
+            let at = found.count;
+            found.count = counted(at, nodes[n]);
+            if is_kept(at, nodes[n]) {
+                found.entries[at] = entry_of(g.position, a, n as u8, times.start[n], times.end[n]);
             }
         }
-        let after = advanced.progress;
-        found.progress = after;
-        next = next_of(automaton, after.state);
+        found.progress = advanced.progress;
+        next = next_of(automaton, found.progress.state);
     }
     found
 }

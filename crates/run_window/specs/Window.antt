@@ -1,5 +1,5 @@
 -- The window: "loaded action and event nodes not yet reported complete, at most 512".
-use Rattle.std.specs.Prelude.{Bool, true, false, cond, ◌&&◌, List, [], ◌∷◌, ℕ, suc, ◌+◌, ◌*◌, ltb, leb, eqb, get_or}
+use Rattle.std.specs.Prelude.{Bool, true, false, cond, ◌&&◌, List, [], ◌∷◌, ℕ, suc, ◌+◌, ◌*◌, ltb, leb, eqb, get_or, Option, Some, None}
 use Rattle.plan.specs.Plan.{past_node}
 use Rattle.plan.specs.declared.Kind.{Kind}
 use Rattle.plan.specs.declared.Node.{Node}
@@ -107,18 +107,21 @@ by_start a b = before a.start.0 b.start.0 a b
 
 -- ---- the first of those that pass a test
 
-abbrev pub on_found : {A : Type 0} → Found → (ℕ → Entry → A) → A → A
-on_found Found.Nothing f z = z
-on_found (Found.At i e) f z = f i e
+abbrev pub found_at : ℕ → Entry → Option Found
+found_at i e = Some (record { place = i; entry = e })
+
+abbrev pub on_found : {A : Type 0} → Option Found → (ℕ → Entry → A) → A → A
+on_found None f z = z
+on_found (Some x) f z = f x.place x.entry
 
 -- entry e at place i, unless what was found behind it goes before it
-abbrev pub better : (Entry → Entry → Bool) → ℕ → Entry → Found → Found
-better sooner i e Found.Nothing = Found.At i e
-better sooner i e (Found.At j f) = cond (sooner f e) (Found.At j f) (Found.At i e)
+abbrev pub better : (Entry → Entry → Bool) → ℕ → Entry → Option Found → Option Found
+better sooner i e None = found_at i e
+better sooner i e (Some x) = cond (sooner x.entry e) (Some x) (found_at i e)
 
 -- of the places from i on whose entry passes the test, the first by `sooner`
-unfoldable pub first : (Entry → Bool) → (Entry → Entry → Bool) → ℕ → List Entry → Found
-first p sooner i [] = Found.Nothing
+unfoldable pub first : (Entry → Bool) → (Entry → Entry → Bool) → ℕ → List Entry → Option Found
+first p sooner i [] = None
 first p sooner i (e ∷ es) = cond (p e) (better sooner i e (first p sooner (suc i) es)) (first p sooner (suc i) es)
 
 -- no place is held

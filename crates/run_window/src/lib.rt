@@ -6,7 +6,6 @@ ghost use Rattle.time.specs.Time.{horizon};
 ghost use Rattle.run_window.specs.Window.{vacant, is_free, started_of, is_overdue, is_late, is_due, is_node, node_place};
 ghost use Rattle.run_window.specs.Inner.Times.{InTime};
 
-use basis::u8_to_usize;
 use time::{Clock, Specified};
 
 mod places; // the whole window
@@ -19,7 +18,7 @@ pub use places::{is_empty, place_of, vacancies};
 pub use search::look;
 
 // What a place of the window holds: nothing, a loaded node, or a started one.
-#[derive(Clone, Copy)]
+#[derive(Clone, Copy, PartialEq, Eq)]
 pub enum Phase {
     Free,
     Loaded,
@@ -37,25 +36,25 @@ pub struct Entry {
     pub phase: Phase,
 }
 
-// A place of the window and its entry, or none.
+// A place of the window and its entry.
 #[derive(Clone, Copy)]
-pub enum Found {
-    Nothing,
-    At(usize, Entry),
+pub struct Found {
+    pub place: usize,
+    pub entry: Entry,
 }
 
 // What a call finds in the window: the first that is overdue, the first that is late, and the first of what else is sought.
 #[derive(Clone, Copy)]
 pub struct Seen {
-    pub overdue: Found,
-    pub late: Found,
-    pub sought: Found,
+    pub overdue: Option<Found>,
+    pub late: Option<Found>,
+    pub sought: Option<Found>,
 }
 
 // The first of what is sought so far, and its rank.
 #[derive(Clone, Copy)]
 pub struct Ranked {
-    pub found: Found,
+    pub found: Option<Found>,
     pub rank: u64,
 }
 
@@ -99,27 +98,16 @@ pub fn vacant() -> Entry
 pub fn started(e: Entry) -> Entry
     ensures { result ≡ started_of e }
 {
-    let start = e.start;
-    let end = e.end;
     Entry {
         phase: Phase::Started,
-        position: e.position,
-        activity: e.activity,
-        node: e.node,
-        start: start,
-        end: end,
+        ..e
     }
 }
 
 pub fn is_free(e: Entry) -> bool
     ensures { result ≡ is_free e.phase }
 {
-    let phase = e.phase;
-    match phase {
-        Phase::Free => true,
-        Phase::Loaded => false,
-        Phase::Started => false, // it keeps its place until it is reported
-    }
+    e.phase == Phase::Free // a started node keeps its place until it is reported
 }
 
 // "the reading is at or past Ψ + completion of a started, unreported node"
@@ -127,15 +115,7 @@ pub fn is_overdue(psi: Clock, t: Clock, e: Entry) -> bool
     requires { (psi.0 ≤ horizon) × InTime e }
     ensures { result ≡ is_overdue psi t e }
 {
-    let phase = e.phase;
-    match phase {
-        Phase::Started => {
-            let end = time::to_clock(psi, e.end);
-            end.0 <= t.0
-        }
-        Phase::Loaded => false,
-        Phase::Free => false,
-    }
+    e.phase == Phase::Started && time::to_clock(psi, e.end).0 <= t.0
 }
 
 // "the reading exceeds Ψ + start + slack of an unstarted node"
@@ -143,15 +123,7 @@ pub fn is_late(psi: Clock, slack: u64, t: Clock, e: Entry) -> bool
     requires { (psi.0 ≤ horizon) × (slack ≤ horizon) × InTime e }
     ensures { result ≡ is_late psi slack t e }
 {
-    let phase = e.phase;
-    match phase {
-        Phase::Loaded => {
-            let start = time::to_clock(psi, e.start);
-            t.0 > start.0 + slack
-        }
-        Phase::Started => false,
-        Phase::Free => false,
-    }
+    e.phase == Phase::Loaded && t.0 > time::to_clock(psi, e.start).0 + slack
 }
 
 // "the due, unstarted node"
@@ -159,15 +131,7 @@ pub fn is_due(psi: Clock, t: Clock, e: Entry) -> bool
     requires { (psi.0 ≤ horizon) × InTime e }
     ensures { result ≡ is_due psi t e }
 {
-    let phase = e.phase;
-    match phase {
-        Phase::Loaded => {
-            let start = time::to_clock(psi, e.start);
-            start.0 <= t.0
-        }
-        Phase::Started => false,
-        Phase::Free => false,
-    }
+    e.phase == Phase::Loaded && time::to_clock(psi, e.start).0 <= t.0
 }
 
 // "A node's identity is its position and its node number."
@@ -177,15 +141,12 @@ pub fn is_node(position: u32, node: u8, e: Entry) -> bool
     if is_free(e) {
         return false;
     }
-    if e.position == position {
-        return e.node == node;
-    }
-    false
+    e.position == position && e.node == node
 }
 
 // Where its node stands among the nodes of the plan.
 pub fn node_place(e: Entry) -> usize
     ensures { result ≡ node_place e }
 {
-    64 * u8_to_usize(e.activity) + u8_to_usize(e.node)
+    64 * usize::from(e.activity) + usize::from(e.node)
 }

@@ -17,13 +17,7 @@ use time::Clock;
 fn before(x: u64, y: u64, a: Entry, b: Entry) -> bool
     ensures { result ≡ before x y a b }
 {
-    if x == y {
-        if a.position == b.position {
-            return a.node < b.node;
-        }
-        return a.position < b.position;
-    }
-    x < y
+    (x, a.position, a.node) < (y, b.position, b.node)
 }
 
 // "by peripheral number, events after all actions"
@@ -31,7 +25,7 @@ pub fn rank(kind: Kind) -> u64
     ensures { result ≡ rank kind }
 {
     match kind {
-        Kind::Action(_, p) => p as u64,
+        Kind::Action(_, p) => u64::from(p),
         Kind::Claim(_) => 64,
         Kind::Release(_) => 64,
         Kind::Event(_) => 64,
@@ -42,10 +36,7 @@ pub fn rank(kind: Kind) -> u64
 fn served(x: u64, y: u64, a: Entry, b: Entry) -> bool
     ensures { result ≡ served x y a b }
 {
-    if a.start.0 == b.start.0 {
-        return before(x, y, a, b);
-    }
-    a.start.0 < b.start.0
+    (a.start.0, x, a.position, a.node) < (b.start.0, y, b.position, b.node)
 }
 
 // "the earliest completion" of those that are overdue, the first served of those that are late or due.
@@ -76,21 +67,14 @@ fn is_sought(sought: Sought, e: Entry) -> bool
 fn better(sought: Sought, i: usize, e: Entry, r: u64, rest: Ranked) -> Ranked
     ensures { result ≡ better_by sought i e r rest }
 {
-    let found = rest.found;
-    match found {
-        Found::Nothing => Ranked {
-            found: Found::At(i, e),
-            rank: r,
-        },
-        Found::At(_, f) => {
-            if goes_before(sought, rest.rank, r, f, e) {
-                return rest;
-            }
-            Ranked {
-                found: Found::At(i, e),
-                rank: r,
-            }
+    if let Some(behind) = rest.found {
+        if goes_before(sought, rest.rank, r, behind.entry, e) {
+            return rest;
         }
+    }
+    Ranked {
+        found: Some(Found { place: i, entry: e }),
+        rank: r,
     }
 }
 
@@ -110,26 +94,17 @@ pub fn is_noticed(psi: Clock, slack: u64, t: Clock, sought: Sought, e: Entry) ->
     requires { (psi.0 ≤ horizon) × (slack ≤ horizon) × SoughtInTime sought × InTime e }
     ensures { result ≡ is_noticed psi slack t sought e }
 {
-    if is_overdue(psi, t, e) {
-        return true;
-    }
-    if is_late(psi, slack, t, e) {
-        return true;
-    }
-    is_sought(sought, e)
+    is_overdue(psi, t, e) || is_late(psi, slack, t, e) || is_sought(sought, e)
 }
 
 // What was found, without the ranks.
 pub fn seen(overdue: Ranked, late: Ranked, best: Ranked) -> Seen
     ensures { result ≡ seen_by overdue late best }
 {
-    let first_overdue = overdue.found;
-    let first_late = late.found;
-    let sought = best.found;
     Seen {
-        overdue: first_overdue,
-        late: first_late,
-        sought,
+        overdue: overdue.found,
+        late: late.found,
+        sought: best.found,
     }
 }
 
@@ -138,15 +113,9 @@ fn ties(sought: Sought, e: Entry, rest: Ranked) -> bool
     requires { SoughtInTime sought × InTime e }
     ensures { result ≡ is_tied sought e rest }
 {
-    let found = rest.found;
-    match found {
-        Found::Nothing => false,
-        Found::At(_, f) => {
-            if f.start.0 == e.start.0 {
-                return is_sought(sought, e);
-            }
-            false
-        }
+    match rest.found {
+        Some(behind) if behind.entry.start.0 == e.start.0 => is_sought(sought, e),
+        _ => false,
     }
 }
 
@@ -163,10 +132,7 @@ pub fn ties_either(
     requires { (psi.0 ≤ horizon) × (slack ≤ horizon) × SoughtInTime sought × InTime e }
     ensures { result ≡ either_tied psi slack t sought e late best }
 {
-    if ties(Sought::Late(psi, slack, t), e, late) {
-        return true;
-    }
-    ties(sought, e, best)
+    ties(Sought::Late(psi, slack, t), e, late) || ties(sought, e, best)
 }
 
 // What a call finds, as long as no start ties.
@@ -175,15 +141,13 @@ fn scan(window: [Entry; WINDOW], psi: Clock, slack: u64, t: Clock, sought: Sough
     ensures { Scanned psi slack t sought window result }
 {
     let none = Ranked {
-        found: Found::Nothing,
+        found: None,
         rank: 0,
     };
     let mut overdue = none;
     let mut late = none;
     let mut best = none;
-    let mut i: usize = WINDOW;
-    while 0 < i {
-        i -= 1;
+    for i in (0..WINDOW).rev() {
         let e = window[i];
         if !is_noticed(psi, slack, t, sought, e) {
             continue;
@@ -211,15 +175,13 @@ fn look_by_rank(
     ensures { result ≡ seen_of nodes psi slack t sought window }
 {
     let none = Ranked {
-        found: Found::Nothing,
+        found: None,
         rank: 0,
     };
     let mut overdue = none;
     let mut late = none;
     let mut best = none;
-    let mut i: usize = WINDOW;
-    while 0 < i {
-        i -= 1;
+    for i in (0..WINDOW).rev() {
         let e = window[i];
         if !is_noticed(psi, slack, t, sought, e) {
             continue;

@@ -10,7 +10,7 @@ pub mod starts; // the nodes of one activity
 // The largest position that a path may have.
 pub const LAST_POSITION: u32 = 1_000_000_000;
 
-// What was reported of an emitted instance of an event.
+// What was reported of an emitted instance of an event. No Option: the C interface lists these two cases by name (host/layout.txt).
 #[derive(Clone, Copy)]
 pub enum Told {
     Nothing,
@@ -26,7 +26,7 @@ pub struct Instance {
     pub told: Told,
 }
 
-// Where a behaviour stands after some transitions.
+// Where a behaviour stands after some transitions. Arrays with their lengths beside: the engine has fixed memory (document 01).
 #[derive(Clone, Copy)]
 pub struct Progress {
     // of each resource
@@ -42,7 +42,7 @@ pub struct Progress {
     pub state: u8,
 }
 
-// The times of the nodes of one activity, by number.
+// The times of the nodes of one activity, by number, and how many are done: fixed memory.
 #[derive(Clone, Copy)]
 pub struct Schedule {
     pub start: [Specified; 64],
@@ -53,7 +53,8 @@ pub struct Schedule {
     pub count: u8,
 }
 
-// One transition: the times of its nodes and where the behaviour stands after it.
+// One transition: the times of its nodes and where the behaviour stands after it. The flag stands beside them, since `advance_of`
+// gives them past a limit too, and theorems name them there (`next_position` and `end_on` of demands_run/Laws/Taken).
 #[derive(Clone, Copy)]
 pub struct Advanced {
     // a completion or an availability above 10^15, or a position above 1,000,000,000 (number 44)

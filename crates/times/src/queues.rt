@@ -5,7 +5,6 @@ ghost use Rattle.times.specs.Queues.{processed_of, floor_of};
 ghost use Rattle.times.specs.Limits.{InputFits};
 
 use super::{Instance, Progress, Told};
-use basis::u8_to_usize;
 use plan::Input;
 use time::Specified;
 
@@ -17,7 +16,7 @@ pub fn floor(input: Input, g: Progress) -> Specified
     match input {
         Input::Nothing => Specified(0),
         Input::Outcome(e, _) => {
-            let i = u8_to_usize(e);
+            let i = usize::from(e);
             if 0 < g.lengths[i] {
                 let x = g.pending[8 * i];
                 x.end
@@ -36,7 +35,7 @@ pub fn processed(input: Input, g: Progress) -> Progress
     let Input::Outcome(e, _) = input else {
         return g;
     };
-    let i = u8_to_usize(e);
+    let i = usize::from(e);
     let n = g.lengths[i];
     if n == 0 {
         return g;
@@ -44,11 +43,8 @@ pub fn processed(input: Input, g: Progress) -> Progress
     let mut h = g;
     h.lengths[i] = n - 1;
     let last = 8 * i + 7;
-    let mut j = 8 * i;
-    while j < last {
-        let x = h.pending[j + 1];
-        h.pending[j] = x;
-        j += 1;
+    for j in 8 * i..last {
+        h.pending[j] = h.pending[j + 1];
     }
     h.pending[last] = Instance {
         position: 0,

@@ -17,7 +17,7 @@ pub fn put_header(out: &mut [u8], at: usize) -> usize
     requires { at < 130000 }
     ensures { Puts out.old at header out.new result }
 {
-    wire::puts::put_list(out, at, b"position activity node start end\n", 33)
+    wire::puts::put_bytes(out, at, b"position activity node start end\n")
 }
 
 // An action or event node with its times.
@@ -25,9 +25,9 @@ pub fn put_row(out: &mut [u8], at: usize, e: Entry) -> usize
     requires { at < 130000 }
     ensures { Puts out.old at (row e) out.new result }
 {
-    let a = timetable_text::put_decimal(out, at, e.position as u64);
-    let b = timetable_text::put_after_space(out, a, e.activity as u64);
-    let c = timetable_text::put_after_space(out, b, e.node as u64);
+    let a = timetable_text::put_decimal(out, at, u64::from(e.position));
+    let b = timetable_text::put_after_space(out, a, u64::from(e.activity));
+    let c = timetable_text::put_after_space(out, b, u64::from(e.node));
     let d = timetable_text::put_after_space(out, c, e.start.0);
     let f = timetable_text::put_after_space(out, d, e.end.0);
     timetable_text::put_newline(out, f)
@@ -39,12 +39,9 @@ fn put_times(out: &mut [u8], at: usize, times: [Specified; 16], count: u8) -> us
     ensures { Puts out.old at (spaced (part (specified 0) times 0 count)) out.new result }
 {
     let mut off = at;
-    let mut i: usize = 0;
-    let n = count as usize;
-    while i < n {
+    for i in 0..usize::from(count) {
         let t = times[i];
         off = timetable_text::put_after_space(out, off, t.0);
-        i += 1;
     }
     timetable_text::put_newline(out, off)
 }
@@ -55,7 +52,7 @@ pub fn put_free(out: &mut [u8], at: usize, resources: u8, progress: Progress) ->
     ensures { Puts out.old at (free_of resources progress) out.new result }
 {
     let available = progress.available;
-    let next = wire::puts::put_list(out, at, b"free", 4);
+    let next = wire::puts::put_bytes(out, at, b"free");
     put_times(out, next, available, resources)
 }
 
@@ -65,8 +62,8 @@ pub fn put_ended(out: &mut [u8], at: usize, resources: u8, progress: Progress) -
     ensures { Puts out.old at (ended_of resources progress) out.new result }
 {
     let a = put_free(out, at, resources, progress);
-    let b = wire::puts::put_list(out, a, b"end", 3);
-    let c = timetable_text::put_after_space(out, b, progress.state as u64);
+    let b = wire::puts::put_bytes(out, a, b"end");
+    let c = timetable_text::put_after_space(out, b, u64::from(progress.state));
     timetable_text::put_newline(out, c)
 }
 
@@ -76,9 +73,9 @@ pub fn put_waiting(out: &mut [u8], at: usize, resources: u8, progress: Progress,
     ensures { Puts out.old at (waiting_of resources progress e) out.new result }
 {
     let a = put_free(out, at, resources, progress);
-    let b = wire::puts::put_list(out, a, b"waits", 5);
-    let c = timetable_text::put_after_space(out, b, progress.state as u64);
-    let d = timetable_text::put_after_space(out, c, e as u64);
+    let b = wire::puts::put_bytes(out, a, b"waits");
+    let c = timetable_text::put_after_space(out, b, u64::from(progress.state));
+    let d = timetable_text::put_after_space(out, c, u64::from(e));
     timetable_text::put_newline(out, d)
 }
 
@@ -87,8 +84,8 @@ pub fn put_refused(out: &mut [u8], at: usize, number: u8, place: u64) -> usize
     requires { at < 130000 }
     ensures { Puts out.old at (refused number place) out.new result }
 {
-    let a = wire::puts::put_list(out, at, b"refused", 7);
-    let b = timetable_text::put_after_space(out, a, number as u64);
+    let a = wire::puts::put_bytes(out, at, b"refused");
+    let b = timetable_text::put_after_space(out, a, u64::from(number));
     let c = timetable_text::put_after_space(out, b, place);
     timetable_text::put_newline(out, c)
 }

@@ -1,5 +1,5 @@
 -- Several turns: their texts in a row, and the turns that are left.
-use Rattle.std.specs.Prelude.{◌≡◌, refl, Bool, true, false, cond, Option, List, [], ◌++◌, ℕ, suc, ◌-◌, ◌≤◌, ◌<◌, length, take}
+use Rattle.std.specs.Prelude.{◌≡◌, refl, Bool, true, false, cond, Option, List, [], ◌++◌, ℕ, suc, ◌-◌, ◌≤◌, ◌<◌, length, take, None, Result}
 use Rattle.std.specs.Io.KnownBytes.{Appends, Consumes}
 use Rattle.std.proofs.Common.{sym, ap, ◌∙◌, subst, arith, append-nil, append_assoc}
 use Rattle.std.proofs.KnownBytes.{Appends-nil, Consumes-nil, Consumes-trans}
@@ -12,10 +12,9 @@ use Rattle.timetable_turns.specs.Inner.Turn.{turn_of, turns_from, waits_of, read
 use Rattle.timetable_turns.specs.Timetable.{text_of_plan}
 use Rattle.timetable_turns.proofs.Laws.ByTurns.{plan_by_turns}
 use Rattle.timetable_turns.proofs.Laws.Hearing.{nothing_closes}
+use Rattle.timetable_text.specs.declared.NotPut.{NotPut}
 use Rattle.timetable_text.specs.Lent.{Lends, past_of}
 use Rattle.timetable_text.proofs.Laws.Lent.{lent_puts, put_front}
-use Rattle.timetable_text.specs.declared.Put.{Put}
-use Rattle.timetable_steps.specs.declared.Heard.{Heard}
 use Rattle.timetable_streams.specs.declared.Output.{Output}
 use Rattle.timetable_streams.specs.Inner.Asking.{heard_bytes}
 use Rattle.timetable_streams.specs.Inner.Gathering.{output, Gathers, HandsOn, HandsTo, Rests}
@@ -46,7 +45,7 @@ prints_same p b out input written = record {
 }
 
 -- one turn, handed a byte only where the state waits for one
-module _ (p : Plan) (b : Between) (heard : Heard) (before after : List ℕ) (input rest written writes : Option (List ℕ)) (r : Between) (more : 0 < b.left) (asked : waits_of p b.progress ≡ false → heard ≡ Heard.Nothing) (took : Consumes input rest (heard_bytes heard)) (g : Goes p b heard before after written writes r) where
+module _ (p : Plan) (b : Between) (heard : Option ℕ) (before after : List ℕ) (input rest written writes : Option (List ℕ)) (r : Between) (more : 0 < b.left) (asked : waits_of p b.progress ≡ false → heard ≡ None) (took : Consumes input rest (heard_bytes heard)) (g : Goes p b heard before after written writes r) where
   rest-is : r.output.lost ≡ false → (os : List ℕ) → cond (turn_of p b.progress b.taken heard).closed [] (turns_from p (b.left - 1) (read_after (turn_of p b.progress b.taken heard) b.taken) os (turn_of p b.progress b.taken heard).progress) ≡ turns_from p r.left r.taken os r.progress
   unfolding turns_from
   rest-is k os = go (turn_of p b.progress b.taken heard).closed (g.left ∙ ap (λ (z : Bool). cond (turn_of p b.progress b.taken heard).closed 0 (cond z 0 (b.left - 1))) k)
@@ -59,9 +58,9 @@ module _ (p : Plan) (b : Between) (heard : Heard) (before after : List ℕ) (inp
           ∙ ap (λ (q : Progress). turns_from p r.left r.taken os q) (sym g.progress)
 
   -- where the input ended, the turn that asks closes the table
-  none_left : waits_of p b.progress ≡ true → heard ≡ Heard.Nothing → r.left ≡ 0
+  none_left : waits_of p b.progress ≡ true → heard ≡ None → r.left ≡ 0
   none_left w e =
-      g.left ∙ ap (λ (y : Bool). cond y 0 (cond r.output.lost 0 (b.left - 1))) (ap (λ (h : Heard). (turn_of p b.progress b.taken h).closed) e ∙ nothing_closes p b.progress b.taken w)
+      g.left ∙ ap (λ (y : Bool). cond y 0 (cond r.output.lost 0 (b.left - 1))) (ap (λ (h : Option ℕ). (turn_of p b.progress b.taken h).closed) e ∙ nothing_closes p b.progress b.taken w)
 
   pub prints_turn : Prints p b before after input rest written writes r
   prints_turn = record {
@@ -125,14 +124,14 @@ ends_rest p b before after input rest written wrote writes c r u z h s = record 
 -- ---- the whole table
 
 -- the first line is gathered
-pub gathers_first : (own line own' : List ℕ) (r : Put) (gathered : ℕ) (lost : Bool) → length line ≤ length own → Lends own 0 line own' r → gathered ≡ past_of 0 r → Gathers line own' (output 0 gathered lost)
+pub gathers_first : (own line own' : List ℕ) (r : Result ℕ NotPut) (gathered : ℕ) (lost : Bool) → length line ≤ length own → Lends own 0 line own' r → gathered ≡ past_of 0 r → Gathers line own' (output 0 gathered lost)
 gathers_first own line own' r gathered lost h l e =
     let p = lent_puts own 0 line (omega arith) own' r l in
     let q = p.past in
     record { whole = omega arith; rest = ap (λ (n : ℕ). take n own') e ∙ put_front own line own' (past_of 0 r) h p }
 
 -- and handed on, before any other
-pub first_went : (own line own' : List ℕ) (put : Put) (gathered : ℕ) (written writes : Option (List ℕ)) (r : Output) → length line ≤ length own → Lends own 0 line own' put → gathered ≡ past_of 0 put → HandsOn own' (output 0 gathered false) r → r.gathered ≡ 0 → HandsTo written writes own' (output 0 gathered false) r → (r.handed ≡ length line) × (r.lost ≡ false → Appends written writes line)
+pub first_went : (own line own' : List ℕ) (put : Result ℕ NotPut) (gathered : ℕ) (written writes : Option (List ℕ)) (r : Output) → length line ≤ length own → Lends own 0 line own' put → gathered ≡ past_of 0 put → HandsOn own' (output 0 gathered false) r → r.gathered ≡ 0 → HandsTo written writes own' (output 0 gathered false) r → (r.handed ≡ length line) × (r.lost ≡ false → Appends written writes line)
 first_went own line own' put gathered written writes r h l e on z s = (
   handed,
   λ k. subst (Appends written writes) (ap (λ (n : ℕ). take n line) handed ∙ take-length line) (went_on line own' (output 0 gathered false) r written writes first on s k written (Appends-nil written)),

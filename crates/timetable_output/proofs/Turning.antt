@@ -1,5 +1,5 @@
 -- One turn of the program: what the table's turn leaves is what holds between two turns.
-use Rattle.std.specs.Prelude.{◌≡◌, refl, Bool, true, false, cond, Option, List, ◌++◌, ℕ, ◌+◌, ◌-◌, ◌*◌, ◌≤◌, ◌<◌, length, take, drop, get_or}
+use Rattle.std.specs.Prelude.{◌≡◌, refl, Bool, true, false, cond, Option, List, ◌++◌, ℕ, ◌+◌, ◌-◌, ◌*◌, ◌≤◌, ◌<◌, length, take, drop, get_or, None}
 use Rattle.std.specs.Io.KnownBytes.{Appends}
 use Rattle.std.proofs.Common.{sym, ap, ◌∙◌, subst, arith, length-append, length-take-le, take-take}
 use Rattle.std.proofs.KnownBytes.{Appends-trans}
@@ -12,10 +12,8 @@ use Rattle.times.specs.declared.Progress.{Progress}
 use Rattle.automaton.specs.Next.{next_of}
 use Rattle.automaton.specs.declared.Next.{Next}
 use Rattle.run_path.specs.Inner.Path.{emitted_of}
-use Rattle.timetable_steps.specs.declared.Heard.{Heard}
 use Rattle.timetable_steps.specs.declared.Step.{Step}
-use Rattle.timetable_steps.specs.declared.Way.{Way}
-use Rattle.timetable_steps.specs.Inner.Steps.{Looks, Emits, next_step, step_of, output_of, place_of, column_of, past_way, past_activity}
+use Rattle.timetable_steps.specs.Inner.Steps.{Looks, Emits, next_step, step_of, output_of, place_of, column_of, past_activity}
 use Rattle.timetable_streams.specs.Inner.Asking.{asks}
 use Rattle.timetable_turns.specs.Inner.Turn.{OneTurn, turn_of, is_waiting, waits_of, Open}
 use Rattle.timetable_turns.specs.Inner.Answers.{Drafts}
@@ -69,7 +67,7 @@ went_on text out o r written writes g h w k start a =
 pub drafts_as : (before : List ℕ) (at : ℕ) (after : List ℕ) (x y : OneTurn) (r : Drafted) → x ≡ y → Drafts before at x after r → Drafts before at y after r
 drafts_as before at after x y r e h = subst (λ (z : OneTurn). Drafts before at z after r) e h
 
-module _ (p : Plan) (b : Between) (heard : Heard) (before after : List ℕ) (d : Drafted) (h : Drafts before b.output.gathered (turn_of p b.progress b.taken heard) after d) (size : length before ≡ 65_536) (s : Stands p b) (more : 0 < b.left) where
+module _ (p : Plan) (b : Between) (heard : Option ℕ) (before after : List ℕ) (d : Drafted) (h : Drafts before b.output.gathered (turn_of p b.progress b.taken heard) after d) (size : length before ≡ 65_536) (s : Stands p b) (more : 0 < b.left) where
   short : length (turn_of p b.progress b.taken heard).text ≤ 3_904
   short = turn_short p b.progress (s.within more) b.taken heard
 
@@ -135,7 +133,7 @@ module _ (p : Plan) (b : Between) (heard : Heard) (before after : List ℕ) (d :
     }
 
 -- each turn leaves fewer
-pub goes_less : (p : Plan) (b : Between) (heard : Heard) (before after : List ℕ) (written writes : Option (List ℕ)) (r : Between) → 0 < b.left → Goes p b heard before after written writes r → r.left < b.left
+pub goes_less : (p : Plan) (b : Between) (heard : Option ℕ) (before after : List ℕ) (written writes : Option (List ℕ)) (r : Between) → 0 < b.left → Goes p b heard before after written writes r → r.left < b.left
 goes_less p b heard before after written writes r more g = go (turn_of p b.progress b.taken heard).closed r.output.lost g.left
   where
     go : (y z : Bool) → r.left ≡ cond y 0 (cond z 0 (b.left - 1)) → r.left < b.left
@@ -146,26 +144,26 @@ goes_less p b heard before after written writes r more g = go (turn_of p b.progr
 -- ---- before a turn
 
 -- the step of where the behaviour stands, and the activity that it emits
-pub record Looked (p : Plan) (g : Progress) (heard : Heard) (x : Step) (a : Activity) : Type 0 where
+pub record Looked (p : Plan) (g : Progress) (heard : Option ℕ) (x : Step) (a : Activity) : Type 0 where
   pub step : x ≡ step_of p.automaton p.outcomes g.state heard
   pub activity : a ≡ emitted_of p (output_of x)
 
 -- as they stand in the tables
-pub looked : (p : Plan) (ways : List Way) (activities : List Activity) → InLimits p → Looks p ways → Emits p activities → (g : Progress) → g.state < p.automaton.states → (heard : Heard) (j k : ℕ) → j ≡ 10 * g.state + column_of heard → k ≡ place_of (output_of (get_or ways j past_way).step) → Looked p g heard (get_or ways j past_way).step (get_or activities k past_activity)
-looked p ways activities limits l m g within heard j k e f = record {
+pub looked : (p : Plan) (steps : List Step) (activities : List Activity) → InLimits p → Looks p steps → Emits p activities → (g : Progress) → g.state < p.automaton.states → (heard : Option ℕ) (j k : ℕ) → j ≡ 10 * g.state + column_of heard → k ≡ place_of (output_of (get_or steps j Step.Ends)) → Looked p g heard (get_or steps j Step.Ends) (get_or activities k past_activity)
+looked p steps activities limits l m g within heard j k e f = record {
   step = step;
   activity = ap (λ (i : ℕ). get_or activities i past_activity) f ∙ m.emitted _ (step_output p limits g.state heard _ step);
 }
   where
-    step : (get_or ways j past_way).step ≡ step_of p.automaton p.outcomes g.state heard
-    step = ap (λ (i : ℕ). (get_or ways i past_way).step) e ∙ l.looked g.state heard within
+    step : get_or steps j Step.Ends ≡ step_of p.automaton p.outcomes g.state heard
+    step = ap (λ (i : ℕ). get_or steps i Step.Ends) e ∙ l.looked g.state heard within
 
 -- the byte is asked for where the state waits for one
-pub step_asks : (p : Plan) (g : Progress) → asks (step_of p.automaton p.outcomes g.state Heard.Nothing) ≡ waits_of p g
+pub step_asks : (p : Plan) (g : Progress) → asks (step_of p.automaton p.outcomes g.state None) ≡ waits_of p g
 unfolding step_of
 step_asks p g = go (next_of p.automaton g.state)
   where
-    go : (n : Next) → asks (next_step p.automaton p.outcomes g.state Heard.Nothing n) ≡ is_waiting n
+    go : (n : Next) → asks (next_step p.automaton p.outcomes g.state None n) ≡ is_waiting n
     go Next.Ended = refl
     go (Next.Goes t) = refl
     go (Next.Waits e) = refl

@@ -14,7 +14,7 @@ ghost use Rattle.timetable_output.specs.Inner.Between.{Stands, Ends, Printed, De
 use plan::Plan;
 use std::io::{BufRead, Write};
 use times::Progress;
-use timetable_steps::{Heard, activities_of, index_of, output_of, place_of, steps_of};
+use timetable_steps::{activities_of, index_of, output_of, place_of, steps_of};
 use timetable_streams::{
     Outcomes, Output, ask, give_back, hand_on, hand_on_rest, keep, read_full, untaken,
 };
@@ -61,10 +61,10 @@ fn all_turns<B: BufRead, W: Write>(
     let mut progress = first.progress;
     let mut taken = first.taken;
     let mut left = first.left;
+    // `left` falls to 0 where the table is closed or output failed, so that no range counts it.
     while 0 < left {
-        let i = index_of(progress.state, Heard::Nothing);
-        let way = steps[i];
-        let unheard = way.step;
+        let i = index_of(progress.state, None);
+        let unheard = steps[i];
         let asked = ask(from, to, out, output, outcomes, unheard);
         output = asked.output;
         outcomes = asked.outcomes;
@@ -73,8 +73,7 @@ fn all_turns<B: BufRead, W: Write>(
         }
         let heard = asked.heard;
         let j = index_of(progress.state, heard);
-        let found = steps[j];
-        let step = found.step;
+        let step = steps[j];
         let k = place_of(output_of(step));
         let activity = activities[k];
         let at = output.gathered;

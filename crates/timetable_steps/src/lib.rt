@@ -5,17 +5,9 @@ ghost use Rattle.std.specs.Prelude.{◌≡◌, ◌+◌, ◌*◌, ◌≤◌, ◌<
 ghost use Rattle.plan.specs.Limits.{InLimits};
 ghost use Rattle.timetable_steps.specs.Inner.Steps.{Named, Below, chosen_step, heard_step, step_of, column_of, heard_as, Looks, output_of, place_of, Emits};
 
-use automaton::{Chosen, Next, chosen_of, next_of};
-use basis::{u8_to_usize, u16_to_usize};
+use automaton::{Next, chosen_of, next_of};
 use plan::{Activity, Automaton, Output, Plan, Transition};
 use run_path::emitted;
-
-// The next outcome byte, if there is one.
-#[derive(Clone, Copy)]
-pub enum Heard {
-    Nothing,
-    Outcome(u8),
-}
 
 // What a turn does.
 #[derive(Clone, Copy)]
@@ -30,40 +22,34 @@ pub enum Step {
     Takes(Transition, bool),
 }
 
-// A place of the table of steps.
-#[derive(Clone, Copy)]
-pub struct Way {
-    pub step: Step,
-}
-
 // The transition of an outcome of event e, if the state has one.
-fn chosen_step(a: Automaton, e: u8, chosen: Chosen) -> Step
+fn chosen_step(a: Automaton, e: u8, chosen: Option<u16>) -> Step
     requires { Below chosen }
     ensures { result ≡ chosen_step a e chosen }
 {
     match chosen {
-        Chosen::Nothing => {
+        None => {
             return Step::Waits(e);
         }
-        Chosen::Move(t) => {
-            let i = u16_to_usize(t);
+        Some(t) => {
+            let i = usize::from(t);
             let m = a.moves[i];
             return Step::Takes(m, true);
         }
     }
 }
 
-// At a state that waits for event e: "55 for an outcome the event lacks".
-fn heard_step(a: Automaton, outcomes: [u8; 16], s: u8, e: u8, heard: Heard) -> Step
+// At a state that waits for event e, with the next outcome byte, if there is one: "55 for an outcome the event lacks".
+fn heard_step(a: Automaton, outcomes: [u8; 16], s: u8, e: u8, heard: Option<u8>) -> Step
     requires { (a.count ≤ 256) × (e < 16) }
     ensures { result ≡ heard_step a outcomes s e heard }
 {
     match heard {
-        Heard::Nothing => {
+        None => {
             return Step::Waits(e);
         }
-        Heard::Outcome(o) => {
-            let i = u8_to_usize(e);
+        Some(o) => {
+            let i = usize::from(e);
             if o < outcomes[i] {
                 let chosen = chosen_of(a, s, e, o);
                 return chosen_step(a, e, chosen);
@@ -74,7 +60,7 @@ fn heard_step(a: Automaton, outcomes: [u8; 16], s: u8, e: u8, heard: Heard) -> S
 }
 
 // What a turn does at state s, handed an outcome byte or none.
-pub fn step_of(a: Automaton, outcomes: [u8; 16], s: u8, heard: Heard) -> Step
+pub fn step_of(a: Automaton, outcomes: [u8; 16], s: u8, heard: Option<u8>) -> Step
     requires { Named a s }
     ensures { result ≡ step_of a outcomes s heard }
 {
@@ -84,7 +70,7 @@ pub fn step_of(a: Automaton, outcomes: [u8; 16], s: u8, heard: Heard) -> Step
             return Step::Ends;
         }
         Next::Goes(t) => {
-            let i = u16_to_usize(t);
+            let i = usize::from(t);
             let m = a.moves[i];
             return Step::Takes(m, false);
         }
@@ -97,16 +83,16 @@ pub fn step_of(a: Automaton, outcomes: [u8; 16], s: u8, heard: Heard) -> Step
 // ---- the table of steps
 
 // No event has more than 8 outcomes: every byte above 7 is lacking.
-fn column_of(heard: Heard) -> usize
+fn column_of(heard: Option<u8>) -> usize
     ensures { (result ≡ column_of heard) × (result < 10) }
 {
     match heard {
-        Heard::Nothing => {
+        None => {
             return 9;
         }
-        Heard::Outcome(o) => {
+        Some(o) => {
             if o < 8 {
-                return o as usize;
+                return usize::from(o);
             }
             return 8;
         }
@@ -114,41 +100,36 @@ fn column_of(heard: Heard) -> usize
 }
 
 // Where the step of state s stands.
-pub fn index_of(s: u8, heard: Heard) -> usize
+pub fn index_of(s: u8, heard: Option<u8>) -> usize
     ensures value { result ≡ 10 * s + column_of heard }
     ensures upper_bound { result < 10 * s + 10 }
 {
-    10 * u8_to_usize(s) + column_of(heard)
+    10 * usize::from(s) + column_of(heard)
 }
 
-fn heard_as(column: u8) -> Heard
+fn heard_as(column: u8) -> Option<u8>
     ensures { result ≡ heard_as column }
 {
     if column < 9 {
-        return Heard::Outcome(column);
+        return Some(column);
     }
-    Heard::Nothing
+    None
 }
 
 // The steps of every state.
-pub fn steps_of(plan: Plan) -> [Way; 640]
+pub fn steps_of(plan: Plan) -> [Step; 640]
     requires { InLimits plan }
     ensures { Looks plan result }
 {
     let automaton = plan.automaton;
     let outcomes = plan.outcomes;
-    let end = Way { step: Step::Ends };
-    let mut ways = [end; 640];
-    let most = 10 * u8_to_usize(automaton.states);
-    let mut k: usize = 0;
-    while k < most {
+    let mut steps = [Step::Ends; 640];
+    for k in 0..10 * usize::from(automaton.states) {
         let heard = heard_as((k % 10) as u8);
         let step = step_of(automaton, outcomes, (k / 10) as u8, heard);
-        let way = Way { step };
-        ways[k] = way;
-        k += 1;
+        steps[k] = step;
     }
-    ways
+    steps
 }
 
 // ---- the table of activities
@@ -184,7 +165,7 @@ pub fn place_of(output: Output) -> usize
         }
         Output::Activity(a) => {
             if a < 32 {
-                return a as usize;
+                return usize::from(a);
             }
             return 32;
         }
@@ -198,11 +179,9 @@ pub fn activities_of(plan: Plan) -> [Activity; 33]
 {
     let empty = emitted(plan, Output::Empty);
     let mut all = [empty; 33];
-    let mut a: u8 = 0;
-    while a < plan.activities {
+    for a in 0..plan.activities {
         let activity = emitted(plan, Output::Activity(a));
-        all[u8_to_usize(a)] = activity;
-        a += 1;
+        all[usize::from(a)] = activity;
     }
     all
 }

@@ -2,13 +2,12 @@
 #![tactic(auto)]
 
 ghost use Rattle.std.specs.Io.KnownBytes.{Consumes};
-ghost use Rattle.std.specs.Prelude.{take, [], ◌≡◌, cond, ◌+◌, ◌-◌, ◌≤◌, ◌<◌, length};
-ghost use Rattle.timetable_steps.specs.declared.Heard.{Heard};
+ghost use Rattle.std.specs.Prelude.{None, take, [], ◌≡◌, cond, ◌+◌, ◌-◌, ◌≤◌, ◌<◌, length};
 ghost use Rattle.timetable_streams.specs.Inner.Gathering.{HandsOn, Rests, Keeps, HandsTo};
 ghost use Rattle.timetable_streams.specs.Inner.Asking.{Held, Asks, Listens, heard_bytes};
 
 use std::io::{BufRead, Read, Write};
-use timetable_steps::{Heard, Step};
+use timetable_steps::Step;
 
 // What the output was given of the text so far.
 #[derive(Clone, Copy)]
@@ -17,7 +16,7 @@ pub struct Output {
     pub handed: u64,
     // bytes that are gathered at the front of the buffer
     pub gathered: usize,
-    // the output did not take what was handed on last
+    // the output did not take what was handed on last; the counts are promised then too (`HandsOn`), so this is no Result
     pub lost: bool,
 }
 
@@ -37,7 +36,8 @@ pub struct Outcomes {
 pub struct Asked {
     pub output: Output,
     pub outcomes: Outcomes,
-    pub heard: Heard,
+    // the next outcome byte, if there is one
+    pub heard: Option<u8>,
 }
 
 // After a turn.
@@ -134,6 +134,7 @@ pub fn read_full<R: Read>(from: &mut R, buffer: &mut [u8]) -> usize
     ensures taken { Consumes (R.remaining from.old) (R.remaining from.new) (take result buffer.new) }
 {
     let mut done = 0;
+    // A read takes any number of bytes, so that no range counts `done`.
     while done < buffer.len() {
         let n = read_some(from, &mut buffer[done..]);
         if n == 0 {
@@ -190,33 +191,27 @@ fn at_hand<B: BufRead>(from: &mut B, most: usize) -> usize
 }
 
 // The first byte at hand is taken.
-fn take_one<B: BufRead>(from: &mut B) -> Heard
+fn take_one<B: BufRead>(from: &mut B) -> Option<u8>
     ensures taken { Consumes (B.remaining from.old) (B.remaining from.new) (heard_bytes result) }
 {
-    let bytes = match from.fill_buf() {
-        Ok(bytes) => bytes,
-        Err(_) => {
-            return Heard::Nothing;
-        }
+    let Ok(bytes) = from.fill_buf() else {
+        return None;
     };
-    if bytes.len() == 0 {
-        return Heard::Nothing;
-    }
-    let byte = bytes[0];
+    let byte = *bytes.first()?;
     from.consume(1);
-    Heard::Outcome(byte)
+    Some(byte)
 }
 
 // No outcome byte is heard.
 fn none_heard(output: Output, outcomes: Outcomes) -> Asked
     ensures output { result.output ≡ output }
     ensures outcomes { result.outcomes ≡ outcomes }
-    ensures heard { result.heard ≡ Heard.Nothing }
+    ensures heard { result.heard ≡ None }
 {
     Asked {
         output,
         outcomes,
-        heard: Heard::Nothing,
+        heard: None,
     }
 }
 

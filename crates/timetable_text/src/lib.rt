@@ -5,16 +5,12 @@ ghost use Rattle.std.specs.Prelude.{◌≡◌, [], ◌∷◌, ◌+◌, ◌*◌, 
 ghost use Rattle.wire.specs.Puts.{Puts};
 ghost use Rattle.timetable_text.specs.Text.{digits, decimal, space, newline};
 
-use basis::u8_to_usize;
-
 pub mod lent; // text put into a lent buffer, whole or not at all
 
-// Text put into a lent buffer.
+// Why text is not put into a lent buffer, which then is as it was.
 #[derive(Clone, Copy)]
-pub enum Put {
-    // the offset past it
-    Past(usize),
-    // it does not fit: number 36, place 0, and the buffer is as it was
+pub enum NotPut {
+    // it does not fit: number 36, place 0
     TooShort,
 }
 
@@ -22,7 +18,7 @@ pub enum Put {
 pub fn plan_length(low: u8, high: u8) -> usize
     ensures { (result ≡ low + 256 * high) × (result ≤ 65_535) }
 {
-    u8_to_usize(low) + 256 * u8_to_usize(high)
+    usize::from(low) + 256 * usize::from(high)
 }
 
 // The byte of one digit.

@@ -1,4 +1,5 @@
 -- The whole text, piece by piece: the first line, the turns, and by the input's length.
+use Rattle.std.specs.Prelude.{Option}
 use mathlib.Core.Path.{◌≡◌, refl, sym, ap, ◌∙◌, subst}
 use mathlib.Core.Bool.{Bool, true, false, cond}
 use mathlib.Core.List.{List, [], ◌++◌}
@@ -15,7 +16,6 @@ use Rattle.timetable_lines.specs.Inner.Lines.{Remains}
 use Rattle.timetable_lines.proofs.Laws.Lines.{remains_all, remains_less}
 use Rattle.timetable_turns.specs.declared.Begun.{Begun}
 use Rattle.timetable_turns.specs.declared.Drafted.{Drafted}
-use Rattle.timetable_steps.specs.declared.Heard.{Heard}
 use Rattle.timetable_turns.specs.declared.Place.{Place}
 use Rattle.timetable_turns.specs.Inner.Turn.{OneTurn, turn_of, head_of, turns_from, most_turns, is_refused, first_text, first_progress, Open}
 use Rattle.timetable_turns.specs.Timetable.{text_of_plan}
@@ -36,7 +36,7 @@ place at read left g = record { at = at; read = read; left = left; progress = g 
 
 -- ---- one turn
 
-module _ (p : Plan) (start : ℕ) (input : List ℕ) (w : Place) (s : Standing p w) (more : 0 < w.left) (heard : Heard) (own own' : List ℕ) (d : Drafted) (h : Drafts own 0 (turn_of p w.progress w.read heard) own' d) where
+module _ (p : Plan) (start : ℕ) (input : List ℕ) (w : Place) (s : Standing p w) (more : 0 < w.left) (heard : Option ℕ) (own own' : List ℕ) (d : Drafted) (h : Drafts own 0 (turn_of p w.progress w.read heard) own' d) where
   pub next_few : d.next ≤ 3_904
   next_few = let u = turn_short p w.progress (s.within more) w.read heard in let v = h.text.past in omega arith
 

@@ -1,9 +1,9 @@
 -- "The program timetable reads the plan's length (two bytes), the plan and outcome bytes; availabilities are 0."
-use Rattle.std.specs.Prelude.{cond, List, [], ◌∷◌, ◌++◌, ℕ, zero, suc, ◌+◌, ◌*◌, ltb, leb, length, take, drop, replicate}
+use Rattle.std.specs.Prelude.{cond, List, [], ◌∷◌, ◌++◌, ℕ, zero, suc, ◌+◌, ◌*◌, ltb, leb, length, take, drop, replicate, Ok, Err}
 use Rattle.plan.specs.Plan.{outcomes_of}
 use Rattle.plan.specs.Fault.{number_of}
 use Rattle.plan.specs.declared.Fault.{Fault}
-use Rattle.plan.specs.declared.Verdict.{Verdict}
+use Rattle.plan.specs.Verdict.{Verdict}
 use Rattle.plan.specs.declared.Plan.{Plan}
 use Rattle.judge.specs.Judge.{judge_of}
 use Rattle.automaton.specs.Next.{next_of, chosen_of}
@@ -61,8 +61,8 @@ table_of p outcomes = header ++ table_from p positions 0 outcomes (at_first (rep
 
 -- "A refused plan prints only refused, number, place"
 abbrev pub judged_text : Verdict → Plan → List ℕ → List ℕ
-judged_text Verdict.Accepted p outcomes = table_of p outcomes
-judged_text (Verdict.Refused f place) p outcomes = refused (number_of f) place
+judged_text (Ok u) p outcomes = table_of p outcomes
+judged_text (Err e) p outcomes = refused (number_of e.fault) e.place
 
 abbrev pub text_of_plan : List ℕ → List ℕ → List ℕ
 text_of_plan bytes outcomes = judged_text (judge_of bytes).verdict (judge_of bytes).plan outcomes

@@ -1,15 +1,14 @@
 // The timetable, one turn at a time.
 #![tactic(auto)]
 
-ghost use Rattle.std.specs.Prelude.{◌≡◌};
 ghost use Rattle.plan.specs.Fault.{number_of};
 ghost use Rattle.plan.specs.declared.Fault.{Fault};
 ghost use Rattle.timetable_lines.specs.Lines.{header, refused};
-ghost use Rattle.timetable_turns.specs.Inner.Turn.{is_refused, first_text};
+ghost use Rattle.timetable_turns.specs.Inner.Turn.{first_text};
 ghost use Rattle.timetable_text.specs.Lent.{Lends};
 ghost use Rattle.timetable_turns.specs.Inner.Answers.{Begins};
 
-use plan::{Plan, Verdict};
+use plan::{FaultAt, Plan, Verdict};
 use time::Specified;
 use times::Progress;
 use timetable_lines::{put_header, put_refused};
@@ -18,14 +17,14 @@ use timetable_text::lent::lend;
 pub mod turns; // one turn
 mod whole; // the timetable of a whole input
 
-pub use timetable_text::Put;
+pub use timetable_text::NotPut;
 pub use whole::timetable;
 
 // The table before its first turn.
 #[derive(Clone, Copy)]
 pub struct Begun {
-    pub put: Put,
-    // the text is the whole table
+    pub put: Result<usize, NotPut>,
+    // the text is the whole table; plan and progress are promised then too (`Begins`), so they are no Option
     pub closed: bool,
     pub plan: Plan,
     pub progress: Progress,
@@ -34,8 +33,8 @@ pub struct Begun {
 // One turn of the table.
 #[derive(Clone, Copy)]
 pub struct Turned {
-    pub put: Put,
-    // the text closes the table
+    pub put: Result<usize, NotPut>,
+    // the text closes the table; the progress is promised then too (`Turns`), so it is no Option
     pub closed: bool,
     // the outcome byte was taken
     pub heard: bool,
@@ -65,16 +64,7 @@ pub struct Place {
     pub progress: Progress,
 }
 
-fn is_refused(verdict: Verdict) -> bool
-    ensures { result ≡ is_refused verdict }
-{
-    match verdict {
-        Verdict::Accepted => false,
-        Verdict::Refused(_, _) => true,
-    }
-}
-
-fn header_line(out: &mut [u8]) -> Put
+fn header_line(out: &mut [u8]) -> Result<usize, NotPut>
     ensures { Lends out.old 0 header out.new result }
 {
     let mut text = [0u8; 64];
@@ -82,7 +72,7 @@ fn header_line(out: &mut [u8]) -> Put
     lend(out, 0, &text, next)
 }
 
-fn refused_line(out: &mut [u8], number: u8, place: u64) -> Put
+fn refused_line(out: &mut [u8], number: u8, place: u64) -> Result<usize, NotPut>
     ensures { Lends out.old 0 (refused number place) out.new result }
 {
     let mut text = [0u8; 64];
@@ -91,15 +81,15 @@ fn refused_line(out: &mut [u8], number: u8, place: u64) -> Put
 }
 
 // "A refused plan prints only refused, number, place"; an accepted one, the header.
-fn first_line(out: &mut [u8], verdict: Verdict) -> Put
+fn first_line(out: &mut [u8], verdict: Verdict) -> Result<usize, NotPut>
     ensures { Lends out.old 0 (first_text verdict) out.new result }
 {
     match verdict {
-        Verdict::Accepted => {
+        Ok(()) => {
             return header_line(out);
         }
-        Verdict::Refused(f, place) => {
-            let number = plan::numbers::number_of(f);
+        Err(FaultAt { fault, place }) => {
+            let number = plan::numbers::number_of(fault);
             return refused_line(out, number, place as u64);
         }
     }
@@ -114,7 +104,7 @@ pub fn begin(out: &mut [u8], bytes: &[u8]) -> Begun
     let initial = plan.automaton.initial;
     let progress = run_opening::at_first([Specified(0); 16], initial);
     let verdict = judged.verdict;
-    let closed = is_refused(verdict);
+    let closed = verdict.is_err();
     let put = first_line(out, verdict);
     Begun {
         put,
@@ -125,7 +115,7 @@ pub fn begin(out: &mut [u8], bytes: &[u8]) -> Begun
 }
 
 // "input that ends inside the length or the plan gives 1, place = the plan bytes present"
-pub fn cut(out: &mut [u8], present: u64) -> Put
+pub fn cut(out: &mut [u8], present: u64) -> Result<usize, NotPut>
     ensures { Lends out.old 0 (refused (number_of Fault.Ends) present) out.new result }
 {
     refused_line(out, 1, present)

@@ -9,13 +9,12 @@ ghost use Rattle.timetable_turns.specs.Inner.Answers.{Drafts, Turns, Turnable, S
 ghost use Rattle.timetable_turns.specs.Inner.Stepped.{closing, stepped, closed_at};
 
 use crate::{Drafted, Turned};
-use basis::u8_to_usize;
 use plan::{Activity, Plan};
 use run_path::{activity_number, emitted, entry_of, is_work};
 use times::engine::advance;
 use times::{Progress, Schedule};
 use timetable_lines::{put_ended, put_refused, put_row, put_waiting};
-use timetable_steps::{Heard, Step, output_of, step_of};
+use timetable_steps::{Step, output_of, step_of};
 use timetable_text::lent::lend;
 
 // The rows of one transition.
@@ -30,12 +29,8 @@ fn put_rows(
     requires { (at ≤ 61_440) × (activity.count ≤ 64) }
     ensures { Puts out.old at (rows (entries_from position number times 0 (nodes_of activity))) out.new result }
 {
-    let size = u8_to_usize(activity.count);
     let mut next = at;
-    let mut n: usize = 0;
-    while n < size {
-        let node = n;
-        n += 1;
+    for node in 0..usize::from(activity.count) {
         let x = activity.nodes[node];
         let kind = x.kind;
         if is_work(kind) {
@@ -82,7 +77,7 @@ fn close(
             return closed(next, progress);
         }
         Step::Lacks => {
-            let next = put_refused(out, at, 55, read as u64);
+            let next = put_refused(out, at, 55, u64::from(read));
             return closed(next, progress);
         }
         Step::Takes(_, _) => {
@@ -118,7 +113,7 @@ pub fn put_step(
             let input = m.input;
             let advanced = advance(resources, activity, input, m.to, progress);
             if advanced.beyond {
-                let next = put_refused(out, at, 44, progress.position as u64);
+                let next = put_refused(out, at, 44, u64::from(progress.position));
                 return closed(next, progress);
             }
             let after = advanced.progress;
@@ -143,7 +138,7 @@ pub fn turn_by(
     plan: Plan,
     progress: Progress,
     read: u32,
-    heard: Heard,
+    heard: Option<u8>,
 ) -> Drafted
     requires { Turnable plan progress at }
     ensures { Drafts out.old at (turn_of plan progress read heard) out.new result }
@@ -185,7 +180,7 @@ pub fn turn(
     plan: Plan,
     progress: Progress,
     read: u32,
-    heard: Heard,
+    heard: Option<u8>,
 ) -> Turned
     requires { Open plan progress }
     ensures { Turns plan out.old at (turn_of plan progress read heard) out.new result }

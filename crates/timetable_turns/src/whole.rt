@@ -11,18 +11,14 @@ use crate::turns::{counted, left_after, turn_by};
 use crate::{Place, begin};
 use plan::Plan;
 use timetable_lines::put_refused;
-use timetable_steps::Heard;
 use timetable_text::lent::{copy, past};
-use timetable_text::{Put, plan_length};
+use timetable_text::{NotPut, plan_length};
 
 // The byte at an offset, if there is one.
-fn heard_at(input: &[u8], at: usize) -> Heard
+fn heard_at(input: &[u8], at: usize) -> Option<u8>
     ensures { result ≡ head_of (drop at input.now) }
 {
-    if at < input.len() {
-        return Heard::Outcome(input[at]);
-    }
-    Heard::Nothing
+    input.get(at).copied()
 }
 
 // One turn; the outcome bytes stand from `start` on.
@@ -54,6 +50,7 @@ fn put_turns(out: &mut [u8], input: &[u8], start: usize, plan: Plan, first: Plac
     ensures { Puts out.old first.at (left_text plan start input.now first) out.new result }
 {
     let mut w = first;
+    // `left` falls to 0 where the table is closed, so that no range counts it.
     while 0 < w.left {
         w = put_turn(out, input, start, plan, w);
     }
@@ -109,14 +106,13 @@ fn put_timetable(out: &mut [u8], input: &[u8]) -> usize
 }
 
 // The timetable of any input, into any buffer. Its length is found by putting it into a buffer that holds nothing of it.
-pub fn timetable(input: &[u8], out: &mut [u8]) -> Put
+pub fn timetable(input: &[u8], out: &mut [u8]) -> Result<usize, NotPut>
     ensures { Lends out.old 0 (timetable_of input.now) out.new result }
 {
     let mut none = [0u8; 1];
     let size = put_timetable(&mut none, input);
     if size <= out.len() {
-        let end = put_timetable(out, input);
-        return Put::Past(end);
+        return Ok(put_timetable(out, input));
     }
-    Put::TooShort
+    Err(NotPut::TooShort)
 }

@@ -1,109 +1,72 @@
 // Numbers in bytes: fields of one, two, four and eight bytes, lowest byte first, and a byte put into a lent buffer.
 #![tactic(auto)]
 
-ghost use Rattle.std.specs.Prelude.{◌≡◌, ◌+◌, ◌≤◌, ◌<◌, length, set, leb};
+ghost use Rattle.std.specs.Prelude.{◌≡◌, ◌+◌, ◌≤◌, ◌<◌, Some, None, cond, length, take, drop, set, leb};
 ghost use Rattle.wire.specs.Number.{little, field_at};
-
-use basis::u8_to_u16;
 
 pub mod puts; // numbers put into a lent buffer
 
-// A field of one byte, unless the bytes end inside it.
-#[derive(Clone, Copy)]
-pub enum Byte {
-    Value(u8),
-    Ends,
-}
-
-// A field of two bytes.
-#[derive(Clone, Copy)]
-pub enum Short {
-    Value(u16),
-    Ends,
-}
-
-// A field of four bytes.
-#[derive(Clone, Copy)]
-pub enum Long {
-    Value(u32),
-    Ends,
-}
-
-// A field of eight bytes.
-#[derive(Clone, Copy)]
-pub enum Wide {
-    Value(u64),
-    Ends,
-}
-
-// Whether the bytes have w bytes from `at` on.
-fn fits(bytes: &[u8], at: usize, w: usize) -> bool
-    requires { w ≤ 8 }
-    ensures { result ≡ leb (at + w) (length bytes.now) }
+// The N bytes at `at`.
+fn taken<const N: usize>(bytes: &[u8], at: usize) -> [u8; N]
+    requires { at + N ≤ length bytes.now }
+    ensures { result ≡ take N (drop at bytes.now) }
 {
-    let n = bytes.len();
-    if w <= n {
-        return at <= n - w;
-    }
-    false
+    let mut part = [0; N];
+    part.copy_from_slice(&bytes[at..at + N]);
+    part
 }
 
-fn two(bytes: &[u8], at: usize) -> u16
+// The N bytes at `at`, unless the bytes end inside them.
+fn part_at<const N: usize>(bytes: &[u8], at: usize) -> Option<[u8; N]>
+    ensures { result ≡ cond (leb (at + N) (length bytes.now)) (Some (take N (drop at bytes.now))) None }
+{
+    bytes.get(at..)?.first_chunk().copied()
+}
+
+pub fn two(bytes: &[u8], at: usize) -> u16
     requires { at + 2 ≤ length bytes.now }
     ensures { (result ≡ little 2 bytes.now at) × (result < 65536) }
 {
-    let next = at + 1;
-    u8_to_u16(bytes[at]) + 256 * u8_to_u16(bytes[next])
+    u16::from_le_bytes(taken(bytes, at))
 }
 
 pub fn four(bytes: &[u8], at: usize) -> u32
     requires { at + 4 ≤ length bytes.now }
     ensures { (result ≡ little 4 bytes.now at) × (result < 4294967296) }
 {
-    two(bytes, at) as u32 + 65536 * (two(bytes, at + 2) as u32)
+    u32::from_le_bytes(taken(bytes, at))
 }
 
 pub fn eight(bytes: &[u8], at: usize) -> u64
     requires { at + 8 ≤ length bytes.now }
     ensures { result ≡ little 8 bytes.now at }
 {
-    four(bytes, at) as u64 + 4294967296 * (four(bytes, at + 4) as u64)
+    u64::from_le_bytes(taken(bytes, at))
 }
 
-pub fn byte_at(bytes: &[u8], at: usize) -> Byte
-    ensures { result ≡ field_at Byte.Value Byte.Ends 1 bytes.now at }
+pub fn byte_at(bytes: &[u8], at: usize) -> Option<u8>
+    ensures { result ≡ field_at Some None 1 bytes.now at }
 {
-    if at < bytes.len() {
-        return Byte::Value(bytes[at]);
-    }
-    Byte::Ends
+    bytes.get(at).copied()
 }
 
-pub fn short_at(bytes: &[u8], at: usize) -> Short
-    ensures { result ≡ field_at Short.Value Short.Ends 2 bytes.now at }
+// Three functions: under a trait with its width (tried at u16) each impl has two ghost members and the same line; no caller is generic.
+pub fn short_at(bytes: &[u8], at: usize) -> Option<u16>
+    ensures { result ≡ field_at Some None 2 bytes.now at }
 {
-    if fits(bytes, at, 2) {
-        return Short::Value(two(bytes, at));
-    }
-    Short::Ends
+    part_at(bytes, at).map(u16::from_le_bytes)
 }
 
-pub fn long_at(bytes: &[u8], at: usize) -> Long
-    ensures { result ≡ field_at Long.Value Long.Ends 4 bytes.now at }
+pub fn long_at(bytes: &[u8], at: usize) -> Option<u32>
+    ensures { result ≡ field_at Some None 4 bytes.now at }
 {
-    if fits(bytes, at, 4) {
-        return Long::Value(four(bytes, at));
-    }
-    Long::Ends
+    part_at(bytes, at).map(u32::from_le_bytes)
 }
 
-pub fn wide_at(bytes: &[u8], at: usize) -> Wide
-    ensures { result ≡ field_at Wide.Value Wide.Ends 8 bytes.now at }
+pub fn wide_at(bytes: &[u8], at: usize) -> Option<u64>
+    ensures { result ≡ field_at Some None 8 bytes.now at }
 {
-    if fits(bytes, at, 8) {
-        return Wide::Value(eight(bytes, at));
-    }
-    Wide::Ends
+    part_at(bytes, at).map(u64::from_le_bytes)
 }
 
 // Puts a byte at `at`; past the end it leaves the buffer as it is.

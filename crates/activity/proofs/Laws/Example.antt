@@ -1,5 +1,5 @@
 -- The two activities of plan T ("One plan, printed"), and smaller ones with each fault, as `fault_of` judges them.
-use Rattle.std.specs.Prelude.{◌≡◌, refl, List, [], ◌∷◌, ◌++◌, map, ℕ, ◌-◌, length, replicate}
+use Rattle.std.specs.Prelude.{◌≡◌, refl, List, [], ◌∷◌, ◌++◌, map, ℕ, ◌-◌, length, replicate, Ok, Err}
 use Rattle.basis.specs.Tests.{every, some}
 use Rattle.plan.specs.Plan.{resource_of, activity_of}
 use Rattle.plan.proofs.Laws.Example.{plan_t}
@@ -7,11 +7,10 @@ use Rattle.plan.specs.declared.Kind.{Kind}
 use Rattle.plan.specs.declared.Node.{Node}
 use Rattle.plan.specs.declared.Fault.{Fault}
 use Rattle.plan.specs.declared.Plan.{Plan}
-use Rattle.plan.specs.declared.Verdict.{Verdict}
-use Rattle.activity.specs.declared.Finding.{Finding}
+use Rattle.plan.specs.Verdict.{faulty}
 use Rattle.activity.specs.Tests.{word_of, passes, before_words}
 use Rattle.activity.specs.Number.{no_cycle, rule_i, rule_ii, rule_iii, rule_iv, rule_v, rule_vi, rule_vii, rule_viii, rule_ix, rule_x, rule_xi, fault_by, fault_of, verdict_from, activities_verdict}
-use Rattle.activity.specs.Inner.Copied.{empty_node}
+use Rattle.plan.specs.Nodes.{zero_node}
 
 abbrev node_of : Kind → ℕ → List ℕ → Node
 node_of k d ps = record { kind = k; duration = d; count = length ps; preds = ps }
@@ -52,17 +51,17 @@ cases =
 judged :
     map (fault_of (resource_of plan_t)) cases
     ≡ (
-    Finding.Good
-    ∷ Finding.Good
-    ∷ Finding.Good
-    ∷ Finding.Bad Fault.Cycle
-    ∷ Finding.Bad Fault.ActionsUnordered
-    ∷ Finding.Bad Fault.NamedTwice
-    ∷ Finding.Bad Fault.ActionUnheld
-    ∷ Finding.Bad Fault.ClaimUnpaired
-    ∷ Finding.Bad Fault.ArrowPastEnd
-    ∷ Finding.Bad Fault.EventFirst
-    ∷ Finding.Bad Fault.EventsUnordered
+    Ok tt
+    ∷ Ok tt
+    ∷ Ok tt
+    ∷ Err Fault.Cycle
+    ∷ Err Fault.ActionsUnordered
+    ∷ Err Fault.NamedTwice
+    ∷ Err Fault.ActionUnheld
+    ∷ Err Fault.ClaimUnpaired
+    ∷ Err Fault.ArrowPastEnd
+    ∷ Err Fault.EventFirst
+    ∷ Err Fault.EventsUnordered
     ∷ []
     )
 unfolding every some word_of passes before_words no_cycle rule_i rule_ii rule_iii rule_iv rule_v rule_vi rule_vii rule_viii rule_ix rule_x rule_xi fault_by fault_of
@@ -70,7 +69,7 @@ judged = refl
 
 -- a plan of two activities
 abbrev room : List Node → List Node
-room l = l ++ replicate (64 - length l) empty_node
+room l = l ++ replicate (64 - length l) zero_node
 
 abbrev plan_of : List Node → List Node → Plan
 plan_of a b =
@@ -92,6 +91,6 @@ in_order :
     ∷ activities_verdict (plan_of first_of_t (claim 0 [] ∷ []))
     ∷ activities_verdict (plan_of (event 0 1 [] ∷ []) (claim 0 [] ∷ []))
     ∷ [])
-    ≡ (Verdict.Accepted ∷ Verdict.Refused Fault.ClaimUnpaired 1 ∷ Verdict.Refused Fault.EventFirst 0 ∷ [])
+    ≡ (Ok tt ∷ faulty Fault.ClaimUnpaired 1 ∷ faulty Fault.EventFirst 0 ∷ [])
 unfolding every some word_of passes before_words no_cycle rule_i rule_ii rule_iii rule_iv rule_v rule_vi rule_vii rule_viii rule_ix rule_x rule_xi fault_by fault_of verdict_from activities_verdict
 in_order = refl

@@ -43,6 +43,31 @@ each_node belongs a Fault.TooManyPending = (λ h. tt, λ h n. tt)
 pub start_at_lem : (belongs : ℕ → ℕ) (a : List Node) (n : ℕ) → Below (At belongs a n) 11
 start_at_lem belongs a n f l = (each_node belongs a f).1 (start belongs a f l) n
 
+-- what holds of the numbers below 19 holds of all: none from 19 on is an activity's
+pub all_at : (belongs : ℕ → ℕ) (a : List Node) (n : ℕ) → Below (At belongs a n) 19 → (f : Fault) → At belongs a n f
+all_at belongs a n h Fault.Cycle = h Fault.Cycle (omega arith)
+all_at belongs a n h Fault.ActionsUnordered = h Fault.ActionsUnordered (omega arith)
+all_at belongs a n h Fault.NamedTwice = h Fault.NamedTwice (omega arith)
+all_at belongs a n h Fault.ActionUnheld = h Fault.ActionUnheld (omega arith)
+all_at belongs a n h Fault.ClaimUnpaired = h Fault.ClaimUnpaired (omega arith)
+all_at belongs a n h Fault.ArrowPastEnd = h Fault.ArrowPastEnd (omega arith)
+all_at belongs a n h Fault.EventFirst = h Fault.EventFirst (omega arith)
+all_at belongs a n h Fault.EventsUnordered = h Fault.EventsUnordered (omega arith)
+all_at belongs a n h Fault.Ends = tt
+all_at belongs a n h Fault.Map = tt
+all_at belongs a n h Fault.NoAutomaton = tt
+all_at belongs a n h Fault.Count = tt
+all_at belongs a n h Fault.Names = tt
+all_at belongs a n h Fault.Duration = tt
+all_at belongs a n h Fault.NotRising = tt
+all_at belongs a n h Fault.LeftOver = tt
+all_at belongs a n h Fault.WayOutOfFinal = tt
+all_at belongs a n h Fault.ForbiddenBranch = tt
+all_at belongs a n h Fault.OutcomeMissing = tt
+all_at belongs a n h Fault.NoWayToFinal = tt
+all_at belongs a n h Fault.Unbalanced = tt
+all_at belongs a n h Fault.TooManyPending = tt
+
 module _ (belongs : ℕ → ℕ) (a : List Node) where
   no_node : {n : ℕ} {k : Kind} {P : Type 0} → length a ≤ n → Is a n k → P
   no_node l i = absurd (omega (arith, i.within))

@@ -1,6 +1,6 @@
 -- "it is returned iff its rule is broken and no earlier one is": `fault_of` judges every activity right, whatever it holds.
 -- Assumes nothing.
-use Rattle.std.specs.Prelude.{◌≡◌, refl, Bool, List, ◌↔◌, ℕ}
+use Rattle.std.specs.Prelude.{◌≡◌, refl, Bool, List, ◌↔◌, ℕ, Result, Ok, Err}
 use Rattle.std.proofs.Common.{ap, subst, arith}
 use Rattle.std.proofs.Math.Decide.{dec_lt}
 use Rattle.basis.specs.Inner.Tells.{Tells, holds, fails}
@@ -9,7 +9,6 @@ use Rattle.plan.specs.Fault.{number_of}
 use Rattle.plan.proofs.Laws.Faults.{same_fault}
 use Rattle.plan.specs.declared.Node.{Node}
 use Rattle.plan.specs.declared.Fault.{Fault}
-use Rattle.activity.specs.declared.Finding.{Finding}
 use Rattle.activity.specs.Rules.{NoCycle, RuleI, RuleII, RuleIII, RuleIV, RuleV, RuleVI, RuleVII, RuleVIII, RuleIX, RuleX, RuleXI, Meets}
 use Rattle.activity.specs.Number.{unless, fault_by, fault_of}
 use Rattle.activity.specs.Tests.{before_words}
@@ -48,7 +47,7 @@ module _ (belongs : ℕ → ℕ) (a : List Node) where
 
   -- a test that is broken, or what comes after it
   one_more :
-      {b : Bool} (f : Fault) (n : Finding) → Tells b (Rule belongs a f) → Below (Rule belongs a) (number_of f) → (Rule belongs a f → Judged belongs a n)
+      {b : Bool} (f : Fault) (n : Result (Unit {0}) Fault) → Tells b (Rule belongs a f) → Below (Rule belongs a) (number_of f) → (Rule belongs a f → Judged belongs a n)
       → Judged belongs a (unless b f n)
   one_more f n (holds r) e k = k r
   one_more f n (fails d) e k = record { broken = d; earlier = e }
@@ -121,20 +120,20 @@ module _ (belongs : ℕ → ℕ) (a : List Node) where
   meets_rule m Fault.TooManyPending = tt
 
   -- a finding that is right is the only one
-  pub only : (f g : Finding) → Judged belongs a f → Judged belongs a g → f ≡ g
-  only Finding.Good Finding.Good p q = refl
-  only Finding.Good (Finding.Bad g) p q = absurd (q.broken (meets_rule p g))
-  only (Finding.Bad f) Finding.Good p q = absurd (p.broken (meets_rule q f))
-  only (Finding.Bad f) (Finding.Bad g) p q =
+  pub only : (f g : Result (Unit {0}) Fault) → Judged belongs a f → Judged belongs a g → f ≡ g
+  only (Ok u) (Ok v) p q = refl
+  only (Ok u) (Err g) p q = absurd (q.broken (meets_rule p g))
+  only (Err f) (Ok u) p q = absurd (p.broken (meets_rule q f))
+  only (Err f) (Err g) p q =
       elim (dec_lt (number_of f) (number_of g)) [
         | yes l ↦ absurd (p.broken (q.earlier f l))
         | no n ↦
             elim (dec_lt (number_of g) (number_of f)) [
               | yes l ↦ absurd (q.broken (p.earlier g l))
-              | no k ↦ let e : number_of f ≡ number_of g = omega arith in ap Finding.Bad (same_fault f g e)
+              | no k ↦ let e : number_of f ≡ number_of g = omega arith in ap Err (same_fault f g e)
             ]
       ]
 
   -- a number is returned iff its rule is broken and no earlier one is
-  pub bad_iff : (f : Fault) → (fault_of belongs a ≡ Finding.Bad f) ↔ First belongs a f
-  bad_iff f = (λ e. subst (Judged belongs a) e judged, λ p. only (fault_of belongs a) (Finding.Bad f) judged p)
+  pub bad_iff : (f : Fault) → (fault_of belongs a ≡ Err f) ↔ First belongs a f
+  bad_iff f = (λ e. subst (Judged belongs a) e judged, λ p. only (fault_of belongs a) (Err f) judged p)

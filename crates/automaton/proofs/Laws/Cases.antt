@@ -1,9 +1,8 @@
 -- Different cases of what a state does next, of a chosen transition and of an input are different, and equal ones hold the same.
-use Rattle.std.specs.Prelude.{◌≡◌, ℕ}
+use Rattle.std.specs.Prelude.{◌≡◌, ℕ, Some}
 use Rattle.std.proofs.Common.{arith}
 use Rattle.plan.specs.declared.Input.{Input}
 use Rattle.automaton.specs.declared.Next.{Next}
-use Rattle.automaton.specs.declared.Chosen.{Chosen}
 
 -- ---- what a state does next
 
@@ -27,7 +26,7 @@ waits_goes e = absurd (let z : ◌≡◌ {A = ℕ} 0 1 = cc in omega arith)
 
 -- ---- a chosen transition
 
-pub move_same : {t u : ℕ} → Chosen.Move t ≡ Chosen.Move u → t ≡ u
+pub move_same : {t u : ℕ} → Some t ≡ Some u → t ≡ u
 move_same e = cc
 
 -- ---- an input

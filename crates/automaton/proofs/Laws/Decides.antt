@@ -1,5 +1,5 @@
 -- The verdict that specs/Number.antt computes is the one that the rules give, for every plan within the limits; and the rules give no other.
-use Rattle.std.specs.Prelude.{◌≡◌, refl, Bool, true, false, cond, ℕ, ◌+◌, ◌<◌, ltb}
+use Rattle.std.specs.Prelude.{◌≡◌, refl, Bool, true, false, cond, ℕ, ◌+◌, ◌<◌, ltb, Ok}
 use Rattle.std.proofs.Common.{ap, ◌∙◌, subst, arith, ltb-true, ltb-false}
 use Rattle.std.proofs.Math.Decide.{dec_lt}
 use Rattle.basis.specs.Tests.{flag}
@@ -8,7 +8,7 @@ use Rattle.plan.specs.declared.Output.{Output}
 use Rattle.plan.specs.declared.Automaton.{Automaton}
 use Rattle.plan.specs.declared.Plan.{Plan}
 use Rattle.plan.specs.declared.Fault.{Fault}
-use Rattle.plan.specs.declared.Verdict.{Verdict}
+use Rattle.plan.specs.Verdict.{Verdict, faulty}
 use Rattle.plan.specs.Plan.{outcomes_of, move}
 use Rattle.plan.specs.Limits.{InLimits}
 use Rattle.automaton.specs.Rules.{Rule21, Rule22, Rule23, Rule24, NoWayOut, Branches, Serves, ToFinal, EveryState, EmittedFirst, NoneLeft, AtMostEight, processed, emitted, emits, MeetsAutomaton, LowestAtFault, Breaks25, unemitted, leftover, Breaks26, Judges, number21, number22, number23, number24, number25, number26, accepted}
@@ -29,27 +29,27 @@ module _ (a : Automaton) (P : ℕ → Type 0) (test : ℕ → Bool) (t : (q : �
   here = or_else a f (lowest test 0 a.states) after
 
   -- the fault at its lowest state, or what comes after
-  stage : (Q : Verdict → Type 0) → ((s : ℕ) → LowestAtFault a P s → Q (Verdict.Refused f s)) → (EveryState a P → Q after) → Q here
+  stage : (Q : Verdict → Type 0) → ((s : ℕ) → LowestAtFault a P s → Q (faulty f s)) → (EveryState a P → Q after) → Q here
   stage Q found passed = go (ltb (lowest test 0 a.states) a.states) refl
     where
-      go : (b : Bool) → ltb (lowest test 0 a.states) a.states ≡ b → Q (cond b (Verdict.Refused f (lowest test 0 a.states)) after)
+      go : (b : Bool) → ltb (lowest test 0 a.states) a.states ≡ b → Q (cond b (faulty f (lowest test 0 a.states)) after)
       go true e = found (lowest test 0 a.states) (fault_found a P test t (ltb-true (lowest test 0 a.states) a.states e))
       go false e = passed (none_found a P test t (λ l. omega (arith, ltb-false (lowest test 0 a.states) a.states e)))
 
-  at_fault : (s : ℕ) → LowestAtFault a P s → here ≡ Verdict.Refused f s
+  at_fault : (s : ℕ) → LowestAtFault a P s → here ≡ faulty f s
   at_fault s x = go (ltb (lowest test 0 a.states) a.states) refl
     where
       same : lowest test 0 a.states ≡ s
       same = fault_there a P test t s x
 
-      go : (b : Bool) → ltb (lowest test 0 a.states) a.states ≡ b → cond b (Verdict.Refused f (lowest test 0 a.states)) after ≡ Verdict.Refused f s
-      go true e = ap (Verdict.Refused f) same
+      go : (b : Bool) → ltb (lowest test 0 a.states) a.states ≡ b → cond b (faulty f (lowest test 0 a.states)) after ≡ faulty f s
+      go true e = ap (faulty f) same
       go false e = absurd (omega (arith, same, x.low, ltb-false (lowest test 0 a.states) a.states e))
 
   passes : EveryState a P → here ≡ after
   passes h = go (ltb (lowest test 0 a.states) a.states) refl
     where
-      go : (b : Bool) → ltb (lowest test 0 a.states) a.states ≡ b → cond b (Verdict.Refused f (lowest test 0 a.states)) after ≡ after
+      go : (b : Bool) → ltb (lowest test 0 a.states) a.states ≡ b → cond b (faulty f (lowest test 0 a.states)) after ≡ after
       go true e = absurd (none_there a P test t h (ltb-true (lowest test 0 a.states) a.states e))
       go false e = refl
 
@@ -68,7 +68,7 @@ way_same a f g ok sf bf sg bg same = go (ltb low a.states) refl
     low = lowest (flag (to_final a)) 0 a.states
 
     go : (b : Bool) → ltb low a.states ≡ b
-        → cond b (Verdict.Refused Fault.NoWayToFinal low) (path_verdict a f) ≡ cond b (Verdict.Refused Fault.NoWayToFinal low) (path_verdict a g)
+        → cond b (faulty Fault.NoWayToFinal low) (path_verdict a f) ≡ cond b (faulty Fault.NoWayToFinal low) (path_verdict a g)
     go true e = refl
     go false e =
         let ways = none_found a (ToFinal a) (flag (to_final a)) (tells_24 a ok) (λ l. omega (arith, ltb-false low a.states e)) in
@@ -166,8 +166,8 @@ module _ (p : Plan) (limits : InLimits p) where
   pub verdict_iff : (v : Verdict) → (automaton_verdict p ≡ v → Judges p v) × (Judges p v → automaton_verdict p ≡ v)
   verdict_iff v = (λ e. subst (Judges p) e judged, determined v)
 
-  meets : Judges p Verdict.Accepted → MeetsAutomaton p
+  meets : Judges p (Ok tt) → MeetsAutomaton p
   meets (accepted m) = m
 
-  pub accepted_iff : (automaton_verdict p ≡ Verdict.Accepted → MeetsAutomaton p) × (MeetsAutomaton p → automaton_verdict p ≡ Verdict.Accepted)
-  accepted_iff = (λ e. meets (subst (Judges p) e judged), λ m. determined Verdict.Accepted (accepted m))
+  pub accepted_iff : (automaton_verdict p ≡ Ok tt → MeetsAutomaton p) × (MeetsAutomaton p → automaton_verdict p ≡ Ok tt)
+  accepted_iff = (λ e. meets (subst (Judges p) e judged), λ m. determined (Ok tt) (accepted m))

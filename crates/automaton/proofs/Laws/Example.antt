@@ -1,5 +1,5 @@
 -- The verdict computed on plans: T as document 01 prints it, K3's plan, and T damaged once for each of the numbers 21 to 26.
-use Rattle.std.specs.Prelude.{◌≡◌, refl, List, [], ◌∷◌, ◌++◌, map, ℕ, zero, suc, ◌+◌, ◌^◌, length}
+use Rattle.std.specs.Prelude.{◌≡◌, refl, List, [], ◌∷◌, ◌++◌, map, ℕ, zero, suc, ◌+◌, ◌^◌, length, Ok}
 use Rattle.basis.specs.Tests.{falses}
 use Rattle.plan.specs.declared.Input.{Input}
 use Rattle.plan.specs.declared.Output.{Output}
@@ -7,7 +7,7 @@ use Rattle.plan.specs.declared.Transition.{Transition}
 use Rattle.plan.specs.declared.Automaton.{Automaton}
 use Rattle.plan.specs.declared.Plan.{Plan}
 use Rattle.plan.specs.declared.Fault.{Fault}
-use Rattle.plan.specs.declared.Verdict.{Verdict}
+use Rattle.plan.specs.Verdict.{Verdict, faulty}
 use Rattle.plan.proofs.Laws.Example.{plan_t}
 use Rattle.automaton.specs.Tests.{all}
 use Rattle.automaton.specs.Next.{ways_from, chosen_from}
@@ -73,23 +73,23 @@ many n = up_to (n + n) (emitting n 0 ++ processing n n)
 -- plans with their verdicts: T, K3, then T with a fault
 pub cases : List (Plan × Verdict)
 cases =
-    (plan_t, Verdict.Accepted) ∷
-    (plan3, Verdict.Accepted) ∷
+    (plan_t, Ok tt) ∷
+    (plan3, Ok tt) ∷
     -- a way out of the final state
-    (up_to 2 (goes 0 1 sensing ∷ when 1 1 0 sensing ∷ when 1 2 1 last ∷ goes 2 2 last ∷ []), Verdict.Refused Fault.WayOutOfFinal 2) ∷
+    (up_to 2 (goes 0 1 sensing ∷ when 1 1 0 sensing ∷ when 1 2 1 last ∷ goes 2 2 last ∷ []), faulty Fault.WayOutOfFinal 2) ∷
     -- a transition listed twice
-    (up_to 2 (goes 0 1 sensing ∷ when 1 1 0 sensing ∷ when 1 2 1 last ∷ when 1 2 1 last ∷ []), Verdict.Refused Fault.ForbiddenBranch 1) ∷
+    (up_to 2 (goes 0 1 sensing ∷ when 1 1 0 sensing ∷ when 1 2 1 last ∷ when 1 2 1 last ∷ []), faulty Fault.ForbiddenBranch 1) ∷
     -- no transition for outcome 0
-    (up_to 2 (goes 0 1 sensing ∷ when 1 2 1 last ∷ []), Verdict.Refused Fault.OutcomeMissing 1) ∷
+    (up_to 2 (goes 0 1 sensing ∷ when 1 2 1 last ∷ []), faulty Fault.OutcomeMissing 1) ∷
     -- no path from state 1 to the final state, nor from 0
-    (up_to 2 (goes 0 1 sensing ∷ when 1 1 0 sensing ∷ when 1 1 1 last ∷ []), Verdict.Refused Fault.NoWayToFinal 0) ∷
+    (up_to 2 (goes 0 1 sensing ∷ when 1 1 0 sensing ∷ when 1 1 1 last ∷ []), faulty Fault.NoWayToFinal 0) ∷
     -- nothing emitted before the event is processed
-    (up_to 2 (goes 0 1 last ∷ when 1 1 0 sensing ∷ when 1 2 1 last ∷ []), Verdict.Refused Fault.Unbalanced 0) ∷
+    (up_to 2 (goes 0 1 last ∷ when 1 1 0 sensing ∷ when 1 2 1 last ∷ []), faulty Fault.Unbalanced 0) ∷
     -- one emitted at the end is left over
-    (up_to 2 (goes 0 1 sensing ∷ when 1 1 0 sensing ∷ when 1 2 1 sensing ∷ []), Verdict.Refused Fault.Unbalanced 0) ∷
+    (up_to 2 (goes 0 1 sensing ∷ when 1 1 0 sensing ∷ when 1 2 1 sensing ∷ []), faulty Fault.Unbalanced 0) ∷
     -- 8 pending, and 9
-    (many 8, Verdict.Accepted) ∷
-    (many 9, Verdict.Refused Fault.TooManyPending 0) ∷ []
+    (many 8, Ok tt) ∷
+    (many 9, faulty Fault.TooManyPending 0) ∷ []
 
 pub cases_right : map (λ c. automaton_verdict c.0) cases ≡ map (λ c. c.1) cases
 unfolding cases with_t up_to goes when sensing last emitting processing many plan3 automaton_verdict state_verdict way_verdict path_verdict judge_counts lowest no_way_out apart_from branches_in serves falses finals_of pass_back again advanced pass_on all ways_from chosen_from

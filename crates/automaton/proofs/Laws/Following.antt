@@ -1,6 +1,6 @@
 -- What a state does next, and the transition that an outcome takes, are of its own transitions; an awaited event is one of the
 -- plan's. Assumes nothing.
-use Rattle.std.specs.Prelude.{◌≡◌, ℕ, ◌<◌}
+use Rattle.std.specs.Prelude.{◌≡◌, ℕ, ◌<◌, Some}
 use Rattle.std.proofs.Common.{subst}
 use Rattle.plan.specs.declared.Input.{Input}
 use Rattle.plan.specs.declared.Automaton.{Automaton}
@@ -8,7 +8,6 @@ use Rattle.plan.specs.declared.Plan.{Plan}
 use Rattle.plan.specs.Plan.{move}
 use Rattle.plan.specs.Limits.{InputNames, InLimits}
 use Rattle.automaton.specs.declared.Next.{Next}
-use Rattle.automaton.specs.declared.Chosen.{Chosen}
 use Rattle.automaton.specs.Rules.{Leaves, Processes}
 use Rattle.automaton.specs.Next.{next_of, chosen_of}
 use Rattle.automaton.proofs.Laws.States.{ChosenIs, moves, chosen_is}
@@ -23,10 +22,10 @@ next_leaves a s t e = by (subst (NextIs a s) e (next_is a s))
     by (silent l h x) = l
 
 -- the transition that an outcome chooses
-pub chosen_leaves : (a : Automaton) (s e o t : ℕ) → chosen_of a s e o ≡ Chosen.Move t → Leaves a s t × ((move a t).input ≡ Input.Outcome e o)
+pub chosen_leaves : (a : Automaton) (s e o t : ℕ) → chosen_of a s e o ≡ Some t → Leaves a s t × ((move a t).input ≡ Input.Outcome e o)
 chosen_leaves a s e o t h = by (subst (ChosenIs a s e o) h (chosen_is a s e o))
   where
-    by : ChosenIs a s e o (Chosen.Move t) → Leaves a s t × ((move a t).input ≡ Input.Outcome e o)
+    by : ChosenIs a s e o (Some t) → Leaves a s t × ((move a t).input ≡ Input.Outcome e o)
     by (moves l i) = (l, i)
 
 -- a state that awaits an event has a transition that processes it

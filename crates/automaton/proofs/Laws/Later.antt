@@ -1,6 +1,6 @@
 -- What holds of the automaton of a plan that meets the rules: what a state does next is what its transitions say, the awaited
 -- event is pending, at most 8 of each are, and within 64 transitions a state waits or is final.
-use Rattle.std.specs.Prelude.{◌≡◌, refl, true, ◌⊎◌, ℕ, zero, suc, ◌≤◌, ◌<◌}
+use Rattle.std.specs.Prelude.{◌≡◌, refl, true, ◌⊎◌, ℕ, zero, suc, ◌≤◌, ◌<◌, Option, None, Some}
 use Rattle.std.proofs.Common.{sym, ap, ◌∙◌, subst, inl, inr, arith}
 use Rattle.std.proofs.Math.Decide.{ℕ_discrete, dec_lt}
 use Rattle.plan.specs.declared.Input.{Input}
@@ -9,7 +9,6 @@ use Rattle.plan.specs.declared.Plan.{Plan}
 use Rattle.plan.specs.Plan.{move, is_final, outcomes_of}
 use Rattle.plan.specs.Limits.{InLimits, InputNames}
 use Rattle.automaton.specs.declared.Next.{Next}
-use Rattle.automaton.specs.declared.Chosen.{Chosen}
 use Rattle.automaton.specs.Rules.{Leaves, Processes, Path, none, more, emits, pending, MeetsAutomaton}
 use Rattle.automaton.specs.Next.{next_of, chosen_of}
 use Rattle.automaton.proofs.Laws.States.{ChosenIs, nothing, moves, chosen_is, one_event}
@@ -117,14 +116,14 @@ module _ (p : Plan) (limits : InLimits p) (m : MeetsAutomaton p) where
 
   -- a state that awaits an event has a transition for each outcome of it
   pub waits_chosen : (s e o : ℕ) → s < a.states → Waiting a s e → o < outcomes_of p e
-      → (i : ℕ) × (chosen_of a s e o ≡ Chosen.Move i) × Leaves a s i × ((move a i).input ≡ Input.Outcome e o)
+      → (i : ℕ) × (chosen_of a s e o ≡ Some i) × Leaves a s i × ((move a i).input ≡ Input.Outcome e o)
   waits_chosen s e o low h l = by (subst (NextIs a s) h (next_is a s))
     where
-      pick : (c : Chosen) → ChosenIs a s e o c → Processes a s e o → (i : ℕ) × (c ≡ Chosen.Move i) × Leaves a s i × ((move a i).input ≡ Input.Outcome e o)
-      pick Chosen.Nothing (nothing n) x = absurd (n x)
-      pick (Chosen.Move i) (moves k n) x = (i, refl, k, n)
+      pick : (c : Option ℕ) → ChosenIs a s e o c → Processes a s e o → (i : ℕ) × (c ≡ Some i) × Leaves a s i × ((move a i).input ≡ Input.Outcome e o)
+      pick None (nothing n) x = absurd (n x)
+      pick (Some i) (moves k n) x = (i, refl, k, n)
 
-      by : NextIs a s (Next.Waits e) → (i : ℕ) × (chosen_of a s e o ≡ Chosen.Move i) × Leaves a s i × ((move a i).input ≡ Input.Outcome e o)
+      by : NextIs a s (Next.Waits e) → (i : ℕ) × (chosen_of a s e o ≡ Some i) × Leaves a s i × ((move a i).input ≡ Input.Outcome e o)
       by (waits u x y) = pick (chosen_of a s e o) (chosen_is a s e o) (m.serves s low e u x o l)
 
   -- ---- events

@@ -1,11 +1,20 @@
--- The lowest state that fails a test: what it is, and a scan for it, one state on.
-use Rattle.std.specs.Prelude.{◌≡◌, refl, Bool, true, false, cond}
+-- The lowest state that fails a test: what it is, and that `find` finds it.
+use Rattle.std.specs.Prelude.{◌≡◌, refl, Bool, true, false, cond, List, Option, None, Some, MatchOption}
+use Rattle.std.specs.List.{FoldsTo}
+use Rattle.std.specs.Fn.{CalledAt}
+use Rattle.std.specs.Iterator.{YieldsThen}
+use Rattle.std.specs.declared.ops.Range.{Range}
+use Rattle.std.proofs.iter.Yields.{nat_range_steps}
+use Rattle.std.proofs.lemmas.Iterator.{first_from_Range}
+use denote.Param.Members.{Mut}
+use denote.Ref.{Bor}
 use Rattle.std.proofs.Math.Path.{ap}
-use Rattle.std.proofs.Common.{◌∙◌}
-use Prim.Native.Nat.{ℕ, zero, suc, ◌+◌, ◌-◌, ◌≤◌, ◌<◌}
+use Rattle.std.proofs.Common.{sym, ◌∙◌}
+use Prim.Native.Nat.{ℕ, zero, suc, ◌+◌, ◌≤◌, ◌<◌}
 use native.Mathlib.Omega.{arith}
 use Rattle.std.proofs.Math.Decide.{ℕ_discrete, dec_lt}
 use Rattle.basis.specs.Inner.Tells.{Tells}
+use Rattle.basis.proofs.Laws.Bools.{clash}
 use Rattle.basis.proofs.Laws.Tells.{told_true, told_false}
 use Rattle.plan.specs.declared.Automaton.{Automaton}
 use Rattle.automaton.specs.Rules.{EveryState, LowestAtFault}
@@ -55,22 +64,31 @@ module _ (a : Automaton) (P : ℕ → Type 0) (test : ℕ → Bool) (t : (q : �
   pub none_there : EveryState a P → low < a.states → ⊥
   none_there h l = let x = lowest_is test 0 a.states in told_false (t low l) (x.here (omega arith)) (h low l)
 
--- ---- a scan of n states, at state s
+-- ---- `find` over the numbers below n, for one that fails the test
 
-module _ (test : ℕ → Bool) (s n : ℕ) where
-  pub scan_starts : lowest test 0 n ≡ lowest test 0 (n - 0)
-  scan_starts = let z : n ≡ n - 0 = omega arith in ap (lowest test 0) z
+module _ (test : ℕ → Bool) (n : ℕ) where
+  abbrev Passed : ℕ → Type 0
+  Passed i = (k : ℕ) → k < i → test k ≡ true
 
-  on : s < n → lowest test s (n - s) ≡ cond (test s) (lowest test (s + 1) (n - (s + 1))) s
-  unfolding lowest
-  on l = let z : n - s ≡ suc (n - (s + 1)) = omega arith in ap (lowest test s) z
+  found : (i : ℕ) → i < n → test i ≡ false → Passed i → i ≡ lowest test 0 n
+  found i l here below =
+      let x = lowest_is test 0 n in elim (dec_lt i (lowest test 0 n)) [
+        | yes m ↦ absurd (clash (sym (x.below i (omega arith) m) ∙ here))
+        | no m ↦ elim (dec_lt (lowest test 0 n) i) [ yes k ↦ absurd (clash (sym (below (lowest test 0 n) k) ∙ x.here (omega arith))) | no k ↦ omega arith ]
+      ]
 
-  pub scan_passes : s < n → test s ≡ true → lowest test s (n - s) ≡ lowest test (s + 1) (n - (s + 1))
-  scan_passes l t = on l ∙ ap (λ (b : Bool). cond b (lowest test (s + 1) (n - (s + 1))) s) t
+  none : Passed n → n ≡ lowest test 0 n
+  none h =
+      let x = lowest_is test 0 n in
+      elim (dec_lt (lowest test 0 n) n) [ yes l ↦ absurd (clash (sym (h (lowest test 0 n) l) ∙ x.here (omega arith))) | no l ↦ omega (arith, x.high) ]
 
-  pub scan_stops : s < n → test s ≡ false → lowest test s (n - s) ≡ s
-  scan_stops l t = on l ∙ ap (λ (b : Bool). cond b (lowest test (s + 1) (n - (s + 1))) s) t
-
-  pub scan_ends : (s < n → ⊥) → lowest test s (n - s) ≡ s
-  unfolding lowest
-  scan_ends h = let z : n - s ≡ 0 = omega (arith, h) in ap (lowest test s) z
+pub lowest_by_find : {F : Type 0} {g : Mut F (Bor ℕ × Unit {0}) Bool} (s u : Range ℕ) (f : F) (r : Option ℕ) (test : ℕ → Bool) → s.start ≡ 0
+    → (xs : List ℕ) × (j : F) × YieldsThen nat_range_steps s xs r u × FoldsTo (λ p x q. CalledAt g p x false q) f xs j × MatchOption r (Unit {0}) (λ x. (h : F) × CalledAt g j x true h)
+    → ((x : ℕ) (q : F) → CalledAt g f x true q → test x ≡ false) → ((x : ℕ) (q : F) → CalledAt g f x false q → (q ≡ f) × (test x ≡ true))
+    → MatchOption r (s.end ≡ lowest test 0 s.end) (λ i. (i < s.end) × (i ≡ lowest test 0 s.end))
+lowest_by_find s u f r test z d p q = by r (first_from_Range s u f r (λ k. test k ≡ false) (λ k. test k ≡ true) d p q)
+  where
+    by : (o : Option ℕ) → MatchOption o ((k : ℕ) → s.start ≤ k → k < s.end → test k ≡ true) (λ i. (s.start ≤ i) × (i < s.end) × (test i ≡ false) × ((k : ℕ) → s.start ≤ k → k < i → test k ≡ true))
+        → MatchOption o (s.end ≡ lowest test 0 s.end) (λ i. (i < s.end) × (i ≡ lowest test 0 s.end))
+    by None h = none test s.end (λ k l. h k (omega arith) l)
+    by (Some i) h = (h.1, found test s.end i h.1 h.2 (λ k l. h.3 k (omega arith) l))

@@ -1,5 +1,5 @@
 -- The counts that the passes end with decide numbers 25 and 26 for all paths from the initial state.
-use Rattle.std.specs.Prelude.{◌≡◌, Bool, cond, ◌&&◌, List, ℕ, ◌+◌, ◌*◌, ◌≤◌, ◌<◌}
+use Rattle.std.specs.Prelude.{◌≡◌, Bool, cond, ◌&&◌, List, ℕ, ◌+◌, ◌*◌, ◌≤◌, ◌<◌, Ok}
 use Rattle.std.proofs.Math.Path.{refl}
 use Rattle.std.proofs.Common.{sym, arith}
 use Rattle.std.proofs.Math.Bool.{true, false}
@@ -12,7 +12,7 @@ use Rattle.plan.specs.declared.Output.{Output}
 use Rattle.plan.specs.declared.Transition.{Transition}
 use Rattle.plan.specs.declared.Automaton.{Automaton}
 use Rattle.plan.specs.declared.Fault.{Fault}
-use Rattle.plan.specs.declared.Verdict.{Verdict}
+use Rattle.plan.specs.Verdict.{Verdict, faulty}
 use Rattle.plan.specs.Plan.{move, is_final}
 use Rattle.automaton.specs.declared.Explored.{Explored}
 use Rattle.automaton.specs.Tests.{at, all}
@@ -125,7 +125,7 @@ module _ (a : Automaton) (gives : Output → ℕ → ℕ) (ok : InRange a) where
     judge_counts_lem bound ways = go (keeps a gives x) refl (clear a x) refl (few a x) refl
       where
         go : (u : Bool) → keeps a gives x ≡ u → (v : Bool) → clear a x ≡ v → (w : Bool) → few a x ≡ w
-            → OnPaths a gives (cond (u && v) (cond w Verdict.Accepted (Verdict.Refused Fault.TooManyPending 0)) (Verdict.Refused Fault.Unbalanced 0))
+            → OnPaths a gives (cond (u && v) (cond w (Ok tt) (faulty Fault.TooManyPending 0)) (faulty Fault.Unbalanced 0))
         go false e v f w g = broken25 (clash_25 a gives x.reached x.counts ok known ways (one_clash e))
         go true e false f w g = broken25 (left_25 a gives x.reached x.counts ok known (one_left f))
         go true e true f false g =

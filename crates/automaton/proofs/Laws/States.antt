@@ -1,5 +1,6 @@
 -- The tests of one state tell what the rules say: numbers 21, 22 and 23, and the transition that an outcome takes.
-use Rattle.std.specs.Prelude.{◌≡◌, true, false, not, cond, ◌&&◌, eqb}
+use Rattle.std.specs.Option.{is_some}
+use Rattle.std.specs.Prelude.{◌≡◌, true, false, not, cond, ◌&&◌, eqb, Option, None, Some}
 use Rattle.std.proofs.Math.Path.{refl}
 use Rattle.std.proofs.Common.{sym, ap, ◌∙◌, subst, arith, eqb-true}
 use Rattle.std.proofs.Math.Bool.{Bool}
@@ -14,20 +15,19 @@ use Rattle.plan.specs.declared.Input.{Input}
 use Rattle.plan.specs.declared.Automaton.{Automaton}
 use Rattle.plan.specs.Plan.{past_move, move, is_final}
 use Rattle.automaton.specs.declared.Next.{Next}
-use Rattle.automaton.specs.declared.Chosen.{Chosen}
 use Rattle.automaton.specs.Tests.{all}
 use Rattle.automaton.specs.Rules.{Leaves, Processes, NoWayOut, Branch, Branches, Serves}
 use Rattle.automaton.specs.Next.{first_of, carries, chosen_from, chosen_of}
-use Rattle.automaton.specs.Number.{is_ended, no_way_out, apart, apart_from, branches_in, branches, is_move, serves_next, serves}
+use Rattle.automaton.specs.Number.{is_ended, no_way_out, apart, apart_from, branches_in, branches, serves_next, serves}
 use Rattle.automaton.proofs.Laws.Cases.{unlike, same_event, same_outcome}
 use Rattle.automaton.proofs.Laws.Tests.{all_tells}
 use Rattle.automaton.proofs.Laws.Ways.{FirstIs, ended, goes, waits, first-is}
 
 -- ---- the transition that an outcome takes
 
-pub data ChosenIs (a : Automaton) (s e o : ℕ) : Chosen → Type 0 where
-  nothing : (Processes a s e o → ⊥) → ChosenIs a s e o Chosen.Nothing
-  moves : {i : ℕ} → Leaves a s i → (move a i).input ≡ Input.Outcome e o → ChosenIs a s e o (Chosen.Move i)
+pub data ChosenIs (a : Automaton) (s e o : ℕ) : Option ℕ → Type 0 where
+  nothing : (Processes a s e o → ⊥) → ChosenIs a s e o None
+  moves : {i : ℕ} → Leaves a s i → (move a i).input ≡ Input.Outcome e o → ChosenIs a s e o (Some i)
 
 pub tells_carries : (n : Input) (e o : ℕ) → Tells (carries n e o) (n ≡ Input.Outcome e o)
 tells_carries Input.Nothing e o = fails unlike
@@ -43,7 +43,7 @@ module _ (a : Automaton) (s e o : ℕ) where
   chosen_from_lem zero i h old = nothing (λ x. old x.index (omega (arith, x.leaves.low)) x.leaves x.input)
   chosen_from_lem (suc k) i h old = go (eqb (move a i).from s && carries (move a i).input e o) refl (λ ne. chosen_from_lem k (i + 1) (omega arith) (further ne))
     where
-      rest : Chosen
+      rest : Option ℕ
       rest = chosen_from (part past_move a.moves (i + 1) k) s e o (i + 1)
 
       test : Tells (eqb (move a i).from s && carries (move a i).input e o) (((move a i).from ≡ s) × ((move a i).input ≡ Input.Outcome e o))
@@ -56,19 +56,19 @@ module _ (a : Automaton) (s e o : ℕ) where
       ]
 
       go : (b : Bool) → (eqb (move a i).from s && carries (move a i).input e o) ≡ b
-          → ((((move a i).from ≡ s) × ((move a i).input ≡ Input.Outcome e o) → ⊥) → ChosenIs a s e o rest) → ChosenIs a s e o (cond b (Chosen.Move i) rest)
+          → ((((move a i).from ≡ s) × ((move a i).input ≡ Input.Outcome e o) → ⊥) → ChosenIs a s e o rest) → ChosenIs a s e o (cond b (Some i) rest)
       go true y rec = let x = told_true test y in moves {i = i} (record { low = omega (arith, h); from = x.0 }) x.1
       go false y rec = rec (told_false test y)
 
   pub chosen_is : ChosenIs a s e o (chosen_of a s e o)
   chosen_is = chosen_from_lem a.count 0 (omega arith) (λ j l. absurd (omega arith))
 
-  tells_move : Tells (is_move (chosen_of a s e o)) (Processes a s e o)
+  tells_move : Tells (is_some (chosen_of a s e o)) (Processes a s e o)
   tells_move = go (chosen_of a s e o) chosen_is
     where
-      go : (c : Chosen) → ChosenIs a s e o c → Tells (is_move c) (Processes a s e o)
-      go Chosen.Nothing (nothing h) = fails h
-      go (Chosen.Move i) (moves l h) = holds (record { index = i; leaves = l; input = h })
+      go : (c : Option ℕ) → ChosenIs a s e o c → Tells (is_some c) (Processes a s e o)
+      go None (nothing h) = fails h
+      go (Some i) (moves l h) = holds (record { index = i; leaves = l; input = h })
 
 -- ---- 21
 
@@ -185,7 +185,7 @@ tells_23 a outcomes s branches = go (first_of a s) (first-is a s)
     go Next.Ended (ended h) = holds (λ e o x. absurd (h x.index x.leaves))
     go (Next.Goes i) (goes l h) = holds (λ e o x. absurd (free i l h e o x))
     go (Next.Waits e) (waits o x) =
-        let test = all_tells (outcomes e) (λ q. is_move (chosen_of a s e q)) (λ q. Processes a s e q) (λ q l. tells_move a s e q) in
-        tells (all (outcomes e) (λ q. is_move (chosen_of a s e q)))
+        let test = all_tells (outcomes e) (λ q. is_some (chosen_of a s e q)) (λ q. Processes a s e q) (λ q l. tells_move a s e q) in
+        tells (all (outcomes e) (λ q. is_some (chosen_of a s e q)))
         (λ h f u y q l. let z = one_event a s branches x y in subst (λ (g : ℕ). Processes a s g q) z (told_true test h q (subst (λ (g : ℕ). q < outcomes g) (sym z) l)))
         (λ h y. told_false test h (λ q l. y e o x q l))

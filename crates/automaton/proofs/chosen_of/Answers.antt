@@ -1,29 +1,33 @@
-use mathlib.Core.Path.{sym, ap, ◌∙◌}
-use mathlib.Core.List.{List}
-use native.Mathlib.Omega.{arith}
-use Rattle.basis.specs.Parts.{part}
+use Rattle.std.specs.Prelude.{◌≡◌, List, length, take}
+use Rattle.std.proofs.Common.{ap, sym, ◌∙◌, arith}
+use Rattle.basis.proofs.Laws.Lists.{unmapped}
 use Rattle.plan.specs.declared.Transition.{Transition}
-use Rattle.plan.specs.Plan.{past_move}
 use Rattle.automaton.specs.Next.{chosen_from}
-use Rattle.automaton.proofs.Laws.Scan.{rest_all, chosen_here, chosen_other, chosen_past, chosen_none}
+use Rattle.automaton.proofs.Laws.Scan.{used, chosen_here, chosen_other, chosen_past, chosen_none}
+use Rattle.automaton.proofs.chosen_of.Goals.{else-t-s-via-then-t-s+else-carries, else-t-s-via-else-t-s}
 use Rattle.automaton.proofs.chosen_of.Goals as goal
 
 pub loop-i-init : goal.loop-i-init
 loop-i-init c =
-    (omega arith, omega (arith, c.u16_to_usize-count.ensures), ap (λ (ts : List Transition). chosen_from ts c.args.s c.args.e c.args.o 0) (ap (part past_move c.args.a.moves 0) (sym c.u16_to_usize-count.ensures) ∙ rest_all c.args.a.moves c.u16_to_usize-count.result))
-
-pub loop-i-preserved-then-t-s : goal.loop-i-preserved-then-t-s
-loop-i-preserved-then-t-s c =
-    (omega arith, omega arith, c.loop-i.invariant.2 ∙ chosen_other c.args.a.moves c.args.s c.loop-i.i c.u16_to_usize-count.result c.args.e c.args.o (omega arith) c.if-t-s.true)
+    let x = c.args in
+    let long : length x.a.moves ≡ 256 = search unmapped in
+    ap (λ (ts : List Transition). chosen_from ts x.s x.e x.o 0) (used x.a c.from.result c.from.ensures (omega arith))
 
 pub returns-then-carries : goal.returns-then-carries
 returns-then-carries c =
-    sym (c.loop-i.invariant.2 ∙ chosen_here c.args.a.moves c.args.s c.loop-i.i c.u16_to_usize-count.result c.args.e c.args.o (omega arith) c.if-t-s.false (sym c.carries.ensures ∙ c.if-carries.true))
+    let x = c.args in
+    sym (c.loop-i.invariant ∙ chosen_here (take c.from.result x.a.moves) x.s c.loop-i.i x.e x.o (omega arith) c.if-t-s.true (sym c.carries.ensures ∙ c.if-carries.true))
 
 pub loop-i-preserved : goal.loop-i-preserved
 loop-i-preserved c =
-    (omega arith, omega arith, c.loop-i.invariant.2 ∙ chosen_past c.args.a.moves c.args.s c.loop-i.i c.u16_to_usize-count.result c.args.e c.args.o (omega arith) c.if-t-s.false (sym c.carries.ensures ∙ c.if-carries.false))
+    let x = c.args in
+    let l = take c.from.result x.a.moves in
+    c.loop-i.invariant ∙ elim c.else-t-s.branch [
+      | else-t-s-via-then-t-s+else-carries w ↦ chosen_past l x.s c.loop-i.i x.e x.o (omega arith) w.if-t-s.true (sym w.carries.ensures ∙ w.if-carries.false)
+      | else-t-s-via-else-t-s w ↦ chosen_other l x.s c.loop-i.i x.e x.o (omega arith) w.if-t-s.false
+    ]
 
 pub returns : goal.returns
 returns c =
-    sym (c.loop-i.invariant.2 ∙ chosen_none c.args.a.moves c.args.s c.loop-i.i c.u16_to_usize-count.result c.args.e c.args.o (λ l. omega arith))
+    let x = c.args in
+    sym (c.loop-i.invariant ∙ chosen_none (take c.from.result x.a.moves) x.s c.loop-i.i x.e x.o (omega arith))

@@ -1,10 +1,10 @@
 -- What the contracts behind `Laws/Emits` cite.
-use Rattle.std.specs.Prelude.{◌≡◌, Bool, true, false, cond, List, ℕ, ◌+◌, ◌*◌, ◌≤◌, ◌<◌, ltb, length}
+use Rattle.std.specs.Prelude.{◌≡◌, Bool, true, cond, List, ℕ, ◌+◌, ◌*◌, ◌≤◌, ◌<◌, ltb, length}
 use Rattle.basis.specs.Tests.{flag}
 use Rattle.plan.specs.declared.Output.{Output}
 use Rattle.plan.specs.declared.Transition.{Transition}
 use Rattle.plan.specs.declared.Automaton.{Automaton}
-use Rattle.plan.specs.declared.Verdict.{Verdict}
+use Rattle.plan.specs.Verdict.{Verdict}
 use Rattle.plan.specs.Plan.{final_bit}
 use Rattle.automaton.specs.Tests.{at}
 use Rattle.automaton.specs.Rules.{ToFinal, EveryState}
@@ -34,11 +34,6 @@ pub record Unkept (gives : Output → ℕ → ℕ) (C : List ℕ) (t : Transitio
   pub event : ℕ
   pub named : event < 16
   pub clash : Kept gives C t event → ⊥
-
--- true: the one; false: the other
-pub record Either (b : Bool) (P Q : Type 0) : Type 0 where
-  pub yea : b ≡ true → P
-  pub nay : b ≡ false → Q
 
 -- where every state has a path to a final one, the verdict on numbers 25 and 26
 abbrev pub Judged : Automaton → List ℕ → Verdict → Type 0

@@ -1,30 +1,25 @@
-use Prim.Native.Nat.{◌+◌, ◌*◌, ◌/◌}
-use native.Mathlib.Omega.{arith}
-use Rattle.automaton_verdict.proofs.Counting.{counting_starts, counting_past, counting_none, counting_one, counting_ends}
+use Rattle.std.specs.Prelude.{◌+◌, ◌-◌, ◌*◌, ◌<◌, drop}
+use Rattle.std.proofs.Common.{ap, sym, ◌∙◌, arith}
+use Rattle.std.proofs.lemmas.List.{get_or-take, get_or-drop, length-take}
+use Rattle.plan.specs.declared.Node.{Node}
+use Rattle.plan.specs.Plan.{past_node}
+use Rattle.automaton_verdict.proofs.Counting.{counting_starts, counting_none, counting_one}
+use Rattle.automaton_verdict.proofs.emissions.Goals.{in-Event, in_default}
 use Rattle.automaton_verdict.proofs.emissions.Goals as goal
 
-pub overflow_mul-end : goal.overflow_mul-end
-overflow_mul-end c = omega (arith, c.u8_to_usize-end.ensures, c.requires.activities)
+pub loop-k-init : goal.loop-k-init
+loop-k-init c = counting_starts c.args.plan c.requires
 
-pub loop-i-init : goal.loop-i-init
-loop-i-init c = (omega arith, omega (arith, c.u8_to_usize-end.ensures), omega (arith, c.u8_to_usize-end.ensures, c.requires.activities), counting_starts c.args.plan c.requires)
-
-pub loop-i-preserved-then-u8_to_usize-n : goal.loop-i-preserved-then-u8_to_usize-n
-loop-i-preserved-then-u8_to_usize-n c =
-    (omega arith, c.loop-i.invariant.1, c.loop-i.invariant.2, counting_past c.args.plan c.requires c.loop-i.i c.loop-i.em (omega arith) c.loop-i.invariant.3 (omega (arith, c.u8_to_usize.ensures)))
-
-pub loop-i-preserved-then-e-ge16 : goal.loop-i-preserved-then-e-ge16
-loop-i-preserved-then-e-ge16 c =
-    (omega arith, c.loop-i.invariant.1, c.loop-i.invariant.2, counting_none c.args.plan c.requires c.loop-i.i c.loop-i.em (omega arith) c.loop-i.invariant.3 (omega (arith, c.u8_to_usize.ensures)) (omega (arith, c.event_of-e.ensures)))
-
-pub overflow_add-em : goal.overflow_add-em
-overflow_add-em c =
-    omega (arith, c.loop-i.invariant.3.few (16 * (c.loop-i.i / 64) + c.event_of-e.result))
-
-pub loop-i-preserved : goal.loop-i-preserved
-loop-i-preserved c =
-    (omega arith, c.loop-i.invariant.1, c.loop-i.invariant.2, counting_one c.args.plan c.requires c.loop-i.i c.loop-i.em (omega arith) c.loop-i.invariant.3 (omega (arith, c.u8_to_usize.ensures)) c.event_of-e.result c.event_of-e.ensures (omega arith))
-
-pub returns : goal.returns
-returns c =
-    counting_ends c.args.plan c.requires c.loop-i.i c.loop-i.em (omega arith) c.loop-i.invariant.3
+pub loop-node-preserved : goal.loop-node-preserved
+loop-node-preserved c =
+    let p = c.args.plan in
+    let k = c.loop-k.k in
+    let n = c.loop-node.node-index in
+    let m = 64 * k + c.from.result - 64 * k in
+    let l = drop (64 * k) p.nodes in
+    let here : n < m = omega (arith, length-take m l) in
+    let node = ap (λ (x : Node). x.kind) (sym (get_or-drop (64 * k) p.nodes n past_node) ∙ sym (get_or-take m l n past_node here)) in
+    elim c.match-node.branch [
+      | in-Event w ↦ rw (w.em-is, w.from-in-Event.ensures) (counting_one p c.requires k (omega arith) n (omega arith) c.loop-node.em c.loop-node.invariant w.in-Event.e (node ∙ w.in-Event.is))
+      | in_default w ↦ rw w.em-is (counting_none p c.requires k (omega arith) n (omega arith) c.loop-node.em c.loop-node.invariant (λ f e. w.in_default.not-Event f (sym node ∙ e)))
+    ]

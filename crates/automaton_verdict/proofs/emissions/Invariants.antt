@@ -1,11 +1,10 @@
--- `emissions` fills the table node by node.
-use mathlib.Core.Path.{◌≡◌}
-use Prim.Native.Nat.{◌-◌, ◌*◌, ◌≤◌}
+-- `emissions` fills the table activity by activity, and node by node.
+use Rattle.std.specs.Prelude.{◌+◌, ◌*◌}
 use Rattle.automaton_verdict.proofs.Counting.{Counting}
 use Rattle.automaton_verdict.proofs.emissions.Given as goal
 
-abbrev pub invariant-loop-i : goal.invariant-loop-i
-invariant-loop-i l = (l.i ≤ l.end) × (l.end ≡ 64 * l.plan.activities) × (l.end ≤ 2048) × Counting l.plan l.i l.em
+abbrev pub invariant-loop-k : goal.invariant-loop-k
+invariant-loop-k l = Counting l.plan (64 * l.k) l.em
 
-abbrev pub decreases-loop-i : goal.decreases-loop-i
-decreases-loop-i l = l.end - l.i
+abbrev pub invariant-loop-node : goal.invariant-loop-node
+invariant-loop-node l = Counting l.fn.plan (64 * l.k + l.node-index) l.em

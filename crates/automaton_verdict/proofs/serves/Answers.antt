@@ -1,28 +1,26 @@
 -- `serves` answers by what the state does next.
-use mathlib.Core.Path.{sym, ap, ◌∙◌}
-use Prim.Native.Nat.{ℕ}
-use native.Mathlib.Omega.{arith}
+use Rattle.std.specs.Prelude.{ℕ}
+use Rattle.std.specs.Option.{is_some}
+use Rattle.std.proofs.Common.{ap, sym, ◌∙◌, arith}
 use Rattle.automaton.specs.Tests.{at, all}
-use Rattle.automaton.specs.Next.{chosen_of}
-use Rattle.automaton.specs.Number.{is_move, serves_next, serves}
-use Rattle.automaton_verdict.proofs.Tools.{awaited_low}
+use Rattle.automaton.specs.Next.{first_of, chosen_of}
+use Rattle.automaton.specs.Number.{serves_next, serves}
+use Rattle.automaton_verdict.proofs.Tools.{awaited_low, no_event}
 use Rattle.automaton_verdict.proofs.serves.Goals as goal
 
-pub bounds-outcomes-place : goal.bounds-outcomes-place
-bounds-outcomes-place c =
-    omega (arith, c.u8_to_usize-place.ensures, awaited_low c.args.a c.requires c.args.s c.in-Waits.e (sym c.first_of-n.ensures ∙ c.in-Waits.is))
-
-pub returns-in-Ended : goal.returns-in-Ended
-unfolding serves
-returns-in-Ended c =
-    sym (ap (serves_next c.args.a (at c.args.outcomes) c.args.s) (sym c.first_of-n.ensures ∙ c.in-Ended.is))
-
-pub returns-in-Goes : goal.returns-in-Goes
-unfolding serves
-returns-in-Goes c =
-    sym (ap (serves_next c.args.a (at c.args.outcomes) c.args.s) (sym c.first_of-n.ensures ∙ c.in-Goes.is))
+pub bounds-outcomes-from : goal.bounds-outcomes-from
+bounds-outcomes-from c =
+    omega (arith, c.from.ensures, awaited_low c.args.a.now c.requires c.args.s c.in-Waits.e (sym c.first_of.ensures ∙ c.in-Waits.is))
 
 pub returns-in-Waits : goal.returns-in-Waits
 unfolding serves
 returns-in-Waits c =
-    c.serves_all.ensures ∙ ap (λ (k : ℕ). all (at c.args.outcomes k) (λ q. is_move (chosen_of c.args.a c.args.s c.in-Waits.e q))) c.u8_to_usize-place.ensures ∙ sym (ap (serves_next c.args.a (at c.args.outcomes) c.args.s) (sym c.first_of-n.ensures ∙ c.in-Waits.is))
+    let a = c.args.a.now in
+    let o = at c.args.outcomes.now in
+    c.serves_all.ensures ∙ ap (λ (k : ℕ). all (o k) (λ q. is_some (chosen_of a c.args.s c.in-Waits.e q))) c.from.ensures ∙ sym (ap (serves_next a o c.args.s) (sym c.first_of.ensures ∙ c.in-Waits.is))
+
+pub returns-in_default : goal.returns-in_default
+unfolding serves
+returns-in_default c =
+    let a = c.args.a.now in
+    sym (no_event a (at c.args.outcomes.now) c.args.s (first_of a c.args.s) (λ e h. c.in_default.not-Waits e (c.first_of.ensures ∙ h)))

@@ -1,27 +1,41 @@
 -- `state_verdict` answers the first of the numbers 21 to 23 that has a state at fault.
-use mathlib.Core.Path.{sym}
-use native.Mathlib.Omega.{arith}
-use Rattle.plan.specs.declared.Verdict.{Verdict}
+use Rattle.std.proofs.Common.{refl, sym, ◌∙◌, arith, rules, tests}
+use Rattle.std.specs.Prelude.{Ok}
 use Rattle.automaton.specs.Tests.{at}
+use Rattle.automaton.specs.Number.{no_way_out, branches, serves}
+use Rattle.automaton.proofs.Laws.Lowest.{lowest_by_find}
 use Rattle.automaton_verdict.proofs.Tools.{state_21, state_22, state_23, state_on}
 use Rattle.automaton_verdict.proofs.state_verdict.Goals as goal
 
-pub returns-then-out-states : goal.returns-then-out-states
-returns-then-out-states c =
-    let x = c.args in
-    sym (state_21 x.a (at x.outcomes) Verdict.Accepted c.lowest_way_out-out.result c.lowest_way_out-out.ensures (omega (arith, c.u8_to_usize-states.ensures)))
+pub returns-in-Some : goal.returns-in-Some
+returns-in-Some c =
+    let a = c.args.a.now in
+    let o = at c.args.outcomes.now in
+    let out = rw c.in-Some.is at (lowest_by_find _ _ _ _ (no_way_out a) refl c.find.ensures.ran (λ s q z. search (rules, tests)) (λ s q z. (search (rules, tests), search (rules, tests)))) in
+    rw c.at.ensures (sym (state_21 a o (Ok tt) c.from.result (c.from.ensures ∙ out.1) (omega (arith, out.0))))
 
-pub returns-then-branch-states : goal.returns-then-branch-states
-returns-then-branch-states c =
-    let x = c.args in
-    sym (state_22 x.a (at x.outcomes) Verdict.Accepted c.lowest_way_out-out.result c.lowest_way_out-out.ensures (λ l. omega (arith, c.u8_to_usize-states.ensures)) c.lowest_branch-branch.result c.lowest_branch-branch.ensures (omega (arith, c.u8_to_usize-states.ensures)))
+pub returns-in-Some-find : goal.returns-in-Some-find
+returns-in-Some-find c =
+    let a = c.args.a.now in
+    let o = at c.args.outcomes.now in
+    let out = rw c.in_default.is at (lowest_by_find _ _ _ _ (no_way_out a) refl c.find.ensures.ran (λ s q z. search (rules, tests)) (λ s q z. (search (rules, tests), search (rules, tests)))) in
+    let branch = rw c.in-Some-find.is at (lowest_by_find _ _ _ _ (branches a) refl c.find-2.ensures.ran (λ s q z. search (rules, tests)) (λ s q z. (search (rules, tests), search (rules, tests)))) in
+    rw c.at-in-Some-find.ensures (sym (state_22 a o (Ok tt) a.states out (λ l. omega arith) c.from-in-Some-find.result (c.from-in-Some-find.ensures ∙ branch.1) (omega (arith, branch.0))))
 
-pub returns-then-missing-states : goal.returns-then-missing-states
-returns-then-missing-states c =
-    let x = c.args in
-    sym (state_23 x.a (at x.outcomes) Verdict.Accepted c.lowest_way_out-out.result c.lowest_way_out-out.ensures (λ l. omega (arith, c.u8_to_usize-states.ensures)) c.lowest_branch-branch.result c.lowest_branch-branch.ensures (λ l. omega (arith, c.u8_to_usize-states.ensures)) c.lowest_missing-missing.result c.lowest_missing-missing.ensures (omega (arith, c.u8_to_usize-states.ensures)))
+pub returns-in-Some-find-2 : goal.returns-in-Some-find-2
+returns-in-Some-find-2 c =
+    let a = c.args.a.now in
+    let o = at c.args.outcomes.now in
+    let out = rw c.in_default.is at (lowest_by_find _ _ _ _ (no_way_out a) refl c.find.ensures.ran (λ s q z. search (rules, tests)) (λ s q z. (search (rules, tests), search (rules, tests)))) in
+    let branch = rw c.in_default-find.is at (lowest_by_find _ _ _ _ (branches a) refl c.find-2.ensures.ran (λ s q z. search (rules, tests)) (λ s q z. (search (rules, tests), search (rules, tests)))) in
+    let missing = rw c.in-Some-find-2.is at (lowest_by_find _ _ _ _ (serves a o) refl c.find-3.ensures.ran (λ s q z. search (rules, tests)) (λ s q z. (search (rules, tests), search (rules, tests)))) in
+    rw c.at-in-Some-find-2.ensures (sym (state_23 a o (Ok tt) a.states out (λ l. omega arith) a.states branch (λ l. omega arith) c.from-in-Some-find-2.result (c.from-in-Some-find-2.ensures ∙ missing.1) (omega (arith, missing.0))))
 
 pub returns : goal.returns
 returns c =
-    let x = c.args in
-    sym (state_on x.a (at x.outcomes) Verdict.Accepted c.lowest_way_out-out.result c.lowest_way_out-out.ensures (λ l. omega (arith, c.u8_to_usize-states.ensures)) c.lowest_branch-branch.result c.lowest_branch-branch.ensures (λ l. omega (arith, c.u8_to_usize-states.ensures)) c.lowest_missing-missing.result c.lowest_missing-missing.ensures (λ l. omega (arith, c.u8_to_usize-states.ensures)))
+    let a = c.args.a.now in
+    let o = at c.args.outcomes.now in
+    let out = rw c.in_default.is at (lowest_by_find _ _ _ _ (no_way_out a) refl c.find.ensures.ran (λ s q z. search (rules, tests)) (λ s q z. (search (rules, tests), search (rules, tests)))) in
+    let branch = rw c.in_default-find.is at (lowest_by_find _ _ _ _ (branches a) refl c.find-2.ensures.ran (λ s q z. search (rules, tests)) (λ s q z. (search (rules, tests), search (rules, tests)))) in
+    let missing = rw c.in_default-find-2.is at (lowest_by_find _ _ _ _ (serves a o) refl c.find-3.ensures.ran (λ s q z. search (rules, tests)) (λ s q z. (search (rules, tests), search (rules, tests)))) in
+    sym (state_on a o (Ok tt) a.states out (λ l. omega arith) a.states branch (λ l. omega arith) a.states missing (λ l. omega arith))

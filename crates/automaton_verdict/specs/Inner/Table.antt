@@ -1,6 +1,5 @@
 -- What the contracts behind `Laws/Table` cite.
 use Rattle.std.specs.Prelude.{◌≡◌, List, ℕ, ◌+◌, ◌*◌, ◌<◌}
-use Rattle.plan.specs.declared.Kind.{Kind}
 use Rattle.plan.specs.declared.Plan.{Plan}
 use Rattle.plan.specs.Plan.{activity_of, events_in}
 use Rattle.automaton.specs.Tests.{at}
@@ -10,10 +9,3 @@ use Rattle.automaton_counts.specs.Inner.Emits.{Few}
 pub record Table (p : Plan) (em : List ℕ) : Type 0 where
   pub counts : (k e : ℕ) → k < p.activities → e < 16 → at em (16 * k + e) ≡ events_in e (activity_of p k)
   pub few : Few em
-
--- the event of a node; 16 if it is none
-abbrev pub event_number : Kind → ℕ
-event_number (Kind.Action n x) = 16
-event_number (Kind.Claim r) = 16
-event_number (Kind.Release r) = 16
-event_number (Kind.Event e) = e

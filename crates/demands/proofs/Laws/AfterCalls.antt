@@ -1,9 +1,8 @@
 -- After any calls the run's last reading and its stop are those of the log, and it is in limits.
-use Rattle.std.specs.Prelude.{◌≡◌, refl, List, [], ◌∷◌, ◌↔◌, ℕ}
+use Rattle.std.specs.Prelude.{◌≡◌, refl, List, [], ◌∷◌, ◌↔◌, ℕ, Option, Some, None}
 use Rattle.std.proofs.Common.{sym, ap, ◌∙◌, subst, inl, inr, ⊎_elim, arith}
 use Rattle.time.specs.declared.Clock.{Clock}
 use Rattle.run.specs.declared.Run.{Run}
-use Rattle.run_checks.specs.declared.Halt.{Halt}
 use Rattle.run_checks.specs.declared.Stop.{Stop}
 use Rattle.run.specs.declared.Call.{Call}
 use Rattle.run.specs.declared.Reply.{Reply}
@@ -29,12 +28,12 @@ use Rattle.demands.specs.ByLog.{last_reading}
 pub record After (log : Log) (run : Run) : Type 0 where
   pub limits : RunInLimits run
   pub last : (StoppedIn log → ⊥) → run.last.0 ≡ last_reading log
-  pub halted : (s : Stop) → (run.halt ≡ Halt.Stopped s) ↔ StoppedBy log s
+  pub halted : (s : Stop) → (run.halt ≡ Some s) ↔ StoppedBy log s
 
-pub going_stopped : {A : Type 0} {s : Stop} → Halt.Going ≡ Halt.Stopped s → A
+pub going_stopped : {A : Type 0} {s : Stop} → None ≡ Some s → A
 going_stopped e = absurd (let z : ◌≡◌ {A = ℕ} 0 1 = cc in omega arith)
 
-same_halt : {s u : Stop} → Halt.Stopped s ≡ Halt.Stopped u → s ≡ u
+same_halt : {s u : Stop} → Some s ≡ Some u → s ≡ u
 same_halt e = cc
 
 pub reading_is : (c : Call) → (reading_of c).0 ≡ reading c
@@ -52,14 +51,14 @@ Other (Reply.Stopped s) = ⊥
 
 module _ (log : Log) (run : Run) (a : After log run) (c : Call) where
   -- a call of a run that has stopped
-  kept : (s : Stop) → run.halt ≡ Halt.Stopped s → After (said c (call_of run c).reply ∷ log) (call_of run c).run
+  kept : (s : Stop) → run.halt ≡ Some s → After (said c (call_of run c).reply ∷ log) (call_of run c).run
   kept s h = subst (λ (x : Answer). After (said c x.reply ∷ log) x.run) (sym (stop_kept run s c ((in_limits_lem run).1 a.limits) h)) record {
     limits = a.limits;
     last = λ n. absurd (n (inl tt));
-    halted = λ u. (λ q. inl (ap Reply.Stopped (same_halt (sym h ∙ q))), ⊎_elim (λ q. h ∙ ap Halt.Stopped (same_stop q)) (λ q. (a.halted u).1 q));
+    halted = λ u. (λ q. inl (ap Reply.Stopped (same_halt (sym h ∙ q))), ⊎_elim (λ q. h ∙ ap Some (same_stop q)) (λ q. (a.halted u).1 q));
   }
 
-  module _ (going : run.halt ≡ Halt.Going) where
+  module _ (going : run.halt ≡ None) where
     never : (s : Stop) → StoppedBy log s → ⊥
     never s q = going_stopped (sym going ∙ (a.halted s).1 q)
 
@@ -68,7 +67,7 @@ module _ (log : Log) (run : Run) (a : After log run) (c : Call) where
     unstopped r o s (inr q) = never s q
 
     -- an answer that is neither refused nor stopped
-    goes_on : (r : Reply) (next : Run) → Other r → RunInLimits next → next.last ≡ reading_of c → next.halt ≡ Halt.Going → reading c ≡ last_reading (said c r ∷ log) → After (said c r ∷ log) next
+    goes_on : (r : Reply) (next : Run) → Other r → RunInLimits next → next.last ≡ reading_of c → next.halt ≡ None → reading c ≡ last_reading (said c r ∷ log) → After (said c r ∷ log) next
     goes_on r next o l q h e = record { limits = l; last = λ n. ap (λ (t : Clock). t.0) q ∙ reading_is c ∙ e; halted = λ s. (λ z. going_stopped (sym h ∙ z), λ z. absurd (unstopped r o s z)) }
 
     by_reply : (r : Reply) (next : Run) → RunInLimits next → Right (reading_of c) r next → ((f : Refusal) → r ≡ Reply.Refused f → next ≡ run) → After (said c r ∷ log) next
@@ -84,7 +83,7 @@ module _ (log : Log) (run : Run) (a : After log run) (c : Call) where
     by_reply (Reply.Stopped s) next l q u = record {
       limits = l;
       last = λ n. absurd (n (inl tt));
-      halted = λ v. (λ z. inl (ap Reply.Stopped (same_halt (sym q.1 ∙ z))), ⊎_elim (λ z. q.1 ∙ ap Halt.Stopped (same_stop z)) (λ z. absurd (never v z)));
+      halted = λ v. (λ z. inl (ap Reply.Stopped (same_halt (sym q.1 ∙ z))), ⊎_elim (λ z. q.1 ∙ ap Some (same_stop z)) (λ z. absurd (never v z)));
     }
 
     goes : After (said c (call_of run c).reply ∷ log) (call_of run c).run
@@ -93,9 +92,9 @@ module _ (log : Log) (run : Run) (a : After log run) (c : Call) where
   pub after_call : After (said c (call_of run c).reply ∷ log) (call_of run c).run
   after_call = go run.halt refl
     where
-      go : (h : Halt) → run.halt ≡ h → After (said c (call_of run c).reply ∷ log) (call_of run c).run
-      go Halt.Going e = goes e
-      go (Halt.Stopped s) e = kept s e
+      go : (h : Option Stop) → run.halt ≡ h → After (said c (call_of run c).reply ∷ log) (call_of run c).run
+      go None e = goes e
+      go (Some s) e = kept s e
 
 pub after_calls : (cs : List Call) (log : Log) (run : Run) → After log run → After (drive log run cs).log (drive log run cs).run
 after_calls [] log run a = a

@@ -1,5 +1,5 @@
 -- `answers_by_log`: from `replies`, demand 3, and how loading goes over words.
-use Rattle.std.specs.Prelude.{◌≡◌, refl, true, false, List, ◌∷◌, ◌↔◌, ℕ, ◌+◌, ◌≤◌, ◌<◌, ltb, get_or}
+use Rattle.std.specs.Prelude.{◌≡◌, refl, true, false, List, ◌∷◌, ◌↔◌, ℕ, ◌+◌, ◌≤◌, ◌<◌, ltb, get_or, Option, None}
 use Rattle.std.proofs.Common.{sym, ap, ◌∙◌, subst, ⊎_elim, arith, lt-ltb}
 use Rattle.time.specs.declared.Clock.{Clock}
 use Rattle.plan.specs.Plan.{outcomes_of}
@@ -19,7 +19,6 @@ use Rattle.run.specs.Loading.{further, most_pending}
 use Rattle.run.specs.Opening.{open_of}
 use Rattle.run.specs.Calls.{call_of, kind_of, cleared}
 use Rattle.run.specs.declared.Run.{Run}
-use Rattle.run_checks.specs.declared.Halt.{Halt}
 use Rattle.run_checks.specs.declared.Stop.{Stop}
 use Rattle.run.specs.declared.Call.{Call}
 use Rattle.run.specs.declared.Reply.{Reply}
@@ -61,7 +60,7 @@ record Facts (run : Run) (log : Log) (is : List ℕ) (S C : Ident → ℕ) (avai
   automaton : MeetsAutomaton p
   word : TheWord p log is
   place : run.progress.state ≡ state_after p is
-  loads : (t : Clock) (i : ℕ) (e : Entry) (ev o : ℕ) → run.halt ≡ Halt.Going → Clear psi slack run.last.0 (Holds run.window) t.0 → Holds run.window i e → is_started e.phase ≡ true
+  loads : (t : Clock) (i : ℕ) (e : Entry) (ev o : ℕ) → run.halt ≡ None → Clear psi slack run.last.0 (Holds run.window) t.0 → Holds run.window i e → is_started e.phase ≡ true
       → kind_of run e ≡ Kind.Event ev → ltb o (outcomes_of p ev) ≡ true
       → (us : List ℕ) × Loads p available (said (Call.Outcome t e.position e.node o) Reply.Taken ∷ log) is us (further most_pending (cleared run t i (told_of run.progress ev e o))).failure
 
@@ -99,7 +98,7 @@ module _ (run : Run) (log : Log) (is : List ℕ) (S C : Ident → ℕ) (availabl
       told_once (said (Call.Outcome t p n o) Reply.Taken ∷ log)
       (λ x q r. (of_word run log is S C available f.claim nf i m.held).unreported (subst (Reported log) (sym q.0 ∙ (λ k. record { position = sym m.position k; node = sym m.node k })) r), f.claim.reported_once)
 
-  loading : (t : Clock) (p n o i e : ℕ) → Places.Learns run t p n o i e → (g : Failure) → (loading_after run t o i e ≡ g) ↔ After K (Call.Outcome t p n o) g
+  loading : (t : Clock) (p n o i e : ℕ) → Places.Learns run t p n o i e → (g : Option Failure) → (loading_after run t o i e ≡ g) ↔ After K (Call.Outcome t p n o) g
   loading t p n o i e l g = (
     λ q. subst (After K (Call.Outcome t p n o)) q (ends t p n o i e l),
     λ q. (one_loading run.plan f.lawful available (said (Call.Outcome t p n o) Reply.Taken ∷ log) (unique t p n o i e l) (takes_more run.plan log (said (Call.Outcome t p n o) Reply.Taken) is f.word.taken) (ends t p n o i e l).1 q.1).1,

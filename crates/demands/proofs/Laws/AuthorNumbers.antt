@@ -3,14 +3,14 @@ use Rattle.std.specs.Prelude.{refl, List, ℕ}
 use Rattle.std.proofs.Common.{subst}
 use Rattle.plan.specs.Fault.{number_of}
 use Rattle.plan.specs.declared.Fault.{Fault}
-use Rattle.plan.specs.declared.Verdict.{Verdict}
+use Rattle.plan.specs.Verdict.{faulty}
 use Rattle.demands.specs.Accepted.{Bytes}
 use Rattle.demands.specs.Verdicts.{Judged, RefusedAs}
 use Rattle.demands.proofs.Laws.VerdictsHold.{verdict}
 use Rattle.demands.specs.AuthorNumbers.{RefusedFor, StatementAuthorNumbers}
 
 module _ (b : List ℕ) (place : ℕ) where
-  refused_for : (f : Fault) → Judged b (Verdict.Refused f place) → RefusedFor b place (number_of f)
+  refused_for : (f : Fault) → Judged b (faulty f place) → RefusedFor b place (number_of f)
   refused_for Fault.Ends q = RefusedFor.number1 q
   refused_for Fault.Map q = RefusedFor.number2 q
   refused_for Fault.Count q = RefusedFor.number3 q
@@ -35,8 +35,8 @@ module _ (b : List ℕ) (place : ℕ) where
   refused_for Fault.TooManyPending q = RefusedFor.number26 q
 
   module _ (are : Bytes b) where
-    refused_as : (f : Fault) → Judged b (Verdict.Refused f place) → RefusedAs b (number_of f) place
-    refused_as f q = record { fault = f; answered = (verdict b (Verdict.Refused f place) are).1 q; numbered = refl }
+    refused_as : (f : Fault) → Judged b (faulty f place) → RefusedAs b (number_of f) place
+    refused_as f q = record { fault = f; answered = (verdict b (faulty f place) are).1 q; numbered = refl }
 
     from_number_lem : (n : ℕ) → RefusedFor b place n → RefusedAs b n place
     from_number_lem _ (RefusedFor.number1 q) = refused_as Fault.Ends q
@@ -64,6 +64,6 @@ module _ (b : List ℕ) (place : ℕ) where
 
 pub author_numbers : StatementAuthorNumbers
 author_numbers b n place are = (
-  (λ r. subst (RefusedFor b place) r.numbered (refused_for b place r.fault ((verdict b (Verdict.Refused r.fault place) are).0 r.answered))),
+  (λ r. subst (RefusedFor b place) r.numbered (refused_for b place r.fault ((verdict b (faulty r.fault place) are).0 r.answered))),
   from_number_lem b place are n,
 )

@@ -1,5 +1,5 @@
 -- Of a run whose window is what demand 3 says, the condition of each reply over its places is the one over the log.
-use Rattle.std.specs.Prelude.{◌≡◌, refl, true, List, ◌∷◌, ◌⊎◌, ◌↔◌, ℕ}
+use Rattle.std.specs.Prelude.{◌≡◌, refl, true, List, ◌∷◌, ◌⊎◌, ◌↔◌, ℕ, Option, Some, None}
 use Rattle.std.proofs.Common.{sym, ap, ◌∙◌, subst, true≢false, inl, inr, ⊎_elim, arith}
 use Rattle.std.proofs.Math.Decide.{ℕ_discrete}
 use Rattle.time.specs.declared.Clock.{Clock}
@@ -11,7 +11,6 @@ use Rattle.times_combined.specs.Paths.{Follows, Lawful}
 use Rattle.run_window.specs.Window.{is_held, starts_before}
 use Rattle.run_window.proofs.Laws.Tests.{free_true, free_or_held, unfree_held}
 use Rattle.run.specs.declared.Run.{Run}
-use Rattle.run_checks.specs.declared.Halt.{Halt}
 use Rattle.run_checks.specs.declared.Stop.{Stop}
 use Rattle.run.specs.declared.Call.{Call}
 use Rattle.run.specs.declared.Reply.{Reply}
@@ -52,17 +51,17 @@ stopped_in mathlib.Core.List.[] s x' = elim x' [ ]
 stopped_in (y ∷ log) s (inl q) = inl (subst Stops (sym q) tt)
 stopped_in (y ∷ log) s (inr q) = inr (stopped_in log s q)
 
-none_full : Failure.None ≡ Failure.Full → ⊥
+none_full : None ≡ Some Failure.Full → ⊥
 none_full e = let z : ◌≡◌ {A = ℕ} 0 1 = cc in omega arith
 
-none_beyond : Failure.None ≡ Failure.Beyond → ⊥
+none_beyond : None ≡ Some Failure.Beyond → ⊥
 none_beyond e = let z : ◌≡◌ {A = ℕ} 0 1 = cc in omega arith
 
 module _ (run : Run) (log : Log) (is : List ℕ) (S C : Ident → ℕ) (available : ℕ → ℕ) (d : Demand3 run.plan run.psi.0 run.slack available is S C (record { log = log; run = run })) (nf : FailedIn log → ⊥)
     (lawful : Lawful run.plan) (automaton : MeetsAutomaton run.plan) (word : TheWord run.plan log is)
     (limits : RunInLimits run) (place : run.progress.state ≡ state_after run.plan is)
-    (last : (StoppedIn log → ⊥) → run.last.0 ≡ last_reading log) (halted : (s : Stop) → (run.halt ≡ Halt.Stopped s) ↔ StoppedBy log s)
-    (loading : (t : Clock) (p n o i e : ℕ) → Places.Learns run t p n o i e → (f : Failure) → (loading_after run t o i e ≡ f) ↔ After (known run log is S C available d nf) (Call.Outcome t p n o) f) where
+    (last : (StoppedIn log → ⊥) → run.last.0 ≡ last_reading log) (halted : (s : Stop) → (run.halt ≡ Some s) ↔ StoppedBy log s)
+    (loading : (t : Clock) (p n o i e : ℕ) → Places.Learns run t p n o i e → (f : Option Failure) → (loading_after run t o i e ≡ f) ↔ After (known run log is S C available d nf) (Call.Outcome t p n o) f) where
   abbrev K : Known
   K = known run log is S C available d nf
 
@@ -71,15 +70,15 @@ module _ (run : Run) (log : Log) (is : List ℕ) (S C : Ident → ℕ) (availabl
 
   -- ---- the order
 
-  unstopped : run.halt ≡ Halt.Going → StoppedIn log → ⊥
+  unstopped : run.halt ≡ None → StoppedIn log → ⊥
   unstopped g q = let s = stopped_by_lem log q in going_stopped (sym g ∙ (halted s.0).1 s.1)
 
   going : (StoppedIn log → ⊥) → Places.Going run
   going n = record { limits = limits; going = go run.halt refl }
     where
-      go : (h : Halt) → run.halt ≡ h → run.halt ≡ Halt.Going
-      go Halt.Going e = e
-      go (Halt.Stopped s) e = absurd (n (stopped_in log s ((halted s).0 e)))
+      go : (h : Option Stop) → run.halt ≡ h → run.halt ≡ None
+      go None e = e
+      go (Some s) e = absurd (n (stopped_in log s ((halted s).0 e)))
 
   rises_to : (t : Clock) → Places.Rises run t → Rises K t.0
   rises_to t r = let n = unstopped r.going.going in record { going = n; rises = (let u = last n in let v = r.rises in omega arith) }
@@ -171,7 +170,7 @@ module _ (run : Run) (log : Log) (is : List ℕ) (S C : Ident → ℕ) (availabl
   learns_from t p n o e l = let q = reports_from (Call.Outcome t p n o) l.node (Kind.Event e) l.reports in (q.0, record { reports = q.1; event = q.2; has = l.has })
 
   -- after the report of a marker nothing is loaded
-  marked : (t : Clock) (p n o e : ℕ) → Learns K (Call.Outcome t p n o) o e → outcomes_of run.plan e ≡ 1 → After K (Call.Outcome t p n o) Failure.None
+  marked : (t : Clock) (p n o e : ℕ) → Learns K (Call.Outcome t p n o) o e → outcomes_of run.plan e ≡ 1 → After K (Call.Outcome t p n o) None
   marked t p n o e l one =
       (is, Loads.ends (EndsAt.whole (stuck_marked run.plan lawful log is word.taken l.node e l.reports.kind one automaton (Call.Outcome t p n o) Reply.Taken (λ y u q. named l.reports.names ∙ q.0) word.whole)))
     where
@@ -183,11 +182,11 @@ module _ (run : Run) (log : Log) (is : List ℕ) (S C : Ident → ℕ) (availabl
   by_outcomes t p n o i e l = elim (ℕ_discrete (outcomes_of run.plan e) 1) [ yes q ↦ inl q | no q ↦ inr (record { learns = l; several = several_if o (outcomes_of run.plan e) l.has q }) ]
 
   -- loading fails after the outcome of an event with several alone
-  fails_deciding : (t : Clock) (p n o e : ℕ) (f : Failure) → (Failure.None ≡ f → ⊥) → Learns K (Call.Outcome t p n o) o e → After K (Call.Outcome t p n o) f → (i : ℕ) × Places.Decides run t p n o i e × (loading_after run t o i e ≡ f)
+  fails_deciding : (t : Clock) (p n o e : ℕ) (f : Option Failure) → (None ≡ f → ⊥) → Learns K (Call.Outcome t p n o) o e → After K (Call.Outcome t p n o) f → (i : ℕ) × Places.Decides run t p n o i e × (loading_after run t o i e ≡ f)
   fails_deciding t p n o e f fails l q =
       let m = learns_from t p n o e l in
       let ends = loading t p n o m.0 e m.1 in
-      ⊎_elim (λ one. absurd (fails (sym ((ends Failure.None).1 (marked t p n o e l one)) ∙ (ends f).1 q))) (λ k. (m.0, k, (ends f).1 q)) (by_outcomes t p n o m.0 e m.1)
+      ⊎_elim (λ one. absurd (fails (sym ((ends None).1 (marked t p n o e l one)) ∙ (ends f).1 q))) (λ k. (m.0, k, (ends f).1 q)) (by_outcomes t p n o m.0 e m.1)
 
   halts_to : (c : Call) (s : Stop) → Places.Halts run c s → Halts K c s
   halts_to c s (Places.Halts.kept l h) = Halts.kept ((halted s).0 h)
@@ -195,8 +194,8 @@ module _ (run : Run) (log : Log) (is : List ℕ) (S C : Ident → ℕ) (availabl
       Halts.number42 (subst (Rises K) (reading_is c) (rises_to (reading_of c) r)) (subst (λ (t : ℕ). Earliest C (Overdue K t) (node_of run log is S C available d nf i)) (reading_is c) (overdue_earliest run log is S C available d nf (reading_of c) i f))
   halts_to c s (Places.Halts.number41 i r f) =
       Halts.number41 (subst (NotOverdue K) (reading_is c) (overdue_none (reading_of c) r)) (subst (λ (t : ℕ). FirstServed K (Late K t) (node_of run log is S C available d nf i)) (reading_is c) (late_served run log is S C available d nf lawful path limits (reading_of c) i f))
-  halts_to c s (Places.Halts.number43 {t} {p} {n} {o} i e l q) = Halts.number43 e (learns_to t p n o i e l.learns) ((loading t p n o i e l.learns Failure.Full).0 q)
-  halts_to c s (Places.Halts.number44 {t} {p} {n} {o} i e l q) = Halts.number44 e (learns_to t p n o i e l.learns) ((loading t p n o i e l.learns Failure.Beyond).0 q)
+  halts_to c s (Places.Halts.number43 {t} {p} {n} {o} i e l q) = Halts.number43 e (learns_to t p n o i e l.learns) ((loading t p n o i e l.learns (Some Failure.Full)).0 q)
+  halts_to c s (Places.Halts.number44 {t} {p} {n} {o} i e l q) = Halts.number44 e (learns_to t p n o i e l.learns) ((loading t p n o i e l.learns (Some Failure.Beyond)).0 q)
 
   halts_from : (c : Call) (s : Stop) → Halts K c s → Places.Halts run c s
   halts_from c s (Halts.kept h) = Places.Halts.kept limits ((halted s).1 h)
@@ -206,8 +205,8 @@ module _ (run : Run) (log : Log) (is : List ℕ) (S C : Ident → ℕ) (availabl
   halts_from c s (Halts.number41 {p = p} {n} r f) =
       let q = served_late run log is S C available d nf lawful path limits (reading_of c) (id p n) (subst (λ (t : ℕ). FirstServed K (Late K t) (id p n)) (sym (reading_is c)) f) in
       subst (λ (z : Id). Places.Halts run c (Stop.Late z.position z.node)) q.2 (Places.Halts.number41 q.0 (none_overdue (reading_of c) (subst (NotOverdue K) (sym (reading_is c)) r)) q.1)
-  halts_from c s (Halts.number43 {t} {p} {n} {o} e l q) = let m = fails_deciding t p n o e Failure.Full none_full l q in Places.Halts.number43 m.0 e m.1 m.2
-  halts_from c s (Halts.number44 {t} {p} {n} {o} e l q) = let m = fails_deciding t p n o e Failure.Beyond none_beyond l q in Places.Halts.number44 m.0 e m.1 m.2
+  halts_from c s (Halts.number43 {t} {p} {n} {o} e l q) = let m = fails_deciding t p n o e (Some Failure.Full) none_full l q in Places.Halts.number43 m.0 e m.1 m.2
+  halts_from c s (Halts.number44 {t} {p} {n} {o} e l q) = let m = fails_deciding t p n o e (Some Failure.Beyond) none_beyond l q in Places.Halts.number44 m.0 e m.1 m.2
 
   -- ---- ask
 
@@ -243,14 +242,14 @@ module _ (run : Run) (log : Log) (is : List ℕ) (S C : Ident → ℕ) (availabl
 
   takes_to : (c : Call) → Places.Takes run c → Takes K c
   takes_to c (Places.Takes.completion i r a) = Takes.completion (node_of run log is S C available d nf i) (kind_of run (entry_at run i)) (reports_to c i r) a
-  takes_to c (Places.Takes.outcome {t} {p} {n} {o} i e l q) = Takes.outcome e (learns_to t p n o i e l.learns) ((loading t p n o i e l.learns Failure.None).0 q)
+  takes_to c (Places.Takes.outcome {t} {p} {n} {o} i e l q) = Takes.outcome e (learns_to t p n o i e l.learns) ((loading t p n o i e l.learns None).0 q)
   takes_to c (Places.Takes.marker {t} {p} {n} {o} i e l one) = Takes.outcome e (learns_to t p n o i e l) (marked t p n o e (learns_to t p n o i e l) one)
 
   takes_from : (c : Call) → Takes K c → Places.Takes run c
   takes_from c (Takes.completion x h r a) = let p = reports_from c x h r in Places.Takes.completion p.0 p.1 (subst IsAction (sym p.2) a)
   takes_from c (Takes.outcome {t} {p} {n} {o} e l q) =
       let m = learns_from t p n o e l in
-      ⊎_elim (λ one. Places.Takes.marker m.0 e m.1 one) (λ k. Places.Takes.outcome m.0 e k ((loading t p n o m.0 e m.1 Failure.None).1 q)) (by_outcomes t p n o m.0 e m.1)
+      ⊎_elim (λ one. Places.Takes.marker m.0 e m.1 one) (λ k. Places.Takes.outcome m.0 e k ((loading t p n o m.0 e m.1 None).1 q)) (by_outcomes t p n o m.0 e m.1)
 
   -- ---- each reply
 

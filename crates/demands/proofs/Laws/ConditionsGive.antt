@@ -1,5 +1,5 @@
 -- `gives`: where the condition of a reply holds, a call gets that reply, which follows from the definition of the call.
-use Rattle.std.specs.Prelude.{◌≡◌, refl, Bool, true, false, cond, ℕ, ◌≤◌, ◌<◌, set}
+use Rattle.std.specs.Prelude.{◌≡◌, refl, Bool, true, false, cond, ℕ, ◌≤◌, ◌<◌, set, Option, Some, None}
 use Rattle.std.proofs.Common.{sym, ◌∙◌, ap, true≢false, arith}
 use borrow.Author.Tests.{lt-ltb, le-ltb, eq-eqb, ne_eqb}
 use Rattle.basis.proofs.Laws.Tells.{is_false}
@@ -12,7 +12,6 @@ use Rattle.run_window.specs.Window.{started_of, is_free, is_overdue, is_late, is
 use Rattle.run_window.proofs.Laws.Order.{starts_order, report_order, ends_order}
 use Rattle.run_checks.specs.Order.{timely_by}
 use Rattle.run.specs.declared.Run.{Run}
-use Rattle.run_checks.specs.declared.Halt.{Halt}
 use Rattle.run_checks.specs.declared.Stop.{Stop}
 use Rattle.run.specs.declared.Call.{Call}
 use Rattle.run.specs.declared.Reply.{Reply}
@@ -49,7 +48,7 @@ module _ (run : Run) (t : Clock) (go : Answer) where
   called_out : (RunInLimits run → ⊥) → called run t go ≡ refuse run Refusal.OutOfLimits
   called_out n = let l = is_false (tells_run run) n in rw l
 
-  called_kept : (s : Stop) → RunInLimits run → run.halt ≡ Halt.Stopped s → called run t go ≡ answer (Reply.Stopped s) run
+  called_kept : (s : Stop) → RunInLimits run → run.halt ≡ Some s → called run t go ≡ answer (Reply.Stopped s) run
   called_kept s r h = let l = (in_limits_lem run).1 r in rw (l, h)
 
   called_going : Going run → called run t go ≡ timely run t go
@@ -106,11 +105,11 @@ at_call run c r h q = ap reply_of (timely_call run c h) ∙ q
 
 module _ (run : Run) (t : Clock) where
   pub asked_starts : (i : ℕ) → FirstOf run (DueAt run t) (starts_before run.plan.nodes) i
-      → asked run t ≡ answer (Reply.Start (entry_at run i).position (entry_at run i).activity (entry_at run i).node) (heard run t Halt.Going run.progress (set run.window i (started_of (entry_at run i))))
+      → asked run t ≡ answer (Reply.Start (entry_at run i).position (entry_at run i).activity (entry_at run i).node) (heard run t None run.progress (set run.window i (started_of (entry_at run i))))
   unfolding asked
   asked_starts i f = rw (first_place run (is_due run.psi t) (DueAt run t) (due_places run t) (starts_before run.plan.nodes) (starts_order run.plan.nodes) i f)
 
-  pub asked_nothing : Nowhere (DueAt run t) → asked run t ≡ answer (cond (is_done run) Reply.Done Reply.Wait) (heard run t Halt.Going run.progress run.window)
+  pub asked_nothing : Nowhere (DueAt run t) → asked run t ≡ answer (cond (is_done run) Reply.Done Reply.Wait) (heard run t None run.progress run.window)
   unfolding asked
   asked_nothing n = rw (none_place run (is_due run.psi t) (DueAt run t) (due_places run t) (starts_before run.plan.nodes) (starts_order run.plan.nodes) n)
 
@@ -199,10 +198,10 @@ lacking run t o i e k l = rw (k, le-ltb o (outcomes_of run.plan e) l)
 
 -- ---- the reply of an accepted outcome, by how loading after it ends
 
-after_loading_lem : (f : Failure) (run : Run) → (after_loading f run).reply ≡ reply_after f
-after_loading_lem Failure.None run = refl
-after_loading_lem Failure.Full run = refl
-after_loading_lem Failure.Beyond run = refl
+after_loading_lem : (f : Option Failure) (run : Run) → (after_loading f run).reply ≡ reply_after f
+after_loading_lem None run = refl
+after_loading_lem (Some Failure.Full) run = refl
+after_loading_lem (Some Failure.Beyond) run = refl
 
 -- an outcome that the event has
 learns_event : (run : Run) (t : Clock) (p n o i e : ℕ) → Learns run t p n o i e → call_of run (Call.Outcome t p n o) ≡ hears run t i (entry_at run i) e o
@@ -214,7 +213,7 @@ outcome_call run t p n o i e d = learns_event run t p n o i e d.learns ∙ rw (n
 pub marker_call : (run : Run) (t : Clock) (p n o i e : ℕ) → Learns run t p n o i e → outcomes_of run.plan e ≡ 1 → call_of run (Call.Outcome t p n o) ≡ answer Reply.Taken (cleared run t i run.progress)
 marker_call run t p n o i e l one = learns_event run t p n o i e l ∙ rw (eq-eqb (outcomes_of run.plan e) 1 one)
 
-at_loading : (run : Run) (t : Clock) (p n o i e : ℕ) (f : Failure) → Decides run t p n o i e → loading_after run t o i e ≡ f → (call_of run (Call.Outcome t p n o)).reply ≡ reply_after f
+at_loading : (run : Run) (t : Clock) (p n o i e : ℕ) (f : Option Failure) → Decides run t p n o i e → loading_after run t o i e ≡ f → (call_of run (Call.Outcome t p n o)).reply ≡ reply_after f
 at_loading run t p n o i e f l q =
     ap reply_of (outcome_call run t p n o i e l) ∙ (after_loading_lem (loading_after run t o i e) _ ∙ ap reply_after q)
 
@@ -232,8 +231,8 @@ gives_stop : (run : Run) (c : Call) (s : Stop) → Halts run c s → (call_of ru
 gives_stop run c s (Halts.kept l h) = ap reply_of (call_order run c ∙ called_kept run (reading_of c) (passed run c) s l h)
 gives_stop run c _ (Halts.number42 i r f) = ap reply_of (overdue_call run c i r f)
 gives_stop run c _ (Halts.number41 i h f) = ap reply_of (late_call run c i h f)
-gives_stop run _ _ (Halts.number43 {t} {p} {n} {o} i e l q) = at_loading run t p n o i e Failure.Full l q
-gives_stop run _ _ (Halts.number44 {t} {p} {n} {o} i e l q) = at_loading run t p n o i e Failure.Beyond l q
+gives_stop run _ _ (Halts.number43 {t} {p} {n} {o} i e l q) = at_loading run t p n o i e (Some Failure.Full) l q
+gives_stop run _ _ (Halts.number44 {t} {p} {n} {o} i e l q) = at_loading run t p n o i e (Some Failure.Beyond) l q
 
 gives_asked : (run : Run) (c : Call) (r : Reply) → Asks run c r → (call_of run c).reply ≡ r
 gives_asked run _ _ (Asks.starts {t} i h f) = at_call run (Call.Ask t) _ h (ap reply_of (asked_starts run t i f))
@@ -242,7 +241,7 @@ gives_asked run _ _ (Asks.waits {t} h n e) = at_call run (Call.Ask t) _ h (asked
 
 gives_taken : (run : Run) (c : Call) → Takes run c → (call_of run c).reply ≡ Reply.Taken
 gives_taken run _ (Takes.completion {t} {p} {n} i r k) = at_report run (Call.Completion t p n) i _ r (ap reply_of (completed_action run t i (kind_of run (entry_at run i)) k))
-gives_taken run _ (Takes.outcome {t} {p} {n} {o} i e l q) = at_loading run t p n o i e Failure.None l q
+gives_taken run _ (Takes.outcome {t} {p} {n} {o} i e l q) = at_loading run t p n o i e None l q
 gives_taken run _ (Takes.marker {t} {p} {n} {o} i e l q) = ap reply_of (marker_call run t p n o i e l q)
 
 pub gives : (run : Run) (c : Call) (r : Reply) → Condition run c r → (call_of run c).reply ≡ r

@@ -1,5 +1,5 @@
 -- `met`: the reply to a call comes in its condition, by cases of the checks in their order.
-use Rattle.std.specs.Prelude.{◌≡◌, refl, true, ℕ, ◌<◌, ltb}
+use Rattle.std.specs.Prelude.{◌≡◌, refl, true, ℕ, ◌<◌, ltb, Option, Some, None}
 use Rattle.std.proofs.Common.{sym, ◌∙◌, ap, true≢false, arith}
 use borrow.Author.Tests.{ltb-true, ltb-false, eqb-true, eqb-false}
 use Rattle.basis.proofs.Laws.Tells.{told_false}
@@ -112,10 +112,10 @@ module _ (run : Run) (t : Clock) (p n : ℕ) (h : Timely run t) where
       by_kind i r (Kind.Event x) e = refused run c Refusal.OtherKind (Refuses.number54 i r (λ q. rw e at q))
 
   module _ (o : ℕ) where
-    met_loaded : (i e : ℕ) → Decides run t p n o i e → (f : Failure) → loading_after run t o i e ≡ f → (next : Run) → MetBy run (Call.Outcome t p n o) (after_loading f next)
-    met_loaded i e l Failure.None q next = record { condition = Takes.outcome i e l q }
-    met_loaded i e l Failure.Full q next = record { condition = Halts.number43 i e l q }
-    met_loaded i e l Failure.Beyond q next = record { condition = Halts.number44 i e l q }
+    met_loaded : (i e : ℕ) → Decides run t p n o i e → (f : Option Failure) → loading_after run t o i e ≡ f → (next : Run) → MetBy run (Call.Outcome t p n o) (after_loading f next)
+    met_loaded i e l None q next = record { condition = Takes.outcome i e l q }
+    met_loaded i e l (Some Failure.Full) q next = record { condition = Halts.number43 i e l q }
+    met_loaded i e l (Some Failure.Beyond) q next = record { condition = Halts.number44 i e l q }
 
     met_learns : MetBy run (Call.Outcome t p n o) (learns run t p n o)
     unfolding learns

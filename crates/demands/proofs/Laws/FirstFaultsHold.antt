@@ -5,7 +5,7 @@ use Rattle.std.proofs.Common.{arith}
 use Rattle.plan.specs.Fault.{number_of}
 use Rattle.plan.specs.declared.Fault.{Fault}
 use Rattle.plan.specs.declared.Plan.{Plan}
-use Rattle.plan.specs.declared.Verdict.{Verdict}
+use Rattle.plan.specs.Fields as fields
 use Rattle.format.specs.Format.{Format, done, field, parse, Refuses, faulty, more, Reached, short}
 use Rattle.format.proofs.Laws.Reading.{fault_given, on_reached}
 use Rattle.format.specs.Writing.{Agree}
@@ -20,15 +20,15 @@ pub refused_exactly : StatementRefusedExactly
 refused_exactly b f k bytes = P.refused_exactly b bytes f k
 
 -- a number up to 8 is no activity's and no automaton's
-of_reading : (b : List ℕ) (f : Fault) (k : ℕ) → number_of f ≤ 8 → Judged b (Verdict.Refused f k) → Refuses 1 fault_order 6 b plan_file (number_of f) k
+of_reading : (b : List ℕ) (f : Fault) (k : ℕ) → number_of f ≤ 8 → Judged b (fields.faulty f k) → Refuses 1 fault_order 6 b plan_file (number_of f) k
 of_reading b f k h (Judged.reading x) = x
 of_reading b f k h (Judged.activity {p} g x) = absurd (omega (arith, (activity_numbers p f k x).0))
 of_reading b f k h (Judged.automaton {p} g m x) = absurd (omega (arith, (automaton_numbers p f k x).0))
 
 pub unread : StatementUnread
 unread b f k bytes = (
-  λ h. of_reading b f k h.1 ((verdict b (Verdict.Refused f k) bytes).0 h.0),
-  λ r. ((verdict b (Verdict.Refused f k) bytes).1 (Judged.reading r), (reading_numbers b (number_of f) k r).1),
+  λ h. of_reading b f k h.1 ((verdict b (fields.faulty f k) bytes).0 h.0),
+  λ r. ((verdict b (fields.faulty f k) bytes).1 (Judged.reading r), (reading_numbers b (number_of f) k r).1),
 )
 
 pub place_in : StatementPlaceIn

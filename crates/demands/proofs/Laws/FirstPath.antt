@@ -1,5 +1,5 @@
 -- 44 and 43 of an opening: the tests of the first path tell them, over the words of the plan and their specified times.
-use Rattle.std.specs.Prelude.{◌≡◌, false, List, ℕ, ◌≤◌, ◌<◌, ltb, length, get_or, replicate}
+use Rattle.std.specs.Prelude.{◌≡◌, false, List, ℕ, ◌≤◌, ◌<◌, ltb, length, get_or, replicate, Ok}
 use Rattle.std.proofs.Common.{arith}
 use Rattle.std.proofs.Math.Decide.{dec_lt}
 use Rattle.std.proofs.Math.ListN.{get_or-eq_default}
@@ -8,7 +8,6 @@ use Rattle.time.specs.Time.{horizon}
 use Rattle.time.specs.declared.Clock.{Clock}
 use Rattle.plan.specs.Plan.{activity_of}
 use Rattle.plan.specs.declared.Plan.{Plan}
-use Rattle.plan.specs.declared.Verdict.{Verdict}
 use Rattle.activity.specs.Rules.{node}
 use Rattle.automaton.specs.Next.{next_of}
 use Rattle.times.specs.declared.Progress.{Progress}
@@ -36,7 +35,7 @@ first_path p ts = path_from p longest_path (next_of p.automaton p.automaton.init
 
 module _ (bytes : List ℕ) (are : Bytes bytes) (psi : Clock) (slack : ℕ) (ts : List ℕ) (l : Lasting bytes psi slack ts) where
   judged : Judged (plan_of bytes)
-  judged = accepted_laws bytes are (plan_of bytes) (λ i. record { verdict = (verdict bytes Verdict.Accepted are).1 l.earlier.earlier.earlier.accepted i; plan = (judge_of bytes).plan })
+  judged = accepted_laws bytes are (plan_of bytes) (λ i. record { verdict = (verdict bytes (Ok tt) are).1 l.earlier.earlier.earlier.accepted i; plan = (judge_of bytes).plan })
 
   at_most : (t : ℕ) → (horizon < t → ⊥) → t ≤ horizon
   at_most t n = omega arith

@@ -1,10 +1,10 @@
 -- `first` finds the place that goes first, and it finds nothing exactly where no place has what is looked for.
-use Rattle.std.specs.Prelude.{◌≡◌, refl, Bool, true, false, cond, List, [], ◌∷◌, ℕ, zero, suc, ◌+◌, ◌<◌, length, get_or}
+use Rattle.std.specs.Prelude.{◌≡◌, refl, Bool, true, false, cond, List, [], ◌∷◌, ℕ, zero, suc, ◌+◌, ◌<◌, length, get_or, Option, Some, None}
 use Rattle.std.proofs.Common.{sym, ◌∙◌, ap, subst, true≢false, arith}
 use Rattle.time.specs.declared.Clock.{Clock}
 use Rattle.run_window.specs.declared.Entry.{Entry}
 use Rattle.run_window.specs.declared.Found.{Found}
-use Rattle.run_window.specs.Window.{vacant, better, first, on_found, is_overdue, is_late, is_due, is_node}
+use Rattle.run_window.specs.Window.{vacant, better, first, on_found, is_overdue, is_late, is_due, is_node, found_at}
 use Rattle.run_window.proofs.Laws.Tests.{overdue_tells, late_tells, due_tells, node_tells}
 use Rattle.run_window.proofs.Laws.Order.{Order}
 use Rattle.run_window.proofs.Laws.Firsts.{first_found, first_nothing, nothing_first}
@@ -18,9 +18,9 @@ abbrev Below : (Entry → Bool) → (Entry → Entry → Bool) → List Entry �
 Below p goes w i e = (j : ℕ) → j < i → p (get_or w j vacant) ≡ true → goes e (get_or w j vacant) ≡ true
 
 -- of the places of w, counted from k
-abbrev Lowest : (Entry → Bool) → (Entry → Entry → Bool) → ℕ → List Entry → Found → Type 0
-Lowest p goes k w Found.Nothing = Unit {0}
-Lowest p goes k w (Found.At i e) = (j : ℕ) × (i ≡ k + j) × Below p goes w j e
+abbrev Lowest : (Entry → Bool) → (Entry → Entry → Bool) → ℕ → List Entry → Option Found → Type 0
+Lowest p goes k w None = Unit {0}
+Lowest p goes k w (Some x) = (j : ℕ) × (x.place ≡ k + j) × Below p goes w j x.entry
 
 module _ (p : Entry → Bool) (goes : Entry → Entry → Bool) (x : Entry) (w : List Entry) where
   behind : (i : ℕ) (e : Entry) → (p x ≡ true → goes e x ≡ true) → Below p goes w i e → Below p goes (x ∷ w) (suc i) e
@@ -30,22 +30,22 @@ module _ (p : Entry → Bool) (goes : Entry → Entry → Bool) (x : Entry) (w :
   front : (e : Entry) → Below p goes (x ∷ w) 0 e
   front e j l q = absurd (omega arith)
 
-  choose : (k i : ℕ) (e : Entry) (b : Bool) → goes e x ≡ b → Lowest p goes (suc k) w (Found.At i e) → Lowest p goes k (x ∷ w) (cond b (Found.At i e) (Found.At k x))
+  choose : (k i : ℕ) (e : Entry) (b : Bool) → goes e x ≡ b → Lowest p goes (suc k) w (found_at i e) → Lowest p goes k (x ∷ w) (cond b (found_at i e) (found_at k x))
   choose k i e true o (j, q, g) = (suc j, omega arith, behind j e (λ h. o) g)
   choose k i e false o (j, q, g) = (0, omega arith, front x)
 
-  step : (k : ℕ) (b : Bool) → p x ≡ b → (r : Found) → Lowest p goes (suc k) w r → Lowest p goes k (x ∷ w) (cond b (better goes k x r) r)
-  step k true t Found.Nothing g = (0, omega arith, front x)
-  step k true t (Found.At i e) g = choose k i e (goes e x) refl g
-  step k false f Found.Nothing g = tt
-  step k false f (Found.At i e) (j, q, g) = (suc j, omega arith, behind j e (λ h. absurd (true≢false (sym h ∙ f))) g)
+  step : (k : ℕ) (b : Bool) → p x ≡ b → (r : Option Found) → Lowest p goes (suc k) w r → Lowest p goes k (x ∷ w) (cond b (better goes k x r) r)
+  step k true t None g = (0, omega arith, front x)
+  step k true t (Some y) g = choose k y.place y.entry (goes y.entry x) refl g
+  step k false f None g = tt
+  step k false f (Some x) (j, q, g) = (suc j, omega arith, behind j x.entry (λ h. absurd (true≢false (sym h ∙ f))) g)
 
 lowest : (p : Entry → Bool) (goes : Entry → Entry → Bool) (k : ℕ) (w : List Entry) → Lowest p goes k w (first p goes k w)
 unfolding first
 lowest p goes k [] = tt
 lowest p goes k (x ∷ w) = step p goes x w k (p x) refl (first p goes (suc k) w) (lowest p goes (suc k) w)
 
-first_lowest : (p : Entry → Bool) (goes : Entry → Entry → Bool) (w : List Entry) (i : ℕ) (e : Entry) → first p goes 0 w ≡ Found.At i e → Below p goes w i e
+first_lowest : (p : Entry → Bool) (goes : Entry → Entry → Bool) (w : List Entry) (i : ℕ) (e : Entry) → first p goes 0 w ≡ found_at i e → Below p goes w i e
 first_lowest p goes w i e q = one (subst (Lowest p goes 0 w) q (lowest p goes 0 w))
   where
     one : (j : ℕ) × (i ≡ 0 + j) × Below p goes w j e → Below p goes w i e
@@ -68,7 +68,7 @@ module _ (run : Run) (p : Entry → Bool) (P : ℕ → Type 0) (tells : Tells ru
   inside : (i : ℕ) → P i → i < length run.window
   inside i h = past_end p tells.vacancy run.window i (tells.passes i h)
 
-  found_here : (i : ℕ) → first p goes 0 run.window ≡ Found.At i (entry_at run i) → FirstOf run P goes i
+  found_here : (i : ℕ) → first p goes 0 run.window ≡ found_at i (entry_at run i) → FirstOf run P goes i
   found_here i q =
       let f = first_found p goes order run.window i (entry_at run i) q in
       record {
@@ -77,10 +77,10 @@ module _ (run : Run) (p : Entry → Bool) (P : ℕ → Type 0) (tells : Tells ru
         lowest = λ j h l. first_lowest p goes run.window i (entry_at run i) q j l (tells.passes j h);
       }
 
-  found_its : (i : ℕ) (e : Entry) → first p goes 0 run.window ≡ Found.At i e → first p goes 0 run.window ≡ Found.At i (entry_at run i)
-  found_its i e q = q ∙ ap (Found.At i) (sym (first_found p goes order run.window i e q).stands)
+  found_its : (i : ℕ) (e : Entry) → first p goes 0 run.window ≡ found_at i e → first p goes 0 run.window ≡ found_at i (entry_at run i)
+  found_its i e q = q ∙ ap (found_at i) (sym (first_found p goes order run.window i e q).stands)
 
-  found_none : first p goes 0 run.window ≡ Found.Nothing → Nowhere P
+  found_none : first p goes 0 run.window ≡ None → Nowhere P
   found_none q i h = true≢false (sym (tells.passes i h) ∙ first_nothing p goes order run.window q i (inside i h))
 
   -- two places cannot both go first
@@ -98,22 +98,22 @@ module _ (run : Run) (p : Entry → Bool) (P : ℕ → Type 0) (tells : Tells ru
       → Q (on_found (first p goes 0 run.window) f z)
   by_place Q f z one none = go (first p goes 0 run.window) refl
     where
-      go : (r : Found) → first p goes 0 run.window ≡ r → Q (on_found r f z)
-      go Found.Nothing q = none (found_none q)
-      go (Found.At i e) q =
-          subst (λ (x : Entry). Q (f i x)) (first_found p goes order run.window i e q).stands (one i (found_here i (found_its i e q)))
+      go : (r : Option Found) → first p goes 0 run.window ≡ r → Q (on_found r f z)
+      go None q = none (found_none q)
+      go (Some y) q =
+          subst (λ (x : Entry). Q (f y.place x)) (first_found p goes order run.window y.place y.entry q).stands (one y.place (found_here y.place (found_its y.place y.entry q)))
 
-  pub first_place : (i : ℕ) → FirstOf run P goes i → first p goes 0 run.window ≡ Found.At i (entry_at run i)
+  pub first_place : (i : ℕ) → FirstOf run P goes i → first p goes 0 run.window ≡ found_at i (entry_at run i)
   first_place i f = go (first p goes 0 run.window) refl
     where
-      go : (r : Found) → first p goes 0 run.window ≡ r → first p goes 0 run.window ≡ Found.At i (entry_at run i)
-      go Found.Nothing q = absurd (found_none q i f.has)
-      go (Found.At j e) q =
-          let h = found_its j e q in
-          let z : j ≡ i = only j i (found_here j h) f in
-          subst (λ (n : ℕ). first p goes 0 run.window ≡ Found.At n (entry_at run n)) z h
+      go : (r : Option Found) → first p goes 0 run.window ≡ r → first p goes 0 run.window ≡ found_at i (entry_at run i)
+      go None q = absurd (found_none q i f.has)
+      go (Some x) q =
+          let h = found_its x.place x.entry q in
+          let z : x.place ≡ i = only x.place i (found_here x.place h) f in
+          subst (λ (n : ℕ). first p goes 0 run.window ≡ found_at n (entry_at run n)) z h
 
-  pub none_place : Nowhere P → first p goes 0 run.window ≡ Found.Nothing
+  pub none_place : Nowhere P → first p goes 0 run.window ≡ None
   none_place n = nothing_first p goes order run.window (λ j l. unpassed j (p (entry_at run j)) refl)
     where
       unpassed : (j : ℕ) (b : Bool) → p (entry_at run j) ≡ b → p (entry_at run j) ≡ false

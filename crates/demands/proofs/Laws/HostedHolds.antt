@@ -1,10 +1,9 @@
 -- `held_unchanged`, `host_log`, `host_opening`, `host_demand_3`, `host_never_50`, `host_stop_kept`, `host_stop_repeated`,
 -- `host_unopened`: what is proved of a run holds of the bytes that a host keeps.
-use Rattle.std.specs.Prelude.{◌≡◌, refl, Bool, true, false, cond, List, [], ◌∷◌, map, ℕ}
+use Rattle.std.specs.Prelude.{◌≡◌, refl, Bool, true, false, cond, List, [], ◌∷◌, map, ℕ, Option, Some, None}
 use Rattle.std.proofs.Common.{sym, ◌∙◌, ap, subst, true≢false, ⊎_elim}
 use Rattle.basis.specs.Lists.{Among}
 use Rattle.judge.specs.Judge.{judge_of}
-use Rattle.run_checks.specs.declared.Halt.{Halt}
 use Rattle.run_checks.specs.declared.Refusal.{Refusal}
 use Rattle.run_checks.specs.declared.Stop.{Stop}
 use Rattle.run.specs.declared.Run.{Run}
@@ -65,18 +64,18 @@ held_unchanged h c = record {
 run_kept : (run : Run) (c : Call) → is_kept run.halt (call_of run c).reply ≡ true → (call_of run c).run ≡ run
 run_kept run c k = go run.halt refl (call_of run c).reply refl k
   where
-    stopped : (s : Stop) → run.halt ≡ Halt.Stopped s → (b : Bool) → run_in_limits run ≡ b → (call_of run c).run ≡ run
+    stopped : (s : Stop) → run.halt ≡ Some s → (b : Bool) → run_in_limits run ≡ b → (call_of run c).run ≡ run
     stopped s e true l = ap (λ (a : Answer). a.run) (stop_kept run s c l e)
     stopped s e false l = ap (λ (a : Answer). a.run) (out_gets_50 run c l)
 
-    go : (x : Halt) → run.halt ≡ x → (r : Reply) → (call_of run c).reply ≡ r → is_kept x r ≡ true → (call_of run c).run ≡ run
-    go (Halt.Stopped s) e r q k = stopped s e (run_in_limits run) refl
-    go Halt.Going e (Reply.Refused f) q k = refused_unchanged run c f q
-    go Halt.Going e (Reply.Start p a n) q k = absurd (true≢false (sym k))
-    go Halt.Going e Reply.Wait q k = absurd (true≢false (sym k))
-    go Halt.Going e Reply.Done q k = absurd (true≢false (sym k))
-    go Halt.Going e Reply.Taken q k = absurd (true≢false (sym k))
-    go Halt.Going e (Reply.Stopped s) q k = absurd (true≢false (sym k))
+    go : (x : Option Stop) → run.halt ≡ x → (r : Reply) → (call_of run c).reply ≡ r → is_kept x r ≡ true → (call_of run c).run ≡ run
+    go (Some s) e r q k = stopped s e (run_in_limits run) refl
+    go None e (Reply.Refused f) q k = refused_unchanged run c f q
+    go None e (Reply.Start p a n) q k = absurd (true≢false (sym k))
+    go None e Reply.Wait q k = absurd (true≢false (sym k))
+    go None e Reply.Done q k = absurd (true≢false (sym k))
+    go None e Reply.Taken q k = absurd (true≢false (sym k))
+    go None e (Reply.Stopped s) q k = absurd (true≢false (sym k))
 
 -- the bytes that a call leaves are read as the run after it
 run_left : (h : Held) (c : Call) → run_of (left_by h c) ≡ (call_of (run_of h) c).run

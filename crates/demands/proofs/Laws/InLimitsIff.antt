@@ -1,5 +1,5 @@
 -- `in_limits_lem`: the test of number 50 tells exactly the runs in limits.
-use Rattle.std.specs.Prelude.{◌≡◌, refl, true, List, ◌↔◌, ℕ, ◌<◌, length, get_or}
+use Rattle.std.specs.Prelude.{◌≡◌, refl, true, List, ◌↔◌, ℕ, ◌<◌, length, get_or, Option, Some, None}
 use Rattle.std.proofs.Common.{subst, ⊎_elim}
 use Rattle.basis.specs.Inner.Tells.{Tells, holds}
 use Rattle.basis.proofs.Laws.Tells.{told_true, tells_iff, tells_and, tells_ltb, tells_leb, tells_then}
@@ -16,7 +16,6 @@ use Rattle.run_window.specs.Places.{Holds}
 use Rattle.run_window.specs.declared.Entry.{Entry}
 use Rattle.run_window.proofs.Laws.Places.{holds_within}
 use Rattle.run.specs.declared.Run.{Run}
-use Rattle.run_checks.specs.declared.Halt.{Halt}
 use Rattle.run_checks.specs.declared.Stop.{Stop}
 use Rattle.run.specs.Limits.{run_in_limits, stop_in_limits, halt_in_limits}
 use Rattle.demands_run.proofs.Laws.Bounds.{entry_passes, entry_within}
@@ -29,9 +28,9 @@ tells_stop (Stop.Overdue p n) = tells_and (tells_leb p last_position) (tells_ltb
 tells_stop Stop.Full = holds tt
 tells_stop Stop.Beyond = holds tt
 
-tells_halt : (h : Halt) → Tells (halt_in_limits h) (HaltInLimits h)
-tells_halt Halt.Going = holds tt
-tells_halt (Halt.Stopped s) = tells_stop s
+tells_halt : (h : Option Stop) → Tells (halt_in_limits h) (HaltInLimits h)
+tells_halt None = holds tt
+tells_halt (Some s) = tells_stop s
 
 module _ (p : Plan) where
   abbrev Passes : Entry → Type 0

@@ -1,5 +1,5 @@
 -- `limits_kept`: a run in limits is in limits after every call, a made-up one too.
-use Rattle.std.specs.Prelude.{◌≡◌, refl, Bool, true, cond, List, [], ◌++◌, ◌⊎◌, ltb, length, get_or, set}
+use Rattle.std.specs.Prelude.{◌≡◌, refl, Bool, true, cond, List, [], ◌++◌, ◌⊎◌, ltb, length, get_or, set, Option, Some, None}
 use Rattle.std.proofs.Common.{sym, true≢false, inl, inr, ⊎_elim, arith, ltb-true}
 use Rattle.std.proofs.Math.Path.{ap, subst}
 use Rattle.std.proofs.Math.Bool.{false}
@@ -36,7 +36,7 @@ use Rattle.run_outcomes.specs.Told.{tell, told_from, told_of}
 use Rattle.run_outcomes.specs.Way.{way_on}
 use Rattle.run_checks.proofs.Laws.Checks.{by_timely}
 use Rattle.run.specs.declared.Run.{Run}
-use Rattle.run_checks.specs.declared.Halt.{Halt}
+use Rattle.run_checks.specs.declared.Stop.{Stop}
 use Rattle.run.specs.declared.Call.{Call}
 use Rattle.run.specs.declared.Answer.{Answer}
 use Rattle.run_loading.specs.declared.Failure.{Failure}
@@ -152,7 +152,7 @@ record AnswerKept (a : Answer) : Type 0 where
   kept : RunInLimits a.run
 
 module _ (run : Run) (r : RunInLimits run) where
-  next : (t : Clock) (h : Halt) (g : Progress) (w : List Entry) → HaltInLimits h → ProgressIn run.plan g → Entries run.plan w → RunInLimits (heard run t h g w)
+  next : (t : Clock) (h : Option Stop) (g : Progress) (w : List Entry) → HaltInLimits h → ProgressIn run.plan g → Entries run.plan w → RunInLimits (heard run t h g w)
   next t h g w halt progress window = record { plan = r.plan; psi = r.psi; slack = r.slack; progress = progress; window = window; halt = halt }
 
   -- the node that a stop names
@@ -163,8 +163,8 @@ module _ (run : Run) (r : RunInLimits run) where
   unfolding asked
   asked_kept t =
       by_first (is_due run.psi t) (starts_before run.plan.nodes) (starts_order run.plan.nodes) run.window AnswerKept _ _
-      (λ i e f. record { kept = next t Halt.Going run.progress _ tt r.progress (λ j x q. started i e f j x (stored_only run.window i (started_of e) j x q)) })
-      (λ n. record { kept = next t Halt.Going run.progress run.window tt r.progress r.window })
+      (λ i e f. record { kept = next t None run.progress _ tt r.progress (λ j x q. started i e f j x (stored_only run.window i (started_of e) j x q)) })
+      (λ n. record { kept = next t None run.progress run.window tt r.progress r.window })
     where
       started : (i : ℕ) (e : Entry) → First (is_due run.psi t) (starts_before run.plan.nodes) run.window i e → (j : ℕ) (x : Entry) → ((j ≡ i) × (started_of e ≡ x)) ⊎ ((j ≡ i → ⊥) × Holds run.window j x) → EntryInLimits run.plan x
       started i e f j x (inl q) =
@@ -173,7 +173,7 @@ module _ (run : Run) (r : RunInLimits run) where
       started i e f j x (inr q) = r.window j x q.1
 
   cleared_kept : (t : Clock) (i : ℕ) (g : Progress) → ProgressIn run.plan g → RunInLimits (cleared run t i g)
-  cleared_kept t i g h = next t Halt.Going g (set run.window i vacant) tt h (λ j x q. r.window j x (cleared_only run.window i j x q).1)
+  cleared_kept t i g h = next t None g (set run.window i vacant) tt h (λ j x q. r.window j x (cleared_only run.window i j x q).1)
 
   -- a report of a node that stands in the window
   reported_kept : (p n : ℕ) (f : ℕ → Entry → Answer) → ((i : ℕ) (e : Entry) → Holds run.window i e → AnswerKept (f i e)) → AnswerKept (reported run p n f)
@@ -207,10 +207,10 @@ module _ (run : Run) (r : RunInLimits run) where
     state = r.progress.state;
   }
 
-  loaded_kept : (f : Failure) (next : Run) → RunInLimits next → AnswerKept (after_loading f next)
-  loaded_kept Failure.None next h = record { kept = h }
-  loaded_kept Failure.Full next h = record { kept = record { plan = h.plan; psi = h.psi; slack = h.slack; progress = h.progress; window = h.window; halt = tt } }
-  loaded_kept Failure.Beyond next h = record { kept = record { plan = h.plan; psi = h.psi; slack = h.slack; progress = h.progress; window = h.window; halt = tt } }
+  loaded_kept : (f : Option Failure) (next : Run) → RunInLimits next → AnswerKept (after_loading f next)
+  loaded_kept None next h = record { kept = h }
+  loaded_kept (Some Failure.Full) next h = record { kept = record { plan = h.plan; psi = h.psi; slack = h.slack; progress = h.progress; window = h.window; halt = tt } }
+  loaded_kept (Some Failure.Beyond) next h = record { kept = record { plan = h.plan; psi = h.psi; slack = h.slack; progress = h.progress; window = h.window; halt = tt } }
 
   learns_by_kept : (t : Clock) (i : ℕ) (x : Entry) (o : ℕ) (k : Kind) → KindNames run.plan k → AnswerKept (learns_by run t i x o k)
   learns_by_kept t i x o (Kind.Action a y) n = record { kept = r }

@@ -1,5 +1,5 @@
 -- The ways out of a state say what it does next: `waiting_iff`.
-use Rattle.std.specs.Prelude.{◌≡◌, refl, ℕ, ◌<◌}
+use Rattle.std.specs.Prelude.{◌≡◌, refl, ℕ, ◌<◌, Some}
 use Rattle.std.proofs.Common.{sym, ap, ◌∙◌, subst}
 use Rattle.std.proofs.Math.Decide.{ℕ_discrete}
 use Rattle.plan.specs.Plan.{move}
@@ -14,7 +14,6 @@ use Rattle.automaton.proofs.Laws.Ways.{NextIs, ended, waits, next_is}
 use Rattle.automaton.proofs.Laws.Following.{next_leaves, awaited}
 use Rattle.automaton.proofs.Laws.Later.{goes_only, processes_waits, waits_several, waits_chosen}
 use Rattle.automaton.specs.declared.Next.{Next}
-use Rattle.automaton.specs.declared.Chosen.{Chosen}
 use Rattle.automaton.proofs.Laws.Cases.{same_outcome}
 use Rattle.demands.specs.Markers.{Alone, Several, ProcessesIn, ByWaysOut}
 
@@ -60,12 +59,12 @@ module _ (p : Plan) (limits : InLimits p) (m : MeetsAutomaton p) where
     goes_on = λ t. (λ h. goes_only p limits m s t low h, λ h. goes_next s t h.0 h.1);
   }
 
-  pub chosen_is : (s t e u : ℕ) → s < a.states → Leaves a s t → Several a s → (move a t).input ≡ Input.Outcome e u → chosen_of a s e u ≡ Chosen.Move t
+  pub chosen_is : (s t e u : ℕ) → s < a.states → Leaves a s t → Several a s → (move a t).input ≡ Input.Outcome e u → chosen_of a s e u ≡ Some t
   chosen_is s t e u low h k x =
       let q = (subst (InputNames p) x (limits.moves t h.low).input).1 in
       let c = waits_chosen p limits m s e u low (waits_next s e u low (record { index = t; leaves = h; input = x }) k) q in
       elim (ℕ_discrete c.0 t) [
-        | yes z ↦ c.1 ∙ ap Chosen.Move z
+        | yes z ↦ c.1 ∙ ap Some z
         | no z ↦
             let b = m.branches s low c.0 t c.2 h z in
             absurd (b.differ (same_outcome (sym b.first ∙ c.3) ∙ same_outcome (sym x ∙ b.second)))

@@ -6,7 +6,7 @@ use Rattle.plan.specs.declared.Output.{Output}
 use Rattle.plan.specs.declared.Transition.{Transition}
 use Rattle.plan.specs.declared.Automaton.{Automaton}
 use Rattle.plan.specs.declared.Plan.{Plan}
-use Rattle.plan.specs.declared.Verdict.{Verdict}
+use Rattle.plan.specs.Verdict.{Verdict}
 use Rattle.automaton.specs.Rules.{Leaves, Processes, NoWayOut, Branches, Serves, Path, none, more, ToFinal, takes, emits, processed, emitted, EmittedFirst, NoneLeft, AtMostEight, Rule21, Rule22, Rule23, Rule24, MeetsAutomaton, LowestAtFault, Breaks25, unemitted, leftover, Breaks26, Judges, number21, number22, number23, number24, number25, number26, accepted}
 
 abbrev pub with : Automaton → List Transition → Automaton

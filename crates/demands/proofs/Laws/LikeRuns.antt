@@ -1,5 +1,5 @@
 -- Runs that differ in nothing but the places of their nodes, and what their loading does: they fail alike, or stay so.
-use Rattle.std.specs.Prelude.{◌≡◌, refl, true, List, ℕ, zero, suc, ◌≤◌, ◌<◌, ltb, length, get_or, set}
+use Rattle.std.specs.Prelude.{◌≡◌, refl, true, List, ℕ, zero, suc, ◌≤◌, ◌<◌, ltb, length, get_or, set, Option, Some, None}
 use Rattle.std.proofs.Common.{sym, ◌∙◌, subst, inl, inr, ⊎_elim, arith, ltb-false, length-set}
 use Rattle.std.proofs.Math.Decide.{dec_lt}
 use Rattle.basis.proofs.Laws.Bools.{by_same}
@@ -110,9 +110,9 @@ module _ (run : Run) (v : List Entry) (c : SameContent run.window v) (old : Befo
   load_like : LikeLoading (load run next) (load (with_window run v) next)
   unfolding load
   load_like =
-      by_same LikeLoading path.beyond _ _ _ _ (λ b. as_before Failure.Beyond) λ b.
+      by_same LikeLoading path.beyond _ _ _ _ (λ b. as_before (Some Failure.Beyond)) λ b.
       rw (sym (room run.window v c))
-      (by_same LikeLoading (ltb (vacancies run.window) (length path.entries)) _ _ _ _ (λ f. as_before Failure.Full) λ f. record {
+      (by_same LikeLoading (ltb (vacancies run.window) (length path.entries)) _ _ _ _ (λ f. as_before (Some Failure.Full)) λ f. record {
         failure = refl;
         run = record {
           rest = refl;
@@ -121,17 +121,17 @@ module _ (run : Run) (v : List Entry) (c : SameContent run.window v) (old : Befo
         };
       })
     where
-      as_before : (f : Failure) → LikeLoading (loading f run) (loading f (with_window run v))
+      as_before : (f : Option Failure) → LikeLoading (loading f run) (loading f (with_window run v))
       as_before f = record { failure = refl; run = record { rest = refl; content = c; loaded = old } }
 
 -- a failure ends both, otherwise both go on
 like_on : (l m : Loading) (f : Run → Loading) → LikeLoading l m → ((a b : Run) → Like a b → LikeLoading (f a) (f b)) → LikeLoading (on_loading l f) (on_loading m f)
-like_on l m f h more = subst (λ (x : Failure). LikeLoading (on_loading l f) (on_failure x m (f m.run))) h.failure (go l.failure)
+like_on l m f h more = subst (λ (x : Option Failure). LikeLoading (on_loading l f) (on_failure x m (f m.run))) h.failure (go l.failure)
   where
-    go : (x : Failure) → LikeLoading (on_failure x l (f l.run)) (on_failure x m (f m.run))
-    go Failure.None = more l.run m.run h.run
-    go Failure.Full = h
-    go Failure.Beyond = h
+    go : (x : Option Failure) → LikeLoading (on_failure x l (f l.run)) (on_failure x m (f m.run))
+    go None = more l.run m.run h.run
+    go (Some Failure.Full) = h
+    go (Some Failure.Beyond) = h
 
 pub further_like : (k : ℕ) (a b : Run) → Like a b → LikeLoading (further k a) (further k b)
 unfolding further
@@ -143,10 +143,10 @@ further_like (suc k) a b r =
     other : Run
     other = with_window a b.window
 
-    same : LikeLoading (loading Failure.None a) (loading Failure.None other)
+    same : LikeLoading (loading None a) (loading None other)
     same = record { failure = refl; run = record { rest = refl; content = r.content; loaded = r.loaded } }
 
-    go : (n : Next) → ((x y : Run) → Like x y → LikeLoading (further k x) (further k y)) → LikeLoading (on_way n (λ t. on_loading (load a (Next.Goes t)) (further k)) (loading Failure.None a)) (on_way n (λ t. on_loading (load other (Next.Goes t)) (further k)) (loading Failure.None other))
+    go : (n : Next) → ((x y : Run) → Like x y → LikeLoading (further k x) (further k y)) → LikeLoading (on_way n (λ t. on_loading (load a (Next.Goes t)) (further k)) (loading None a)) (on_way n (λ t. on_loading (load other (Next.Goes t)) (further k)) (loading None other))
     go Next.Ended more = same
     go (Next.Waits e) more = same
     go (Next.Goes t) more = like_on _ _ (further k) (load_like a b.window r.content r.loaded (Next.Goes t)) more

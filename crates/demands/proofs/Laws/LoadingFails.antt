@@ -1,7 +1,7 @@
 -- `loading_full`, `loading_beyond`: how loading fails in any run, one made up by the host too, which has no word: 44 or 43
 -- exactly where a path that the engine comes to crosses a limit, or has no room. Of the runs of an opening `answers_by_log`
 -- tells it over the word.
-use Rattle.std.specs.Prelude.{◌≡◌, Bool, true, cond, List, [], ◌++◌, ◌⊎◌, ◌↔◌, ℕ, zero, suc, ◌≤◌, ◌<◌, ltb, length}
+use Rattle.std.specs.Prelude.{◌≡◌, Bool, true, cond, List, [], ◌++◌, ◌⊎◌, ◌↔◌, ℕ, zero, suc, ◌≤◌, ◌<◌, ltb, length, Option, Some, None}
 use Rattle.std.proofs.Common.{subst, inl, inr, ⊎_elim, ltb-true, ltb-false, lt-ltb, le-ltb}
 use Rattle.basis.specs.Inner.Tells.{Tells, holds, fails}
 use Rattle.basis.proofs.Laws.Tells.{told_true, told_false, is_false}
@@ -73,16 +73,16 @@ pub record HasRoom (run : Run) (t : ℕ) : Type 0 where
   pub room : length (path_by run t).entries ≤ vacancies run.window
 
 -- of at most k paths one fails, and those before it are loaded
-pub data Fails : ℕ → Run → Failure → Type 0 where
-  number44 : {k : ℕ} {run : Run} (t : ℕ) → way_from run ≡ Next.Goes t → Crossed run t → Fails (suc k) run Failure.Beyond
-  number43 : {k : ℕ} {run : Run} (t : ℕ) → way_from run ≡ Next.Goes t → (Crossed run t → ⊥) → vacancies run.window < length (path_by run t).entries → Fails (suc k) run Failure.Full
-  later : {k : ℕ} {run : Run} {f : Failure} (t : ℕ) → way_from run ≡ Next.Goes t → HasRoom run t → Fails k (with_path run (path_by run t)) f → Fails (suc k) run f
+pub data Fails : ℕ → Run → Option Failure → Type 0 where
+  number44 : {k : ℕ} {run : Run} (t : ℕ) → way_from run ≡ Next.Goes t → Crossed run t → Fails (suc k) run (Some Failure.Beyond)
+  number43 : {k : ℕ} {run : Run} (t : ℕ) → way_from run ≡ Next.Goes t → (Crossed run t → ⊥) → vacancies run.window < length (path_by run t).entries → Fails (suc k) run (Some Failure.Full)
+  later : {k : ℕ} {run : Run} {f : Option Failure} (t : ℕ) → way_from run ≡ Next.Goes t → HasRoom run t → Fails k (with_path run (path_by run t)) f → Fails (suc k) run f
 
 -- a failure, or none
-abbrev pub FailsOrNot : ℕ → Run → Failure → Type 0
-FailsOrNot k run Failure.None = Unit {0}
-FailsOrNot k run Failure.Full = Fails k run Failure.Full
-FailsOrNot k run Failure.Beyond = Fails k run Failure.Beyond
+abbrev pub FailsOrNot : ℕ → Run → Option Failure → Type 0
+FailsOrNot k run None = Unit {0}
+FailsOrNot k run (Some Failure.Full) = Fails k run (Some Failure.Full)
+FailsOrNot k run (Some Failure.Beyond) = Fails k run (Some Failure.Beyond)
 
 tells : (run : Run) (t : ℕ) → Tells (path_by run t).beyond (Crossed run t)
 tells run t = tells_path run.plan longest_path (Next.Goes t) run.progress
@@ -92,10 +92,10 @@ tells run t = tells_path run.plan longest_path (Next.Goes t) run.progress
 record Comes (k : ℕ) (run : Run) (l : Loading) : Type 0 where
   comes : FailsOrNot k run l.failure
 
-comes_later : (k : ℕ) (run : Run) (t : ℕ) → way_from run ≡ Next.Goes t → HasRoom run t → (f : Failure) → FailsOrNot k (with_path run (path_by run t)) f → FailsOrNot (suc k) run f
-comes_later k run t w h Failure.None c = tt
-comes_later k run t w h Failure.Full c = Fails.later t w h c
-comes_later k run t w h Failure.Beyond c = Fails.later t w h c
+comes_later : (k : ℕ) (run : Run) (t : ℕ) → way_from run ≡ Next.Goes t → HasRoom run t → (f : Option Failure) → FailsOrNot k (with_path run (path_by run t)) f → FailsOrNot (suc k) run f
+comes_later k run t w h None c = tt
+comes_later k run t w h (Some Failure.Full) c = Fails.later t w h c
+comes_later k run t w h (Some Failure.Beyond) c = Fails.later t w h c
 
 record ComesOn (k : ℕ) (run : Run) (m : Run → Loading) (l : Loading) : Type 0 where
   comes : Comes k run (on_loading l m)
@@ -114,7 +114,7 @@ comes (suc k) run = by_way (Comes (suc k) run) (way_from run) _ _ (λ t w. (come
 
 -- ---- a path that cannot be loaded makes the failure
 
-ends_so : {k : ℕ} {run : Run} {f : Failure} → Fails k run f → (further k run).failure ≡ f
+ends_so : {k : ℕ} {run : Run} {f : Option Failure} → Fails k run f → (further k run).failure ≡ f
 unfolding further load
 ends_so (Fails.number44 {run = run} t w b) = rw (w, is_true (tells run t) (λ n. n b))
 ends_so (Fails.number43 {run = run} t w b l) = rw (w, is_false (tells run t) b, lt-ltb _ _ l)
@@ -122,11 +122,11 @@ ends_so (Fails.later {run = run} t w h r) = rw (w, is_false (tells run t) h.with
 
 -- ---- the theorems
 
-abbrev pub StatementLoading : Failure → Type 0
+abbrev pub StatementLoading : Option Failure → Type 0
 StatementLoading f = (k : ℕ) (run : Run) → ((further k run).failure ≡ f) ↔ Fails k run f
 
-pub loading_full : StatementLoading Failure.Full
+pub loading_full : StatementLoading (Some Failure.Full)
 loading_full k run = (λ q. subst (FailsOrNot k run) q (comes k run).comes, ends_so)
 
-pub loading_beyond : StatementLoading Failure.Beyond
+pub loading_beyond : StatementLoading (Some Failure.Beyond)
 loading_beyond k run = (λ q. subst (FailsOrNot k run) q (comes k run).comes, ends_so)

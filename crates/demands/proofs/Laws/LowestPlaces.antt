@@ -1,6 +1,6 @@
 -- `lowest_places`, `outcome_places`, `first_places`: the entries of a path that is loaded take the lowest free places, after an outcome
 -- in the window with the reported place cleared, at an opening from place 0 on.
-use Rattle.std.specs.Prelude.{◌≡◌, refl, List, ℕ, zero, suc, ◌≤◌, ◌<◌, ltb, length, get_or}
+use Rattle.std.specs.Prelude.{◌≡◌, refl, List, ℕ, zero, suc, ◌≤◌, ◌<◌, ltb, length, get_or, Option, Some, None}
 use Rattle.std.proofs.Common.{sym, ap, ◌∙◌, subst, true≢false, ⊎_elim, arith, ltb-false}
 use Rattle.basis.proofs.Laws.Bools.{by_test}
 use Rattle.automaton.specs.declared.Next.{Next}
@@ -32,10 +32,10 @@ use Rattle.demands.specs.Places.{TakenAt, InLowest, path_of, way_from, OneByOne,
 -- ---- one path
 
 -- how loading it ends: it is placed and has room, or the run is as before
-abbrev Ends : Run → Path → Failure → Run → Type 0
-Ends run q Failure.None next = (next.window ≡ placed run.window q.entries) × (length q.entries ≤ vacancies run.window)
-Ends run q Failure.Full next = next ≡ run
-Ends run q Failure.Beyond next = next ≡ run
+abbrev Ends : Run → Path → Option Failure → Run → Type 0
+Ends run q None next = (next.window ≡ placed run.window q.entries) × (length q.entries ≤ vacancies run.window)
+Ends run q (Some Failure.Full) next = next ≡ run
+Ends run q (Some Failure.Beyond) next = next ≡ run
 
 record EndsSo (run : Run) (q : Path) (l : Loading) : Type 0 where
   ends : Ends run q l.failure l.run
@@ -48,9 +48,9 @@ path_ends run q =
 abbrev path_by : Run → Next → Path
 path_by run next = path_from run.plan longest_path next run.progress
 
-load_ends : (run : Run) (next : Next) (f : Failure) → (load run next).failure ≡ f → Ends run (path_by run next) f (load run next).run
+load_ends : (run : Run) (next : Next) (f : Option Failure) → (load run next).failure ≡ f → Ends run (path_by run next) f (load run next).run
 unfolding load
-load_ends run next f e = subst (λ (x : Failure). Ends run (path_by run next) x (load run next).run) e (path_ends run (path_by run next)).ends
+load_ends run next f e = subst (λ (x : Option Failure). Ends run (path_by run next) x (load run next).run) e (path_ends run (path_by run next)).ends
 
 in_lowest : (w es : List Entry) → length es ≤ vacancies w → InLowest w es (placed w es)
 in_lowest w es room = record {
@@ -65,7 +65,7 @@ in_lowest w es room = record {
 
 pub lowest_places : StatementLowestPlaces
 lowest_places run next e =
-    let h = load_ends run next Failure.None e in
+    let h = load_ends run next None e in
     subst (InLowest run.window (path_of run next)) (sym h.0) (in_lowest run.window (path_of run next) h.1)
 
 -- ---- several paths
@@ -77,10 +77,10 @@ module _ (run : Run) (t : ℕ) (way : way_from run ≡ Next.Goes t) where
   unchanged : (load run (Next.Goes t)).run ≡ run → Reaches run (load run (Next.Goes t))
   unchanged q = record { reaches = subst (OneByOne run) (ap (λ (x : Run). x.window) (sym q)) OneByOne.no_more }
 
-  by_failure : (f : Failure) → (load run (Next.Goes t)).failure ≡ f → (rest : Loading) → Reaches (load run (Next.Goes t)).run rest → Reaches run (on_failure f (load run (Next.Goes t)) rest)
-  by_failure Failure.None e rest r = record { reaches = OneByOne.and_then t way e (lowest_places run (Next.Goes t) e) r.reaches }
-  by_failure Failure.Full e rest r = unchanged (load_ends run (Next.Goes t) Failure.Full e)
-  by_failure Failure.Beyond e rest r = unchanged (load_ends run (Next.Goes t) Failure.Beyond e)
+  by_failure : (f : Option Failure) → (load run (Next.Goes t)).failure ≡ f → (rest : Loading) → Reaches (load run (Next.Goes t)).run rest → Reaches run (on_failure f (load run (Next.Goes t)) rest)
+  by_failure None e rest r = record { reaches = OneByOne.and_then t way e (lowest_places run (Next.Goes t) e) r.reaches }
+  by_failure (Some Failure.Full) e rest r = unchanged (load_ends run (Next.Goes t) (Some Failure.Full) e)
+  by_failure (Some Failure.Beyond) e rest r = unchanged (load_ends run (Next.Goes t) (Some Failure.Beyond) e)
 
 one_by_one : (k : ℕ) (run : Run) → Reaches run (further k run)
 unfolding further
@@ -89,10 +89,10 @@ one_by_one (suc k) run =
     by_way (Reaches run) (way_from run) _ _ (λ t w. by_failure run t w (load run (Next.Goes t)).failure refl _ (one_by_one k (load run (Next.Goes t)).run))
     (λ n. record { reaches = OneByOne.no_more })
 
-after_window : (f : Failure) (run : Run) → (after_loading f run).run.window ≡ run.window
-after_window Failure.None run = refl
-after_window Failure.Full run = refl
-after_window Failure.Beyond run = refl
+after_window : (f : Option Failure) (run : Run) → (after_loading f run).run.window ≡ run.window
+after_window None run = refl
+after_window (Some Failure.Full) run = refl
+after_window (Some Failure.Beyond) run = refl
 
 pub outcome_places : StatementOutcomePlaces
 outcome_places run t p n o i e l =
@@ -110,10 +110,10 @@ one_by_one_kept (OneByOne.and_then {run} {v} t way q low rest) j e h = one_by_on
 
 -- ---- the first path
 
-first_loads : (f : Failure) (run : Run) → (after_first f run).opening ≡ Opening.Opened → (f ≡ Failure.None) × ((after_first f run).run ≡ run)
-first_loads Failure.None run e = (refl, refl)
-first_loads Failure.Full run e = absurd (let z : ◌≡◌ {A = ℕ} 0 1 = cc in omega arith)
-first_loads Failure.Beyond run e = absurd (let z : ◌≡◌ {A = ℕ} 0 1 = cc in omega arith)
+first_loads : (f : Option Failure) (run : Run) → (after_first f run).opening ≡ Opening.Opened → (f ≡ None) × ((after_first f run).run ≡ run)
+first_loads None run e = (refl, refl)
+first_loads (Some Failure.Full) run e = absurd (let z : ◌≡◌ {A = ℕ} 0 1 = cc in omega arith)
+first_loads (Some Failure.Beyond) run e = absurd (let z : ◌≡◌ {A = ℕ} 0 1 = cc in omega arith)
 
 pub first_places : StatementFirstPlaces
 first_places bytes psi slack ts opened k = ap (λ (w : List Entry). get_or w k vacant) window ∙ placed_at_first 512 (first_entries p ts) room k
@@ -127,11 +127,11 @@ first_places bytes psi slack ts opened k = ap (λ (w : List Entry). get_or w k v
     begins : open_of bytes psi slack ts ≡ begin (unbegun p psi slack ts)
     begins = opened_begins bytes psi slack ts opened
 
-    loads : (first.failure ≡ Failure.None) × ((after_first first.failure first.run).run ≡ first.run)
+    loads : (first.failure ≡ None) × ((after_first first.failure first.run).run ≡ first.run)
     loads = first_loads first.failure first.run (ap (λ (a : Opened). a.opening) (sym begins) ∙ opened)
 
-    ends : Ends (unbegun p psi slack ts) (path_by (unbegun p psi slack ts) (next_of p.automaton p.automaton.initial)) Failure.None first.run
-    ends = load_ends (unbegun p psi slack ts) (next_of p.automaton p.automaton.initial) Failure.None loads.0
+    ends : Ends (unbegun p psi slack ts) (path_by (unbegun p psi slack ts) (next_of p.automaton p.automaton.initial)) None first.run
+    ends = load_ends (unbegun p psi slack ts) (next_of p.automaton p.automaton.initial) None loads.0
 
     window : (open_of bytes psi slack ts).run.window ≡ placed (unbegun p psi slack ts).window (first_entries p ts)
     window = ap (λ (a : Opened). a.run.window) begins ∙ ap (λ (r : Run). r.window) loads.1 ∙ ends.0

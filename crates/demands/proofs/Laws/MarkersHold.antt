@@ -1,7 +1,7 @@
 -- `waiting_iff`, `marker_taken`: request (d) holds.
 use Rattle.std.proofs.Common.{sym, ap, ◌∙◌, arith}
-use Rattle.std.specs.Prelude.{set}
-use Rattle.run_checks.specs.declared.Halt.{Halt}
+use Rattle.std.specs.Prelude.{set, Option}
+use Rattle.run_checks.specs.declared.Stop.{Stop}
 use Rattle.run.specs.declared.Reply.{Reply}
 use Rattle.run.specs.Calls.{answer, heard}
 use Rattle.run_window.specs.Window.{vacant}
@@ -17,4 +17,4 @@ waiting_iff bytes p are judged s low = let a = accepted_laws bytes are p judged 
 pub marker_taken : StatementMarkerTaken
 marker_taken run t p n i e r event one =
     marker_call run t p n 0 i e (record { reports = r; event = event; has = omega arith }) one
-    ∙ ap (λ (h : Halt). answer Reply.Taken (heard run t h run.progress (set run.window i vacant))) (sym r.timely.not_overdue.rises.going.going)
+    ∙ ap (λ (h : Option Stop). answer Reply.Taken (heard run t h run.progress (set run.window i vacant))) (sym r.timely.not_overdue.rises.going.going)

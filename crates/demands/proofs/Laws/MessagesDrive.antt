@@ -1,5 +1,5 @@
 -- `bad_message`, `messages_drive`, `link_demand_3`, `link_answers`: what reaches the run over the link, and what it answers.
-use Rattle.std.specs.Prelude.{◌≡◌, refl, List, [], ◌∷◌, ℕ, zero, suc, ◌<◌, length, get_or}
+use Rattle.std.specs.Prelude.{◌≡◌, refl, List, [], ◌∷◌, ℕ, zero, suc, ◌<◌, length, get_or, Result, Ok, Err}
 use Rattle.std.proofs.Common.{sym, ◌∙◌, ap, subst, arith}
 use Rattle.run.specs.declared.Run.{Run}
 use Rattle.run.specs.declared.Call.{Call}
@@ -9,7 +9,6 @@ use Rattle.run_checks.specs.declared.Refusal.{Refusal}
 use Rattle.run.specs.Opening.{open_of}
 use Rattle.run.specs.Calls.{refuse, call_of}
 use Rattle.judge.specs.Judge.{judge_of}
-use Rattle.link_calls.specs.declared.CallRead.{CallRead}
 use Rattle.link_calls.specs.Calls.{read_call}
 use Rattle.link.specs.Receive.{on_call, receive_of}
 use Rattle.link_drive.specs.LinkDrive.{replies_from}
@@ -35,14 +34,14 @@ refused_same e = cc
 pub bad_message : StatementBadMessage
 unfolding receive_of
 bad_message run b = record {
-  bad = λ f e. ap (λ (r : CallRead). on_call r (call_of run) (refuse run)) e;
+  bad = λ f e. ap (λ (r : Result Call Refusal). on_call r (call_of run) (refuse run)) e;
   only = λ f of e. go f of (read_call b) refl e;
-  good = λ c e. ap (λ (r : CallRead). on_call r (call_of run) (refuse run)) e;
+  good = λ c e. ap (λ (r : Result Call Refusal). on_call r (call_of run) (refuse run)) e;
 }
   where
-    go : (f : Refusal) → OfMessage f → (r : CallRead) → read_call b ≡ r → (on_call r (call_of run) (refuse run)).reply ≡ Reply.Refused f → r ≡ CallRead.Refused f
-    go f of (CallRead.Call c) p e = absurd (never run c f of e)
-    go f of (CallRead.Refused g) p e = ap CallRead.Refused (refused_same e)
+    go : (f : Refusal) → OfMessage f → (r : Result Call Refusal) → read_call b ≡ r → (on_call r (call_of run) (refuse run)).reply ≡ Reply.Refused f → r ≡ Err f
+    go f of (Ok c) p e = absurd (never run c f of e)
+    go f of (Err g) p e = ap Err (refused_same e)
 
 -- ---- lists of messages
 
@@ -51,10 +50,10 @@ unfolding receive_of
 messages_drive log run [] = refl
 messages_drive log run (b ∷ bs) = go (read_call b) (λ log run. messages_drive log run bs)
   where
-    go : (r : CallRead) → ((log : Log) (run : Run) → receive_all log run bs ≡ drive log run (calls_among bs))
+    go : (r : Result Call Refusal) → ((log : Log) (run : Run) → receive_all log run bs ≡ drive log run (calls_among bs))
         → receive_all (entered r (on_call r (call_of run) (refuse run)).reply log) (on_call r (call_of run) (refuse run)).run bs ≡ drive log run (with_call r (calls_among bs))
-    go (CallRead.Call c) later = later (said c (call_of run c).reply ∷ log) (call_of run c).run
-    go (CallRead.Refused f) later = later log run
+    go (Ok c) later = later (said c (call_of run c).reply ∷ log) (call_of run c).run
+    go (Err f) later = later log run
 
 pub link_demand_3 : StatementLinkDemand3
 link_demand_3 bytes are psi slack ts opened bs =
@@ -69,11 +68,11 @@ replies_to_calls log run (b ∷ bs) =
     replies_to_calls (entered (read_call b) (receive_of run b).reply log) (receive_of run b).run bs
     ∙ go (read_call b) (receive_of run b).reply (to_calls bs (replies_from (receive_of run b).run bs))
   where
-    go : (c : CallRead) (r : Reply) (later : List Reply) → replies_of (entered c r log) later ≡ replies_of log (kept_for c r later)
-    go (CallRead.Call c) r later = refl
-    go (CallRead.Refused f) r later = refl
+    go : (c : Result Call Refusal) (r : Reply) (later : List Reply) → replies_of (entered c r log) later ≡ replies_of log (kept_for c r later)
+    go (Ok c) r later = refl
+    go (Err f) r later = refl
 
-refused_in_list : (run : Run) (bs : List (List ℕ)) (i : ℕ) → i < length bs → (f : Refusal) → read_call (get_or bs i []) ≡ CallRead.Refused f → get_or (replies_from run bs) i Reply.Wait ≡ Reply.Refused f
+refused_in_list : (run : Run) (bs : List (List ℕ)) (i : ℕ) → i < length bs → (f : Refusal) → read_call (get_or bs i []) ≡ Err f → get_or (replies_from run bs) i Reply.Wait ≡ Reply.Refused f
 refused_in_list run [] i h f e = absurd (omega (arith, h))
 refused_in_list run (b ∷ bs) zero h f e = ap (λ (a : Answer). a.reply) ((bad_message run b).bad f e)
 refused_in_list run (b ∷ bs) (suc i) h f e = refused_in_list (receive_of run b).run bs i (omega (arith, h)) f e

@@ -1,21 +1,19 @@
 -- What each direction has: the tests of the definitions tell the maps and numbers that the request lists.
-use Rattle.std.specs.Prelude.{◌≡◌, refl, Bool, true, false, cond, List, [], ◌∷◌, ◌↔◌, ℕ, eqb}
+use Rattle.std.specs.Prelude.{◌≡◌, refl, Bool, true, false, cond, List, [], ◌∷◌, ◌↔◌, ℕ, eqb, Ok, is_ok}
 use Rattle.std.proofs.Common.{sym, ◌∙◌, subst, eqb-true}
 use Rattle.basis.proofs.Laws.Bools.{clash}
 use Rattle.run.specs.declared.Reply.{Reply}
 use Rattle.link_messages.specs.declared.Message.{Message}
 use Rattle.link_messages.specs.Writing.{permits}
-use Rattle.link_calls.specs.declared.CallRead.{CallRead}
-use Rattle.link_calls.specs.declared.AnswerRead.{AnswerRead}
 use Rattle.link_calls.specs.Calls.{by_call_map, to_board, call_from}
-use Rattle.link_calls.specs.Replies.{reply_number, numbered, naming, with_number, is_reply, to_host, reply_from}
+use Rattle.link_calls.specs.Replies.{reply_number, numbered, naming, with_number, to_host, reply_from}
 use Rattle.link_calls.proofs.Laws.Listed.{board_permits}
 use Rattle.link_calls.proofs.Laws.Same.{Each}
 use Rattle.demands.specs.Messages.{CallMap, ask, completion, outcome, NumberAlone, number43, number44, number50, number51, number52, number53, number54, number55, number61, number62, NumberWithNode, number41, number42, AnswerMap, start, wait, done, taken, number, node}
 
 -- ---- numbers
 
-alone_told : {x : ℕ} → NumberAlone x → is_reply (with_number x numbered) ≡ true
+alone_told : {x : ℕ} → NumberAlone x → is_ok (with_number x numbered) ≡ true
 alone_told number43 = refl
 alone_told number44 = refl
 alone_told number50 = refl
@@ -27,25 +25,25 @@ alone_told number55 = refl
 alone_told number61 = refl
 alone_told number62 = refl
 
-node_told : {x : ℕ} → NumberWithNode x → is_reply (with_number x (naming 0 0)) ≡ true
+node_told : {x : ℕ} → NumberWithNode x → is_ok (with_number x (naming 0 0)) ≡ true
 node_told number41 = refl
 node_told number42 = refl
 
 -- a number that one of the replies has
-told_by_lem : (P : ℕ → Type 0) (x : ℕ) (rs : List Reply) → Each (λ r. P (reply_number r)) rs → is_reply (with_number x rs) ≡ true → P x
+told_by_lem : (P : ℕ → Type 0) (x : ℕ) (rs : List Reply) → Each (λ r. P (reply_number r)) rs → is_ok (with_number x rs) ≡ true → P x
 told_by_lem P x [] h e = clash (sym e)
 told_by_lem P x (r ∷ rs) h e = go (eqb x (reply_number r)) refl e (told_by_lem P x rs h.1)
   where
-    go : (t : Bool) → eqb x (reply_number r) ≡ t → is_reply (cond t (AnswerRead.Reply r) (with_number x rs)) ≡ true → (is_reply (with_number x rs) ≡ true → P x) → P x
+    go : (t : Bool) → eqb x (reply_number r) ≡ t → is_ok (cond t (Ok r) (with_number x rs)) ≡ true → (is_ok (with_number x rs) ≡ true → P x) → P x
     go true p f later = subst P (sym (eqb-true x (reply_number r) p)) h.0
     go false p f later = later f
 
-alone : (x : ℕ) → is_reply (with_number x numbered) ≡ true → NumberAlone x
+alone : (x : ℕ) → is_ok (with_number x numbered) ≡ true → NumberAlone x
 alone x e =
     told_by_lem NumberAlone x numbered
     (number50, (number51, (number52, (number53, (number54, (number55, (number61, (number62, (number43, (number44, tt)))))))))) e
 
-with_node : (x : ℕ) → is_reply (with_number x (naming 0 0)) ≡ true → NumberWithNode x
+with_node : (x : ℕ) → is_ok (with_number x (naming 0 0)) ≡ true → NumberWithNode x
 with_node x e = told_by_lem NumberWithNode x (naming 0 0) (number41, (number42, tt)) e
 
 -- ---- maps
@@ -101,26 +99,22 @@ answer_good m x = (permitted_answer m x, answer_permitted)
 
 -- ---- what such a message says
 
-abbrev pub is_call : CallRead → Bool
-is_call (CallRead.Call c) = true
-is_call (CallRead.Refused f) = false
-
-pub says_call : (s : Message) → permits to_board s.map s.number ≡ true → is_call (call_from s) ≡ true
+pub says_call : (s : Message) → permits to_board s.map s.number ≡ true → is_ok (call_from s) ≡ true
 says_call s h = go s.map refl ((call_good s.map s.number).0 h)
   where
-    go : (m : ℕ) → s.map ≡ m → CallMap m → is_call (call_from s) ≡ true
+    go : (m : ℕ) → s.map ≡ m → CallMap m → is_ok (call_from s) ≡ true
     go _ e ask = rw e
     go _ e completion = rw e
     go _ e outcome = rw e
 
-pub says_reply : (s : Message) → permits to_host s.map s.number ≡ true → is_reply (reply_from s) ≡ true
+pub says_reply : (s : Message) → permits to_host s.map s.number ≡ true → is_ok (reply_from s) ≡ true
 says_reply s h = go s.map s.number refl refl ((answer_good s.map s.number).0 h)
   where
-    node_any : {x : ℕ} (p n : ℕ) → NumberWithNode x → is_reply (with_number x (naming p n)) ≡ true
+    node_any : {x : ℕ} (p n : ℕ) → NumberWithNode x → is_ok (with_number x (naming p n)) ≡ true
     node_any p n number41 = refl
     node_any p n number42 = refl
 
-    go : (m x : ℕ) → s.map ≡ m → s.number ≡ x → AnswerMap m x → is_reply (reply_from s) ≡ true
+    go : (m x : ℕ) → s.map ≡ m → s.number ≡ x → AnswerMap m x → is_ok (reply_from s) ≡ true
     go _ x e f start = rw e
     go _ x e f wait = rw e
     go _ x e f done = rw e

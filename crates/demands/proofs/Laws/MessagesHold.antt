@@ -1,6 +1,6 @@
 -- `call_bytes_lem`, `reply_bytes_lem`: the bytes of each message. `call_message_lem`, `answer_message`: bytes are read as a call or a reply exactly
 -- where they are its bytes. `call_written`, `reply_written`: whatever they are read as, they are its bytes.
-use Rattle.std.specs.Prelude.{◌≡◌, refl, Bool, true, false, cond, List, ℕ, get_or}
+use Rattle.std.specs.Prelude.{◌≡◌, refl, Bool, true, false, cond, List, ℕ, get_or, Ok, Err}
 use Rattle.std.proofs.Common.{sym, ◌∙◌, ap, subst, append-nil}
 use Rattle.wire.specs.Number.{bytes_of}
 use Rattle.format.specs.Format.{print, result}
@@ -14,12 +14,10 @@ use Rattle.link_messages.specs.Inner.Bytes.{message_bytes}
 use Rattle.link_messages.proofs.Laws.Printed.{message_print}
 use Rattle.link_messages.proofs.Laws.Reading.{fields_at, read_by_lem}
 use Rattle.link_messages.proofs.Laws.RoundTrip.{written_back, read_back}
-use Rattle.link_calls.specs.declared.CallRead.{CallRead}
-use Rattle.link_calls.specs.declared.AnswerRead.{AnswerRead}
 use Rattle.link_calls.specs.Calls.{to_board, of_call, encode_call, refusal_of, call_from, read_call}
 use Rattle.link_calls.specs.Replies.{to_host, of_reply, encode_reply, reply_from, read_answer}
 use Rattle.link_calls.proofs.Laws.Listed.{call_permitted, reply_permitted}
-use Rattle.link_calls.proofs.Laws.Same.{no_call, no_reply, call_same, call_from_lem, reply_same, reply_from_lem}
+use Rattle.link_calls.proofs.Laws.Same.{call_same, call_from_lem, reply_same, reply_from_lem}
 use Rattle.demands.specs.Messages.{reply_bytes, StatementCallBytes, StatementReplyBytes, StatementCallMessage, StatementAnswerMessage, StatementCallWritten, StatementReplyWritten}
 
 -- ---- the bytes of each message
@@ -67,24 +65,24 @@ call_result (Call.Outcome t p n o) = refl
 pub call_written : StatementCallWritten
 unfolding read_call encode_call
 call_written b bytes c e =
-    by_length (has_length b) refl (permits to_board (get_or b 0 0) (fields_at (get_or b 0 0) b).number) refl (sym (read_by_lem to_board b call_from (λ n. CallRead.Refused (refusal_of n))) ∙ e)
+    by_length (has_length b) refl (permits to_board (get_or b 0 0) (fields_at (get_or b 0 0) b).number) refl (sym (read_by_lem to_board b call_from (λ n. Err (refusal_of n))) ∙ e)
   where
     by_length : (t : Bool) → has_length b ≡ t → (u : Bool) → permits to_board (get_or b 0 0) (fields_at (get_or b 0 0) b).number ≡ u
-        → cond t (cond u (call_from (fields_at (get_or b 0 0) b)) (CallRead.Refused Refusal.Unlisted)) (CallRead.Refused Refusal.Length) ≡ CallRead.Call c
+        → cond t (cond u (call_from (fields_at (get_or b 0 0) b)) (Err Refusal.Unlisted)) (Err Refusal.Length) ≡ Ok c
         → print (message to_board) (of_call c) ≡ b
     by_length true l true g h =
         message_print to_board (of_call c) ∙ call_same (fields_at (get_or b 0 0) b) c h
         ∙ sym (message_print to_board (fields_at (get_or b 0 0) b)) ∙ written_back to_board b bytes l g
-    by_length true l false g h = absurd (no_call h)
-    by_length false l u g h = absurd (no_call h)
+    by_length true l false g h = cc
+    by_length false l u g h = cc
 
 pub call_message_lem : StatementCallMessage
 unfolding read_call encode_call
 call_message_lem b bytes c fits = (
   call_written b bytes c,
   (λ e.
-      subst (λ (l : List ℕ). read_by to_board l call_from (λ n. CallRead.Refused (refusal_of n)) ≡ CallRead.Call c) e
-      (read_back to_board (of_call c) fits (call_permitted c) call_from (λ n. CallRead.Refused (refusal_of n)) ∙ ap call_from (call_result c) ∙ call_from_lem c)),
+      subst (λ (l : List ℕ). read_by to_board l call_from (λ n. Err (refusal_of n)) ≡ Ok c) e
+      (read_back to_board (of_call c) fits (call_permitted c) call_from (λ n. Err (refusal_of n)) ∙ ap call_from (call_result c) ∙ call_from_lem c)),
 )
 
 reply_result : (r : Reply) → result (message to_host) (of_reply r) ≡ of_reply r
@@ -102,22 +100,22 @@ reply_result (Reply.Stopped Stop.Beyond) = refl
 pub reply_written : StatementReplyWritten
 unfolding read_answer encode_reply
 reply_written b bytes r e =
-    by_length (has_length b) refl (permits to_host (get_or b 0 0) (fields_at (get_or b 0 0) b).number) refl (sym (read_by_lem to_host b reply_from (λ n. AnswerRead.Refused (refusal_of n))) ∙ e)
+    by_length (has_length b) refl (permits to_host (get_or b 0 0) (fields_at (get_or b 0 0) b).number) refl (sym (read_by_lem to_host b reply_from (λ n. Err (refusal_of n))) ∙ e)
   where
     by_length : (t : Bool) → has_length b ≡ t → (u : Bool) → permits to_host (get_or b 0 0) (fields_at (get_or b 0 0) b).number ≡ u
-        → cond t (cond u (reply_from (fields_at (get_or b 0 0) b)) (AnswerRead.Refused Refusal.Unlisted)) (AnswerRead.Refused Refusal.Length) ≡ AnswerRead.Reply r
+        → cond t (cond u (reply_from (fields_at (get_or b 0 0) b)) (Err Refusal.Unlisted)) (Err Refusal.Length) ≡ Ok r
         → print (message to_host) (of_reply r) ≡ b
     by_length true l true g h =
         message_print to_host (of_reply r) ∙ reply_same (fields_at (get_or b 0 0) b) r h
         ∙ sym (message_print to_host (fields_at (get_or b 0 0) b)) ∙ written_back to_host b bytes l g
-    by_length true l false g h = absurd (no_reply h)
-    by_length false l u g h = absurd (no_reply h)
+    by_length true l false g h = cc
+    by_length false l u g h = cc
 
 pub answer_message : StatementAnswerMessage
 unfolding read_answer encode_reply
 answer_message b bytes r fits = (
   reply_written b bytes r,
   (λ e.
-      subst (λ (l : List ℕ). read_by to_host l reply_from (λ n. AnswerRead.Refused (refusal_of n)) ≡ AnswerRead.Reply r) e
-      (read_back to_host (of_reply r) fits (reply_permitted r) reply_from (λ n. AnswerRead.Refused (refusal_of n)) ∙ ap reply_from (reply_result r) ∙ reply_from_lem r)),
+      subst (λ (l : List ℕ). read_by to_host l reply_from (λ n. Err (refusal_of n)) ≡ Ok r) e
+      (read_back to_host (of_reply r) fits (reply_permitted r) reply_from (λ n. Err (refusal_of n)) ∙ ap reply_from (reply_result r) ∙ reply_from_lem r)),
 )

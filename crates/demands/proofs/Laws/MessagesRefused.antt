@@ -1,21 +1,18 @@
 -- `call_length_62`, `call_unlisted_61`, `answer_length_62`, `answer_unlisted_61`: each refusal of a message in its condition, and no
 -- other (`only_these`).
-use Rattle.std.specs.Prelude.{◌≡◌, refl, Bool, true, false, cond, ◌↔◌, List, ℕ, length, get_or}
+use Rattle.std.specs.Prelude.{◌≡◌, refl, Bool, true, false, cond, ◌↔◌, List, ℕ, length, get_or, Result, Err, is_ok}
 use Rattle.std.proofs.Common.{sym, ◌∙◌, ap, subst, true≢false, arith}
 use Rattle.std.proofs.Math.Decide.{dec_le}
 use Rattle.basis.proofs.Laws.Bools.{clash}
 use Rattle.run_checks.specs.declared.Refusal.{Refusal}
-use Rattle.run.specs.Numbers.{refusal_number}
 use Rattle.link_messages.specs.declared.Message.{Message}
 use Rattle.link_messages.specs.Message.{Direction, has_length, read_by}
 use Rattle.link_messages.specs.Writing.{permits}
 use Rattle.link_messages.proofs.Laws.Lengths.{its_length, of_its_length}
 use Rattle.link_messages.proofs.Laws.Reading.{fields_at, read_by_lem, number_last}
-use Rattle.link_calls.specs.declared.CallRead.{CallRead}
-use Rattle.link_calls.specs.declared.AnswerRead.{AnswerRead}
 use Rattle.link_calls.specs.Calls.{to_board, refusal_of, call_from, read_call}
-use Rattle.link_calls.specs.Replies.{is_reply, to_host, reply_from, read_answer}
-use Rattle.demands.proofs.Laws.MessagesGood.{is_call, call_good, answer_good, says_call, says_reply}
+use Rattle.link_calls.specs.Replies.{to_host, reply_from, read_answer}
+use Rattle.demands.proofs.Laws.MessagesGood.{call_good, answer_good, says_call, says_reply}
 use Rattle.demands.specs.Messages.{WrongLength, empty, other, last_of, OfMessage, by61, by62, OnlyThese, StatementCallLength62, StatementCallUnlisted61, StatementAnswerLength62, StatementAnswerUnlisted61}
 
 -- ---- the length
@@ -53,37 +50,33 @@ module _ (d : Direction) (b : List ℕ) {A : Type 0} (value : Message → A) (wr
       go true e = then (permits d (get_or b 0 0) (fields_at (get_or b 0 0) b).number) refl e
       go false e = at62 e
 
-apart : Refusal.Length ≡ Refusal.Unlisted → ⊥
-apart e = let z : refusal_number Refusal.Length ≡ refusal_number Refusal.Unlisted = ap refusal_number e in omega arith
-
 -- a direction whose messages say a value, which is no refusal
-module _ (d : Direction) {A : Type 0} (value : Message → A) (wrong : Refusal → A) (is_good : A → Bool) (bad : (f : Refusal) → is_good (wrong f) ≡ false)
-    (same : (f g : Refusal) → wrong f ≡ wrong g → f ≡ g) (says : (s : Message) → permits d s.map s.number ≡ true → is_good (value s) ≡ true) (b : List ℕ) where
-  abbrev reads : A
-  reads = read_by d b value (λ n. wrong (refusal_of n))
+module _ (d : Direction) {A : Type 0} (value : Message → Result A Refusal) (says : (s : Message) → permits d s.map s.number ≡ true → is_ok (value s) ≡ true) (b : List ℕ) where
+  abbrev reads : Result A Refusal
+  reads = read_by d b value (λ n. Err (refusal_of n))
 
-  not_refused : (s : Message) → permits d s.map s.number ≡ true → (f : Refusal) → value s ≡ wrong f → ⊥
-  not_refused s h f e = true≢false (sym (says s h) ∙ ap is_good e ∙ bad f)
+  not_refused : (s : Message) → permits d s.map s.number ≡ true → (f : Refusal) → value s ≡ Err f → ⊥
+  not_refused s h f e = true≢false (sym (says s h) ∙ ap is_ok e)
 
-  length_iff : (reads ≡ wrong Refusal.Length) ↔ WrongLength b
+  length_iff : (reads ≡ Err Refusal.Length) ↔ WrongLength b
   length_iff =
-      by_cases d b value (λ n. wrong (refusal_of n)) (λ (a : A). (a ≡ wrong Refusal.Length) ↔ WrongLength b)
+      by_cases d b value (λ n. Err (refusal_of n)) (λ (a : Result A Refusal). (a ≡ Err Refusal.Length) ↔ WrongLength b)
       (λ e. ((λ h. wrong_length b e), λ w. refl))
-      (λ l e. ((λ h. absurd (apart (sym (same Refusal.Unlisted Refusal.Length h)))), λ w. absurd (length_wrong b w l)))
+      (λ l e. ((λ h. cc), λ w. absurd (length_wrong b w l)))
       (λ l e s h. ((λ q. absurd (not_refused s h Refusal.Length q)), λ w. absurd (length_wrong b w l)))
 
-  unlisted_iff : (reads ≡ wrong Refusal.Unlisted) ↔ ((WrongLength b → ⊥) × (permits d (get_or b 0 0) (last_of b) ≡ false))
+  unlisted_iff : (reads ≡ Err Refusal.Unlisted) ↔ ((WrongLength b → ⊥) × (permits d (get_or b 0 0) (last_of b) ≡ false))
   unlisted_iff =
-      by_cases d b value (λ n. wrong (refusal_of n)) (λ (a : A). (a ≡ wrong Refusal.Unlisted) ↔ ((WrongLength b → ⊥) × (permits d (get_or b 0 0) (last_of b) ≡ false)))
-      (λ e. ((λ h. absurd (apart (same Refusal.Length Refusal.Unlisted h))), λ q. absurd (q.0 (wrong_length b e))))
+      by_cases d b value (λ n. Err (refusal_of n)) (λ (a : Result A Refusal). (a ≡ Err Refusal.Unlisted) ↔ ((WrongLength b → ⊥) × (permits d (get_or b 0 0) (last_of b) ≡ false)))
+      (λ e. ((λ h. cc), λ q. absurd (q.0 (wrong_length b e))))
       (λ l e. ((λ h. ((λ w. length_wrong b w l), e)), λ q. refl))
       (λ l e s h. ((λ q. absurd (not_refused s h Refusal.Unlisted q)), λ q. clash (sym e ∙ q.1)))
 
-  only_two : (f : Refusal) → reads ≡ wrong f → OfMessage f
+  only_two : (f : Refusal) → reads ≡ Err f → OfMessage f
   only_two =
-      by_cases d b value (λ n. wrong (refusal_of n)) (λ (a : A). (f : Refusal) → a ≡ wrong f → OfMessage f)
-      (λ e f h. subst OfMessage (same Refusal.Length f h) by62)
-      (λ l e f h. subst OfMessage (same Refusal.Unlisted f h) by61)
+      by_cases d b value (λ n. Err (refusal_of n)) (λ (a : Result A Refusal). (f : Refusal) → a ≡ Err f → OfMessage f)
+      (λ e f h. let z : Refusal.Length ≡ f = cc in subst OfMessage z by62)
+      (λ l e f h. let z : Refusal.Unlisted ≡ f = cc in subst OfMessage z by61)
       (λ l e s h f q. absurd (not_refused s h f q))
 
 -- a test that is false, of a statement that it tells
@@ -96,20 +89,14 @@ denies {t} {P} tells = ((λ e p. true≢false (sym (tells.1 p) ∙ e)), go t tel
 
 -- ---- to the board
 
-call_bad : (f : Refusal) → is_call (CallRead.Refused f) ≡ false
-call_bad f = refl
-
-call_refusal : (f g : Refusal) → CallRead.Refused f ≡ CallRead.Refused g → f ≡ g
-call_refusal f g e = cc
-
 pub call_length_62 : StatementCallLength62
 unfolding read_call
-call_length_62 b = length_iff to_board call_from CallRead.Refused is_call call_bad call_refusal says_call b
+call_length_62 b = length_iff to_board call_from says_call b
 
 pub call_unlisted_61 : StatementCallUnlisted61
 unfolding read_call
 call_unlisted_61 b =
-    let i = unlisted_iff to_board call_from CallRead.Refused is_call call_bad call_refusal says_call b in
+    let i = unlisted_iff to_board call_from says_call b in
     let g = denies (call_good (get_or b 0 0) (last_of b)) in (
       (λ e. let u = i.0 e in record { its_length = u.0; unlisted = g.0 u.1 }),
       λ u. i.1 (u.its_length, g.1 u.unlisted),
@@ -117,20 +104,14 @@ call_unlisted_61 b =
 
 -- ---- to the host
 
-reply_bad : (f : Refusal) → is_reply (AnswerRead.Refused f) ≡ false
-reply_bad f = refl
-
-answer_refusal : (f g : Refusal) → AnswerRead.Refused f ≡ AnswerRead.Refused g → f ≡ g
-answer_refusal f g e = cc
-
 pub answer_length_62 : StatementAnswerLength62
 unfolding read_answer
-answer_length_62 b = length_iff to_host reply_from AnswerRead.Refused is_reply reply_bad answer_refusal says_reply b
+answer_length_62 b = length_iff to_host reply_from says_reply b
 
 pub answer_unlisted_61 : StatementAnswerUnlisted61
 unfolding read_answer
 answer_unlisted_61 b =
-    let i = unlisted_iff to_host reply_from AnswerRead.Refused is_reply reply_bad answer_refusal says_reply b in
+    let i = unlisted_iff to_host reply_from says_reply b in
     let g = denies (answer_good (get_or b 0 0) (last_of b)) in (
       (λ e. let u = i.0 e in record { its_length = u.0; unlisted = g.0 u.1 }),
       λ u. i.1 (u.its_length, g.1 u.unlisted),
@@ -139,8 +120,8 @@ answer_unlisted_61 b =
 pub only_these : OnlyThese
 unfolding read_call read_answer
 only_these = record {
-  call = λ b. only_two to_board call_from CallRead.Refused is_call call_bad call_refusal says_call b;
-  answer = λ b. only_two to_host reply_from AnswerRead.Refused is_reply reply_bad answer_refusal says_reply b;
+  call = λ b. only_two to_board call_from says_call b;
+  answer = λ b. only_two to_host reply_from says_reply b;
   is61 = refl;
   is62 = refl;
 }

@@ -1,8 +1,8 @@
 -- `sent_call`, `sent_answer`: a writer answers 61, 36 or the bytes, each in its condition. `lent`, `writer_numbers`: what it leaves in
 -- the buffer, and its numbers. `never_61`: of the message of a call, and of a reply.
-use Rattle.std.specs.Prelude.{◌≡◌, Bool, cond, List, ◌++◌, ◌↔◌, ℕ, length, take}
+use Rattle.std.specs.Prelude.{◌≡◌, Bool, cond, List, ◌++◌, ◌↔◌, ℕ, length, take, Result, Ok, Err}
 use Rattle.std.proofs.Math.Path.{refl}
-use Rattle.std.proofs.Common.{sym, ◌∙◌, ap, subst, true≢false, arith, length-append, length-drop}
+use Rattle.std.proofs.Common.{sym, ◌∙◌, subst, true≢false, arith, length-append, length-drop}
 use Rattle.std.proofs.Math.Bool.{true, false}
 use Rattle.std.proofs.Math.ListN.{drop}
 use Rattle.std.proofs.Math.Seq.{take-append_seam, drop-append_seam}
@@ -11,9 +11,8 @@ use borrow.Author.Tests.{leb-true, leb-false, le-leb, lt-leb}
 use Rattle.format.specs.Format.{print}
 use Rattle.link_messages.specs.declared.Message.{Message}
 use Rattle.link_messages.specs.declared.NotSent.{NotSent}
-use Rattle.link_messages.specs.declared.Sent.{Sent}
 use Rattle.link_messages.specs.Message.{Direction, message}
-use Rattle.link_messages.specs.Writing.{number_of, permits, sent_of, buffer_of}
+use Rattle.link_messages.specs.Writing.{permits, sent_of, buffer_of}
 use Rattle.link_messages.proofs.Laws.Lengths.{message_length}
 use Rattle.link_calls.specs.Calls.{to_board, of_call}
 use Rattle.link_calls.specs.Replies.{to_host, of_reply}
@@ -27,16 +26,16 @@ module _ (d : Direction) (s : Message) (out : List ℕ) where
   bytes = print (message d) s
 
   -- each answer with its buffer, by the two tests
-  by_tests : (P : Sent → List ℕ → Type 0)
-      → (permits d s.map s.number ≡ false → P (Sent.Refused NotSent.Unlisted) out)
-      → (permits d s.map s.number ≡ true → leb (length bytes) (length out) ≡ false → P (Sent.Refused NotSent.TooShort) out)
-      → (permits d s.map s.number ≡ true → leb (length bytes) (length out) ≡ true → P (Sent.Bytes (length bytes)) (bytes ++ drop (length bytes) out))
+  by_tests : (P : Result ℕ NotSent → List ℕ → Type 0)
+      → (permits d s.map s.number ≡ false → P (Err NotSent.Unlisted) out)
+      → (permits d s.map s.number ≡ true → leb (length bytes) (length out) ≡ false → P (Err NotSent.TooShort) out)
+      → (permits d s.map s.number ≡ true → leb (length bytes) (length out) ≡ true → P (Ok (length bytes)) (bytes ++ drop (length bytes) out))
       → P (sent_of d s out) (buffer_of d s out)
   unfolding sent_of buffer_of
   by_tests P at61 at36 wrote = go (permits d s.map s.number) refl (leb (length bytes) (length out)) refl
     where
       go : (t : Bool) → permits d s.map s.number ≡ t → (u : Bool) → leb (length bytes) (length out) ≡ u
-          → P (cond t (cond u (Sent.Bytes (length bytes)) (Sent.Refused NotSent.TooShort)) (Sent.Refused NotSent.Unlisted)) (cond t (cond u (bytes ++ drop (length bytes) out) out) out)
+          → P (cond t (cond u (Ok (length bytes)) (Err NotSent.TooShort)) (Err NotSent.Unlisted)) (cond t (cond u (bytes ++ drop (length bytes) out) out) out)
       go true e true f = wrote e f
       go true e false f = at36 e f
       go false e u f = at61 e
@@ -44,18 +43,18 @@ module _ (d : Direction) (s : Message) (out : List ℕ) where
   module _ (Good : Type 0) (tells : (permits d s.map s.number ≡ true) ↔ Good) where
     sends : Sends Good s out (sent_of d s out)
     sends =
-        by_tests (λ (w : Sent) (l : List ℕ). Sends Good s out w)
+        by_tests (λ (w : Result ℕ NotSent) (l : List ℕ). Sends Good s out w)
         (λ e. unlisted ((denies tells).0 e))
         (λ e f. short (tells.0 e) (omega (arith, leb-false (length bytes) (length out) f, message_length d s)))
-        (λ e f. subst (λ (n : ℕ). Sends Good s out (Sent.Bytes n)) (sym (message_length d s)) (written (tells.0 e) (omega (arith, leb-true (length bytes) (length out) f, message_length d s))))
+        (λ e f. subst (λ (n : ℕ). Sends Good s out (Ok n)) (sym (message_length d s)) (written (tells.0 e) (omega (arith, leb-true (length bytes) (length out) f, message_length d s))))
 
-    gives : (w : Sent) → Sends Good s out w → sent_of d s out ≡ w
+    gives : (w : Result ℕ NotSent) → Sends Good s out w → sent_of d s out ≡ w
     unfolding sent_of
     gives w (unlisted n) = rw ((denies tells).1 n)
     gives w (short g l) = rw (tells.1 g, lt-leb (length bytes) (length out) (omega (arith, message_length d s)))
     gives w (written g l) = rw (tells.1 g, le-leb (length bytes) (length out) (omega (arith, message_length d s)), message_length d s)
 
-    sent_iff : (w : Sent) → (sent_of d s out ≡ w) ↔ Sends Good s out w
+    sent_iff : (w : Result ℕ NotSent) → (sent_of d s out ≡ w) ↔ Sends Good s out w
     sent_iff w = ((λ e. subst (Sends Good s out) e sends), gives w)
 
 pub sent_call : StatementSentCall
@@ -66,36 +65,23 @@ sent_answer s out = sent_iff to_host s out _ (answer_good s.map s.number)
 
 -- ---- the buffer
 
-abbrev Writing : Sent → Type 0
-Writing (Sent.Bytes n) = Unit {0}
-Writing (Sent.Refused n) = ⊥
-
-apart : {r : NotSent} {n : ℕ} → Sent.Refused r ≡ Sent.Bytes n → ⊥
-apart e = subst Writing (sym e) tt
-
-same_bytes : {n m : ℕ} → Sent.Bytes n ≡ Sent.Bytes m → n ≡ m
-same_bytes e = cc
-
-same_refusal : {n m : NotSent} → Sent.Refused n ≡ Sent.Refused m → n ≡ m
-same_refusal e = cc
-
 -- of an answer and its buffer: what holds where bytes were written
 module _ (d : Direction) (s : Message) (out : List ℕ) (P : ℕ → List ℕ → Type 0) where
   where_written : (leb (length (print (message d) s)) (length out) ≡ true → P (length (print (message d) s)) (print (message d) s ++ drop (length (print (message d) s)) out))
-      → (n : ℕ) → sent_of d s out ≡ Sent.Bytes n → P n (buffer_of d s out)
+      → (n : ℕ) → sent_of d s out ≡ Ok n → P n (buffer_of d s out)
   where_written h =
-      by_tests d s out (λ (w : Sent) (l : List ℕ). (n : ℕ) → w ≡ Sent.Bytes n → P n l)
-      (λ e n f. absurd (apart f))
-      (λ e g n f. absurd (apart f))
-      (λ e g n f. subst (λ (k : ℕ). P k (print (message d) s ++ drop (length (print (message d) s)) out)) (same_bytes f) (h g))
+      by_tests d s out (λ (w : Result ℕ NotSent) (l : List ℕ). (n : ℕ) → w ≡ Ok n → P n l)
+      (λ e n f. cc)
+      (λ e g n f. cc)
+      (λ e g n f. let z : length (print (message d) s) ≡ n = cc in subst (λ (k : ℕ). P k (print (message d) s ++ drop (length (print (message d) s)) out)) z (h g))
 
 pub lent : StatementLent
 lent d s out = record {
   refused =
-      by_tests d s out (λ (w : Sent) (l : List ℕ). (n : NotSent) → w ≡ Sent.Refused n → l ≡ out)
+      by_tests d s out (λ (w : Result ℕ NotSent) (l : List ℕ). (n : NotSent) → w ≡ Err n → l ≡ out)
       (λ e n f. refl)
       (λ e g n f. refl)
-      (λ e g n f. absurd (apart (sym f)));
+      (λ e g n f. cc);
   front = where_written d s out (λ (n : ℕ) (l : List ℕ). take n l ≡ print (message d) s) (λ g. take-append_seam (print (message d) s) _);
   behind = where_written d s out (λ (n : ℕ) (l : List ℕ). drop n l ≡ drop n out) (λ g. drop-append_seam (print (message d) s) _);
   as_long =
@@ -108,12 +94,12 @@ lent d s out = record {
 pub writer_numbers : WriterNumbers
 writer_numbers = record { is61 = refl; is36 = refl; place = λ n. refl }
 
-permitted : (d : Direction) (s : Message) (out : List ℕ) → permits d s.map s.number ≡ true → sent_of d s out ≡ Sent.Refused NotSent.Unlisted → ⊥
+permitted : (d : Direction) (s : Message) (out : List ℕ) → permits d s.map s.number ≡ true → sent_of d s out ≡ Err NotSent.Unlisted → ⊥
 permitted d s out good e =
-    by_tests d s out (λ (w : Sent) (l : List ℕ). w ≡ Sent.Refused NotSent.Unlisted → ⊥)
+    by_tests d s out (λ (w : Result ℕ NotSent) (l : List ℕ). w ≡ Err NotSent.Unlisted → ⊥)
     (λ f q. true≢false (sym good ∙ f))
-    (λ f g q. let z : number_of NotSent.TooShort ≡ number_of NotSent.Unlisted = ap number_of (same_refusal q) in omega arith)
-    (λ f g q. apart (sym q))
+    (λ f g q. cc)
+    (λ f g q. cc)
     e
 
 pub never_61 : Never61

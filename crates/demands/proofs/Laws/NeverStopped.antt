@@ -1,9 +1,8 @@
 -- `unfailed`: a list of calls whose last answer is neither refused nor stopped was never stopped, so no loading of it has failed: a
 -- run that has stopped answers its stop, or 50, and stays as it is.
-use Rattle.std.specs.Prelude.{◌≡◌, refl, Bool, true, false, List, [], ◌∷◌}
+use Rattle.std.specs.Prelude.{◌≡◌, refl, Bool, true, false, List, [], ◌∷◌, Some}
 use Rattle.std.proofs.Common.{sym, ap, ◌∙◌, subst, ⊎_elim}
 use Rattle.run.specs.declared.Run.{Run}
-use Rattle.run_checks.specs.declared.Halt.{Halt}
 use Rattle.run_checks.specs.declared.Stop.{Stop}
 use Rattle.run.specs.declared.Call.{Call}
 use Rattle.run.specs.declared.Reply.{Reply}
@@ -36,14 +35,14 @@ record Stays (run : Run) (a : Answer) : Type 0 where
   same : a.run ≡ run
   ended : GoesOn a.reply → ⊥
 
-stays : (run : Run) (s : Stop) (c : Call) → run.halt ≡ Halt.Stopped s → Stays run (call_of run c)
+stays : (run : Run) (s : Stop) (c : Call) → run.halt ≡ Some s → Stays run (call_of run c)
 stays run s c h = go (run_in_limits run) refl
   where
     go : (b : Bool) → run_in_limits run ≡ b → Stays run (call_of run c)
     go true l = subst (Stays run) (sym (stop_kept run s c l h)) (record { same = refl; ended = λ q. q })
     go false l = subst (Stays run) (sym (out_gets_50 run c l)) (record { same = refl; ended = λ q. q })
 
-halts : (run : Run) (c : Call) (r : Reply) → (call_of run c).reply ≡ r → Stops r → (s : Stop) × ((call_of run c).run.halt ≡ Halt.Stopped s)
+halts : (run : Run) (c : Call) (r : Reply) → (call_of run c).reply ≡ r → Stops r → (s : Stop) × ((call_of run c).run.halt ≡ Some s)
 halts run c (Reply.Start _ _ _) e q = elim q [ ]
 halts run c Reply.Wait e q = elim q [ ]
 halts run c Reply.Done e q = elim q [ ]
@@ -62,7 +61,7 @@ stops_ended (Reply.Stopped s) q g = g
 -- ---- a list
 
 record StopLasts (d : Driven) : Type 0 where
-  halted : StoppedIn d.log → (s : Stop) × (d.run.halt ≡ Halt.Stopped s)
+  halted : StoppedIn d.log → (s : Stop) × (d.run.halt ≡ Some s)
   ended : EndsGoing d.log → StoppedIn d.log → ⊥
 
 lasting : (cs : List Call) (log : Log) (run : Run) → StopLasts (record { log = log; run = run }) → StopLasts (drive log run cs)

@@ -10,7 +10,7 @@ use Rattle.plan.specs.declared.Node.{Node}
 use Rattle.plan.specs.declared.Output.{Output}
 use Rattle.plan.specs.declared.Transition.{Transition}
 use Rattle.plan.specs.declared.Plan.{Plan}
-use Rattle.plan.specs.declared.Verdict.{Verdict}
+use Rattle.plan.specs.Verdict.{Verdict}
 use Rattle.activity.specs.Rules.{node, Is}
 use Rattle.activity.specs.Activities.{MeetsAt, FirstAt}
 use Rattle.automaton.specs.Rules.{Processes, emits, MeetsAutomaton, Judges}

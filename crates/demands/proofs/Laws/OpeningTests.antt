@@ -1,5 +1,5 @@
 -- Every test of an opening tells its condition.
-use Rattle.std.specs.Prelude.{◌≡◌, refl, Bool, true, false, cond, ◌||◌, List, [], ◌∷◌, ◌⊎◌, ℕ, zero, suc, ◌+◌, ◌≤◌, ◌<◌, ltb, length, get_or}
+use Rattle.std.specs.Prelude.{◌≡◌, refl, Bool, true, false, cond, ◌||◌, List, [], ◌∷◌, ◌⊎◌, ℕ, zero, suc, ◌+◌, ◌≤◌, ◌<◌, ltb, length, get_or, Option}
 use Rattle.std.proofs.Common.{ap, subst, inl, inr, ⊎_elim, arith}
 use Rattle.std.proofs.Math.Decide.{ℕ_discrete, dec_lt}
 use Rattle.basis.specs.Inner.Tells.{Tells, holds, fails}
@@ -12,7 +12,6 @@ use Rattle.plan.specs.declared.Node.{Node}
 use Rattle.plan.specs.declared.Plan.{Plan}
 use Rattle.run_path.specs.Path.{is_work}
 use Rattle.run.specs.Limits.{slack_in_limits}
-use Rattle.run_opening.specs.declared.Short.{Short}
 use Rattle.run_opening.specs.Short.{on_short, any_short, short_from}
 use Rattle.run_opening.specs.Given.{any_above}
 use Rattle.demands_theory.specs.Nodes.{Working}
@@ -86,11 +85,11 @@ tells_short slack [] = some-none past_node (λ x. Working x.kind × (x.duration 
 tells_short slack (n ∷ ns) = some_more past_node (λ x. Working x.kind × (x.duration ≤ slack)) n ns (tells_and (tells_working n.kind) (tells_leb n.duration slack)) (tells_short slack ns)
 
 -- the lowest of k numbers from a on that has P
-pub data Finds (P : ℕ → Type 0) (a k : ℕ) : Short → Type 0 where
-  nothing : ((b : ℕ) → a ≤ b → b < a + k → P b → ⊥) → Finds P a k Short.Nothing
-  lowest : {c : ℕ} → a ≤ c → c < a + k → P c → ((b : ℕ) → a ≤ b → b < c → P b → ⊥) → Finds P a k (Short.Activity c)
+pub data Finds (P : ℕ → Type 0) (a k : ℕ) : Option ℕ → Type 0 where
+  nothing : ((b : ℕ) → a ≤ b → b < a + k → P b → ⊥) → Finds P a k Option.None
+  lowest : {c : ℕ} → a ≤ c → c < a + k → P c → ((b : ℕ) → a ≤ b → b < c → P b → ⊥) → Finds P a k (Option.Some c)
 
-find_on : (P : ℕ → Type 0) (a k : ℕ) {b : Bool} {s : Short} → Tells b (P a) → Finds P (a + 1) k s → Finds P a (suc k) (cond b (Short.Activity a) s)
+find_on : (P : ℕ → Type 0) (a k : ℕ) {b : Bool} {s : Option ℕ} → Tells b (P a) → Finds P (a + 1) k s → Finds P a (suc k) (cond b (Option.Some a) s)
 find_on P a k (holds p) f = lowest {c = a} (omega arith) (omega arith) p (λ b l m. absurd (omega arith))
 find_on P a k (fails n) (nothing g) =
     nothing (λ b l m h. elim (ℕ_discrete b a) [ yes z ↦ n (subst P z h) | no z ↦ g b (omega (arith, z)) (omega arith) h ])
@@ -109,18 +108,18 @@ module _ (p : Plan) (slack : ℕ) where
   is_short_lem : (a : ℕ) → HasShort p slack a → SomeShort slack (activity_of p a)
   is_short_lem a h = (h.number, h.short.within, (h.short.working, h.short.short))
 
-  pub by_finds : {A : Type 0} (Q : A → Type 0) {s : Short} (f : ℕ → A) (z : A) → Finds (λ b. SomeShort slack (activity_of p b)) 0 p.activities s
+  pub by_finds : {A : Type 0} (Q : A → Type 0) {s : Option ℕ} (f : ℕ → A) (z : A) → Finds (λ b. SomeShort slack (activity_of p b)) 0 p.activities s
       → ((a : ℕ) → LowestShort p slack a → Q (f a)) → (((a : ℕ) → HasShort p slack a → ⊥) → Q z) → Q (on_short s f z)
   by_finds Q f z (nothing g) u v = v (λ a h. g a (omega arith) (omega (arith, h.within)) (is_short_lem a h))
   by_finds Q f z (lowest {c} l m s g) u v = u c (record { here = has_short c (omega arith) s; lower = λ b i h. g b (omega arith) i (is_short_lem b h) })
 
-  pub lowest_is : {s : Short} (a : ℕ) → Finds (λ b. SomeShort slack (activity_of p b)) 0 p.activities s → LowestShort p slack a → s ≡ Short.Activity a
+  pub lowest_is : {s : Option ℕ} (a : ℕ) → Finds (λ b. SomeShort slack (activity_of p b)) 0 p.activities s → LowestShort p slack a → s ≡ Option.Some a
   lowest_is a (nothing g) h = absurd (g a (omega arith) (omega (arith, h.here.within)) (is_short_lem a h.here))
   lowest_is a (lowest {c} l m s g) h = elim (dec_lt c a) [
     | yes u ↦ absurd (h.lower c u (has_short c (omega arith) s))
-    | no u ↦ elim (dec_lt a c) [ yes v ↦ absurd (g a (omega arith) v (is_short_lem a h.here)) | no v ↦ ap Short.Activity (omega (arith, u, v)) ]
+    | no u ↦ elim (dec_lt a c) [ yes v ↦ absurd (g a (omega arith) v (is_short_lem a h.here)) | no v ↦ ap Option.Some (omega (arith, u, v)) ]
   ]
 
-  pub none_is : {s : Short} → Finds (λ b. SomeShort slack (activity_of p b)) 0 p.activities s → ((a : ℕ) → HasShort p slack a → ⊥) → s ≡ Short.Nothing
+  pub none_is : {s : Option ℕ} → Finds (λ b. SomeShort slack (activity_of p b)) 0 p.activities s → ((a : ℕ) → HasShort p slack a → ⊥) → s ≡ Option.None
   none_is (nothing g) n = refl
   none_is (lowest {c} l m s g) n = absurd (n c (has_short c (omega arith) s))

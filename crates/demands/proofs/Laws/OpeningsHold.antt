@@ -1,6 +1,6 @@
 -- `opening_by`: each answer of an opening occurs in its stated condition and order and in no other. `opening_numbers`: so does
 -- each number with its place. Forwards by cases of the tests; backwards each condition settles the tests before it.
-use Rattle.std.specs.Prelude.{◌≡◌, true, false, ◌||◌, List, ℕ, ◌≤◌, ltb, eqb}
+use Rattle.std.specs.Prelude.{◌≡◌, true, false, ◌||◌, List, ℕ, ◌≤◌, ltb, eqb, None, Ok, Err}
 use Rattle.std.proofs.Math.Path.{refl}
 use Rattle.std.proofs.Common.{ap, ◌∙◌, subst}
 use Rattle.std.proofs.Math.ListN.{length}
@@ -8,12 +8,11 @@ use Rattle.basis.proofs.Laws.Tells.{told_true, told_false, tells_eqb, by_tells, 
 use Rattle.basis.proofs.Laws.Bools.{by_test}
 use Rattle.time.specs.Time.{horizon}
 use Rattle.time.specs.declared.Clock.{Clock}
-use Rattle.plan.specs.declared.Verdict.{Verdict}
+use Rattle.plan.specs.Verdict.{Verdict}
 use Rattle.judge.specs.Judge.{judge_of}
 use Rattle.run.specs.Limits.{slack_in_limits}
 use Rattle.run.specs.Loading.{load}
 use Rattle.numbers.proofs.Laws.Openings.{same_refusal}
-use Rattle.run_opening.specs.declared.Short.{Short}
 use Rattle.run_opening.specs.Given.{any_above}
 use Rattle.run_opening.specs.Short.{short_from}
 use Rattle.run.specs.Opening.{first_loaded, begin, fresh, open_plan, open_judged, open_of}
@@ -41,7 +40,7 @@ module _ (bytes : List ℕ) (are : Bytes bytes) (psi : Clock) (slack : ℕ) (ts 
       (λ h. record { opens = OpensBy.number43 (record { earlier = l; none = told_false (tells_44 bytes are psi slack ts l) b }) h })
       (λ h. record { opens = OpensBy.opened (record { earlier = l; none = told_false (tells_44 bytes are psi slack ts l) b }) h })
 
-  open_plan_lem : Judged bytes Verdict.Accepted → OpensOf (open_plan (plan_of bytes) psi slack ts)
+  open_plan_lem : Judged bytes (Ok tt) → OpensOf (open_plan (plan_of bytes) psi slack ts)
   unfolding open_plan
   open_plan_lem e =
       by_tells OpensOf _ _ (tells_eqb (length ts) (plan_of bytes).resources) (λ c.
@@ -59,8 +58,8 @@ module _ (bytes : List ℕ) (are : Bytes bytes) (psi : Clock) (slack : ℕ) (ts 
       slackened c n i = record { earlier = record { earlier = counted c; none = n }; none = inside slack i }
 
   open_judged_lem : (v : Verdict) → (judge_of bytes).verdict ≡ v → OpensOf (open_judged v (plan_of bytes) psi slack ts)
-  open_judged_lem Verdict.Accepted e = open_plan_lem ((verdict bytes Verdict.Accepted are).0 e)
-  open_judged_lem (Verdict.Refused f place) e = record { opens = OpensBy.author ((verdict bytes (Verdict.Refused f place) are).0 e) }
+  open_judged_lem (Ok u) e = open_plan_lem ((verdict bytes (Ok tt) are).0 e)
+  open_judged_lem (Err x) e = record { opens = OpensBy.author ((verdict bytes (Err x) are).0 e) }
 
   forward : OpensOf (open_of bytes psi slack ts)
   unfolding open_of
@@ -81,7 +80,7 @@ module _ (bytes : List ℕ) (are : Bytes bytes) (psi : Clock) (slack : ℕ) (ts 
   passed_32 : WithSlack bytes psi slack ts → slack_in_limits slack ≡ true
   passed_32 h = is_true (tells_slack slack) (λ n. h.none (outside slack n))
 
-  passed_33 : Lasting bytes psi slack ts → short_from (plan_of bytes) slack 0 (plan_of bytes).activities ≡ Short.Nothing
+  passed_33 : Lasting bytes psi slack ts → short_from (plan_of bytes) slack 0 (plan_of bytes).activities ≡ None
   passed_33 h = none_is (plan_of bytes) slack (finds (plan_of bytes) slack (plan_of bytes).activities 0) h.none
 
   passed_44 : WithinHorizon bytes psi slack ts → (first_path (plan_of bytes) ts).beyond ≡ false

@@ -1,5 +1,5 @@
 -- `replies_by_content`: runs that differ in nothing but the places of their nodes answer alike, and differ in nothing else afterwards.
-use Rattle.std.specs.Prelude.{◌≡◌, refl, Bool, ◌&&◌, List, [], ◌∷◌, ℕ, ◌<◌, ltb, set}
+use Rattle.std.specs.Prelude.{◌≡◌, refl, Bool, ◌&&◌, List, [], ◌∷◌, ℕ, ◌<◌, ltb, set, Option, Some, None}
 use Rattle.std.proofs.Common.{sym, subst, true≢false, ⊎_elim, arith}
 use Rattle.std.proofs.Math.Path.{ap}
 use Rattle.std.proofs.Math.Bool.{cond}
@@ -17,7 +17,6 @@ use Rattle.run_window.proofs.Laws.Places.{stored_only, cleared_only}
 use Rattle.run_window.proofs.Laws.Order.{by_service, by_time, service_telling, time_telling}
 use Rattle.run_window.proofs.Laws.Content.{same_empty, by_both}
 use Rattle.run_outcomes.specs.Told.{told_of}
-use Rattle.run_checks.specs.declared.Halt.{Halt}
 use Rattle.run_checks.specs.declared.Stop.{Stop}
 use Rattle.run_checks.specs.declared.Refusal.{Refusal}
 use Rattle.run_checks.specs.Order.{is_below, timely_by}
@@ -42,21 +41,21 @@ record LikeAnswer (a b : Answer) : Type 0 where
   reply : a.reply ≡ b.reply
   run : Like a.run b.run
 
-after_like : (f : Failure) (a b : Run) → Like a b → LikeAnswer (after_loading f a) (after_loading f b)
+after_like : (f : Option Failure) (a b : Run) → Like a b → LikeAnswer (after_loading f a) (after_loading f b)
 after_like f a b r = go f
   where
     stopped : (s : Stop) → Like (halted_by a s) (halted_by b s)
     stopped s = record { rest = ap (λ (x : Run). halted_by x s) r.rest; content = r.content; loaded = r.loaded }
 
-    go : (f : Failure) → LikeAnswer (after_loading f a) (after_loading f b)
-    go Failure.None = record { reply = refl; run = r }
-    go Failure.Full = record { reply = refl; run = stopped Stop.Full }
-    go Failure.Beyond = record { reply = refl; run = stopped Stop.Beyond }
+    go : (f : Option Failure) → LikeAnswer (after_loading f a) (after_loading f b)
+    go None = record { reply = refl; run = r }
+    go (Some Failure.Full) = record { reply = refl; run = stopped Stop.Full }
+    go (Some Failure.Beyond) = record { reply = refl; run = stopped Stop.Beyond }
 
 learnt_like : (a b : Run) → Like a b → LikeAnswer (learnt a) (learnt b)
 learnt_like a b r =
     let h = further_like most_pending a b r in
-    subst (λ (f : Failure). LikeAnswer (learnt a) (after_loading f (further most_pending b).run)) h.failure (after_like (further most_pending a).failure _ _ h.run)
+    subst (λ (f : Option Failure). LikeAnswer (learnt a) (after_loading f (further most_pending b).run)) h.failure (after_like (further most_pending a).failure _ _ h.run)
 
 module _ (run : Run) (v : List Entry) (c : SameContent run.window v) (old : Before run.progress run.window) where
   abbrev other : Run
@@ -66,19 +65,19 @@ module _ (run : Run) (v : List Entry) (c : SameContent run.window v) (old : Befo
   same : (r : Reply) → LikeAnswer (record { reply = r; run = run }) (record { reply = r; run = other })
   same r = record { reply = refl; run = record { rest = refl; content = c; loaded = old } }
 
-  heard_like : (t : Clock) (h : Halt) (g : Progress) (w u : List Entry) → SameContent w u → Before g w → Like (heard run t h g w) (heard other t h g u)
+  heard_like : (t : Clock) (h : Option Stop) (g : Progress) (w u : List Entry) → SameContent w u → Before g w → Like (heard run t h g w) (heard other t h g u)
   heard_like t h g w u d b = record { rest = refl; content = d; loaded = b }
 
   -- a stop, and a wait
-  unmoved : (t : Clock) (h : Halt) → Like (heard run t h run.progress run.window) (heard other t h run.progress v)
+  unmoved : (t : Clock) (h : Option Stop) → Like (heard run t h run.progress run.window) (heard other t h run.progress v)
   unmoved t h = heard_like t h run.progress run.window v c old
 
   -- ---- ask
 
   started_like : (t : Clock) (i j : ℕ) (e : Entry) → Holds run.window i e → Holds v j e
-      → Like (heard run t Halt.Going run.progress (set run.window i (started_of e))) (heard other t Halt.Going run.progress (set v j (started_of e)))
+      → Like (heard run t None run.progress (set run.window i (started_of e))) (heard other t None run.progress (set v j (started_of e)))
   started_like t i j e p q =
-      heard_like t Halt.Going run.progress _ _ (content_stored run.window v c i j e (started_of e) p q (λ h. (refl, refl)))
+      heard_like t None run.progress _ _ (content_stored run.window v c i j e (started_of e) p q (λ h. (refl, refl)))
       (λ k x h. ⊎_elim (λ s. subst (λ (y : Entry). y.position < run.progress.position) s.1 (old i e p)) (λ s. old k x s.1) (stored_only run.window i (started_of e) k x h))
 
   asked_like : (t : Clock) → LikeAnswer (asked run t) (asked other t)
@@ -86,7 +85,7 @@ module _ (run : Run) (v : List Entry) (c : SameContent run.window v) (old : Befo
   asked_like t =
       by_both (by_service run.plan.nodes) (service_telling run.plan.nodes) (is_due run.psi t) (λ e q. ap is_held ((due_tells run.psi t e).0 q).0) LikeAnswer run.window v c.there c.back c.once.1 _ _ _ _
       (λ i j e s p q. record { reply = refl; run = started_like t i j e p q })
-      (record { reply = ap (λ (b : Bool). cond (is_final run.plan.automaton run.progress.state && b) Reply.Done Reply.Wait) (same_empty run.window v c.there c.back); run = unmoved t Halt.Going })
+      (record { reply = ap (λ (b : Bool). cond (is_final run.plan.automaton run.progress.state && b) Reply.Done Reply.Wait) (same_empty run.window v c.there c.back); run = unmoved t None })
 
   -- ---- reports
 
@@ -99,7 +98,7 @@ module _ (run : Run) (v : List Entry) (c : SameContent run.window v) (old : Befo
   module _ (t : Clock) (i j : ℕ) (e : Entry) (p : Holds run.window i e) (q : Holds v j e) where
     cleared_like : (g : Progress) → g.position ≡ run.progress.position → Like (cleared run t i g) (cleared other t j g)
     cleared_like g z =
-        heard_like t Halt.Going g _ _ (content_stored run.window v c i j e vacant p q (λ h. absurd (true≢false (sym h))))
+        heard_like t None g _ _ (content_stored run.window v c i j e vacant p q (λ h. absurd (true≢false (sym h))))
         (λ k x h. let b = old k x (cleared_only run.window i k x h).1 in omega arith)
 
     completed_by_like : (k : Kind) → LikeAnswer (completed_by run t i k) (completed_by other t j k)
@@ -143,18 +142,18 @@ module _ (run : Run) (v : List Entry) (c : SameContent run.window v) (old : Befo
   timely_like t go on h =
       by_same LikeAnswer (is_below (moment_of run t)) _ _ _ _ (λ b. same (Reply.Refused Refusal.ReadingBelow)) λ b.
       by_both (by_time (λ e. e.end.0)) (time_telling (λ e. e.end.0)) (is_overdue run.psi t) (λ e q. ap is_held ((overdue_tells run.psi t e).0 q).0) LikeAnswer run.window v c.there c.back c.once.1 _ _ _ _
-      (λ i j e s p q. record { reply = refl; run = unmoved t (Halt.Stopped (Stop.Overdue e.position e.node)) })
+      (λ i j e s p q. record { reply = refl; run = unmoved t (Some (Stop.Overdue e.position e.node)) })
       (by_both (by_service run.plan.nodes) (service_telling run.plan.nodes) (is_late run.psi run.slack t) (λ e q. ap is_held ((late_tells run.psi t e run.slack).0 q).0) LikeAnswer run.window v c.there c.back c.once.1 _ _ _ _
-      (λ i j e s p q. record { reply = refl; run = unmoved t (Halt.Stopped (Stop.Late e.position e.node)) }) h)
+      (λ i j e s p q. record { reply = refl; run = unmoved t (Some (Stop.Late e.position e.node)) }) h)
 
   called_like : (t : Clock) (go on : Answer) → LikeAnswer go on → LikeAnswer (called run t go) (called other t on)
   called_like t go on h =
       rw (sym same_limits)
       (by_same LikeAnswer (run_in_limits run) _ _ _ _ (λ l. halting run.halt) (λ l. same (Reply.Refused Refusal.OutOfLimits)))
     where
-      halting : (x : Halt) → LikeAnswer (on_halt x (λ s. record { reply = Reply.Stopped s; run = run }) (timely run t go)) (on_halt x (λ s. record { reply = Reply.Stopped s; run = other }) (timely other t on))
-      halting Halt.Going = timely_like t go on h
-      halting (Halt.Stopped s) = same (Reply.Stopped s)
+      halting : (x : Option Stop) → LikeAnswer (on_halt x (λ s. record { reply = Reply.Stopped s; run = run }) (timely run t go)) (on_halt x (λ s. record { reply = Reply.Stopped s; run = other }) (timely other t on))
+      halting None = timely_like t go on h
+      halting (Some s) = same (Reply.Stopped s)
 
   other_like : (x : Call) → LikeAnswer (call_of run x) (call_of other x)
   unfolding call_of ask_of completion_of outcome_of

@@ -1,10 +1,9 @@
 -- `order_served`, `served`, `served_late`: an ask starts, and stop 41 names, the node that is served first.
-use Rattle.std.specs.Prelude.{◌≡◌, refl, Bool, true, false, ◌⊎◌, ℕ, ◌<◌}
+use Rattle.std.specs.Prelude.{◌≡◌, refl, Bool, true, false, ◌⊎◌, ℕ, ◌<◌, Some, None}
 use Rattle.std.proofs.Common.{sym, ◌∙◌, ap, true≢false, inl, inr, arith}
 use Rattle.time.specs.declared.Clock.{Clock}
 use Rattle.run_window.specs.Window.{is_held, starts_before}
 use Rattle.run_window.proofs.Laws.Order.{neither_before}
-use Rattle.run_checks.specs.declared.Halt.{Halt}
 use Rattle.run_checks.specs.declared.Stop.{Stop}
 use Rattle.run.specs.declared.Run.{Run}
 use Rattle.run.specs.declared.Call.{Call}
@@ -50,6 +49,6 @@ served_late run c p n going q = go c ((late run c p n).0 q)
     go : (c : Call) {p n : ℕ} → Halts run c (Stop.Late p n) → (i : ℕ) × ((entry_at run i).position ≡ p) × ((entry_at run i).node ≡ n) × FirstServed run (LateAt run (reading_of c)) i
     go c (Halts.kept l h) = absurd (never (sym going ∙ h))
       where
-        never : {s : Stop} → Halt.Going ≡ Halt.Stopped s → ⊥
+        never : {s : Stop} → None ≡ Some s → ⊥
         never r = let z : ◌≡◌ {A = ℕ} 0 1 = cc in omega arith
     go c (Halts.number41 i h f) = (i, refl, refl, first_served run h.rises.going.limits (LateAt run (reading_of c)) (λ j d. ap is_held d.unstarted) i f)

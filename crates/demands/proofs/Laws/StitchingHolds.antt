@@ -1,13 +1,12 @@
 -- `same_stitching`, `same_outcomes`: two runs of one plan with equal processed outcomes, both ending in done, start the same nodes,
 -- each within the slack of the other. Their words are one, so each node has one specified start S, and both readings lie between
 -- Ψ + S and that plus the slack. `processed`: each log has its processed outcomes, and no others.
-use Rattle.std.specs.Prelude.{◌≡◌, refl, true, List, ◌∷◌, ◌↔◌, ℕ, ◌+◌, ◌≤◌, get_or}
+use Rattle.std.specs.Prelude.{◌≡◌, refl, true, List, ◌∷◌, ◌↔◌, ℕ, ◌+◌, ◌≤◌, get_or, Ok}
 use Rattle.std.proofs.Common.{sym, ap, ◌∙◌, subst, inl, inr, arith}
 use Rattle.time.specs.declared.Clock.{Clock}
 use Rattle.plan.specs.Plan.{is_final}
 use Rattle.plan.specs.Limits.{InLimits}
 use Rattle.plan.specs.declared.Plan.{Plan}
-use Rattle.plan.specs.declared.Verdict.{Verdict}
 use Rattle.plan_file.proofs.Laws.HoldsPlan.{plan_iff}
 use Rattle.automaton.specs.Rules.{MeetsAutomaton}
 use Rattle.judge.specs.Judge.{judge_of}
@@ -146,13 +145,13 @@ both p psi chi slack is S one other a b = record {
 -- ---- the theorems
 
 -- the plan of an accepted opening meets the rules of the file and of the automaton
-accepted_by : (bytes : List ℕ) (psi : Clock) (slack : ℕ) (ts : List ℕ) → OpensBy bytes psi slack ts Opening.Opened → Judged bytes Verdict.Accepted
+accepted_by : (bytes : List ℕ) (psi : Clock) (slack : ℕ) (ts : List ℕ) → OpensBy bytes psi slack ts Opening.Opened → Judged bytes (Ok tt)
 accepted_by bytes psi slack ts (OpensBy.opened h n) = h.earlier.earlier.earlier.earlier.accepted
 
 rules : (bytes : List ℕ) → Bytes bytes → (psi : Clock) (slack : ℕ) (ts : List ℕ) → (open_of bytes psi slack ts).opening ≡ Opening.Opened → InLimits (judge_of bytes).plan × MeetsAutomaton (judge_of bytes).plan
 rules bytes are psi slack ts e =
     let j = accepted_by bytes psi slack ts ((opening_by bytes are psi slack ts Opening.Opened).0 e) in
-    let h = handed_on bytes are ((verdict bytes Verdict.Accepted are).1 j) in
+    let h = handed_on bytes are ((verdict bytes (Ok tt) are).1 j) in
     (((plan_iff (judge_of bytes).plan).0 h.0.holds).limits, h.2)
 
 pub same_stitching : StatementSame

@@ -1,7 +1,7 @@
 -- `timetable_times`: the table of an accepted plan is its header, the rows of the word's actions and events with the times of
 -- Def. 11, and the closing lines, each in its condition. `timetable`: the same of the whole input. From the engine along a
 -- word (Laws/Along) and the table along the word of the outcomes (Laws/Printed).
-use Rattle.std.specs.Prelude.{◌≡◌, Bool, true, false, cond, ℕ, suc, ◌+◌, ◌-◌, ◌*◌, leb, length, take, drop}
+use Rattle.std.specs.Prelude.{◌≡◌, Bool, true, false, cond, ℕ, suc, ◌+◌, ◌-◌, ◌*◌, leb, length, take, drop, Ok, Err}
 use Rattle.std.proofs.Math.Path.{refl, sym, ap}
 use Rattle.std.proofs.Common.{◌∙◌, subst, arith, leb-true, leb-false, le-leb, length-append, take-append-drop, length-take-le}
 use mathlib.Core.List.{List, [], ◌∷◌, ◌++◌}
@@ -12,7 +12,7 @@ use Rattle.std.proofs.Math.Seq.{take-append_seam, drop-append_seam}
 use Rattle.plan.specs.Fault.{number_of}
 use Rattle.plan.specs.declared.Fault.{Fault}
 use Rattle.plan.specs.declared.Plan.{Plan}
-use Rattle.plan.specs.declared.Verdict.{Verdict}
+use Rattle.plan.specs.Verdict.{Verdict}
 use Rattle.automaton.specs.Rules.{MeetsAutomaton}
 use Rattle.judge.specs.Judge.{judge_of}
 use Rattle.times_combined.specs.Word.{size}
@@ -82,9 +82,9 @@ bytes_of a b bs os h k = elim (dec_lt k (length bs)) [
 
 -- a plan that is refused, or the table of an accepted one
 by_verdict : (a b : ℕ) (bs os : List ℕ) → Bytes bs → length bs ≡ a + 256 * b → (v : Verdict) → (judge_of bs).verdict ≡ v → Printed (a ∷ b ∷ (bs ++ os)) (judged_text v (judge_of bs).plan os)
-by_verdict a b bs os h n Verdict.Accepted e =
+by_verdict a b bs os h n (Ok u) e =
     Printed.table bs os n e ((timetable_times bs (judge_of bs).plan os (table_of (judge_of bs).plan os) h (λ i. record { verdict = e i; plan = (judge_of bs).plan })).0 refl)
-by_verdict a b bs os h n (Verdict.Refused f place) e = Printed.faulty bs os n e
+by_verdict a b bs os h n (Err x) e = Printed.faulty bs os n e
 
 by_length : (a b : ℕ) (rest : List ℕ) → Bytes (a ∷ b ∷ rest) → (t : Bool) → leb (a + 256 * b) (length rest) ≡ t
     → Printed (a ∷ b ∷ rest) (cond t (text_of_plan (take (a + 256 * b) rest) (drop (a + 256 * b) rest)) (refused (number_of Fault.Ends) (length rest)))

@@ -1,6 +1,6 @@
 -- `refused_unchanged`, `stop_kept`, `stops_stay`, `refused_opening`, `zeros_get_50`: demand 1 of a run, from the order of
 -- checks at a call. Every answer is right: a refused one has the run that came in, a stopped one a run that has this stop.
-use Rattle.std.specs.Prelude.{◌≡◌, refl, Bool, true, false, cond, ◌||◌, List, ℕ, ltb, eqb, length}
+use Rattle.std.specs.Prelude.{◌≡◌, refl, Bool, true, false, cond, ◌||◌, List, ℕ, ltb, eqb, length, Option, Some, None, Ok, Err}
 use Rattle.std.proofs.Common.{subst}
 use Rattle.basis.proofs.Laws.Bools.{by_cond}
 use Rattle.basis.specs.Tests.{every}
@@ -9,12 +9,11 @@ use Rattle.time.specs.declared.Clock.{Clock}
 use Rattle.plan.specs.Plan.{outcomes_of}
 use Rattle.plan.specs.declared.Kind.{Kind}
 use Rattle.plan.specs.declared.Plan.{Plan}
-use Rattle.plan.specs.declared.Verdict.{Verdict}
+use Rattle.plan.specs.Verdict.{Verdict}
 use Rattle.run_window.specs.declared.Entry.{Entry}
 use Rattle.run_window.specs.Window.{first, is_started, starts_before, by_start, is_due, is_node}
 use Rattle.run_checks.proofs.Laws.Checks.{by_timely}
 use Rattle.run.specs.declared.Run.{Run}
-use Rattle.run_checks.specs.declared.Halt.{Halt}
 use Rattle.run_checks.specs.declared.Stop.{Stop}
 use Rattle.run.specs.declared.Call.{Call}
 use Rattle.run.specs.declared.Reply.{Reply}
@@ -31,7 +30,6 @@ use Rattle.plan_limits.specs.Limits.{in_limits, parts_in_limits, within, nodes_i
 use Rattle.run.specs.Loading.{load, further, most_pending}
 use Rattle.run_outcomes.specs.Told.{told_of}
 use Rattle.run.specs.Calls.{answer, refuse, asked, reported, completed_by, completed, after_loading, learnt, cleared, is_marker, hears, learns_by, learns, timely, called, ask_of, completion_of, outcome_of, call_of, is_done, kind_of}
-use Rattle.run_opening.specs.declared.Short.{Short}
 use Rattle.run_opening.specs.Short.{on_short, short_from}
 use Rattle.run_opening.specs.Given.{any_above, at_first, availabilities}
 use Rattle.run.specs.Opening.{open_of, open_judged, open_plan, after_first, zero_run, fresh}
@@ -49,7 +47,7 @@ Right run Reply.Wait next = Unit {0}
 Right run Reply.Done next = Unit {0}
 Right run Reply.Taken next = Unit {0}
 Right run (Reply.Refused f) next = next ≡ run
-Right run (Reply.Stopped s) next = next.halt ≡ Halt.Stopped s
+Right run (Reply.Stopped s) next = next.halt ≡ Some s
 
 record RightOf (run : Run) (a : Answer) : Type 0 where
   right : Right run a.reply a.run
@@ -78,10 +76,10 @@ right_completed : (run : Run) (t : Clock) (p n : ℕ) → RightOf run (completed
 unfolding completed
 right_completed run t p n = right_reported run p n _ (λ i e. right_completed_by run t i (kind_of run e))
 
-right_loaded : (run next : Run) (f : Failure) → RightOf run (after_loading f next)
-right_loaded run next Failure.None = record { right = tt }
-right_loaded run next Failure.Full = record { right = refl }
-right_loaded run next Failure.Beyond = record { right = refl }
+right_loaded : (run next : Run) (f : Option Failure) → RightOf run (after_loading f next)
+right_loaded run next None = record { right = tt }
+right_loaded run next (Some Failure.Full) = record { right = refl }
+right_loaded run next (Some Failure.Beyond) = record { right = refl }
 
 right_learns_by : (run : Run) (t : Clock) (i : ℕ) (x : Entry) (o : ℕ) (k : Kind) → RightOf run (learns_by run t i x o k)
 right_learns_by run t i x o (Kind.Action a y) = record { right = refl }
@@ -122,7 +120,7 @@ refused_unchanged run c f e = subst (λ (r : Reply). Right run r (call_of run c)
 pub stops_stay : StatementStopsStay
 stops_stay run s c e = subst (λ (r : Reply). Right run r (call_of run c).run) e (right run c).right
 
-kept : (run : Run) (t : Clock) (s : Stop) (go : Answer) → run_in_limits run ≡ true → run.halt ≡ Halt.Stopped s → called run t go ≡ answer (Reply.Stopped s) run
+kept : (run : Run) (t : Clock) (s : Stop) (go : Answer) → run_in_limits run ≡ true → run.halt ≡ Some s → called run t go ≡ answer (Reply.Stopped s) run
 kept run t s go l h = rw (l, h)
 
 pub stop_kept : StatementStopKept
@@ -140,14 +138,14 @@ Zeros (Opening.Refused u) run = run ≡ zero_run
 record ZerosOf (o : Opened) : Type 0 where
   zeros : Zeros o.opening o.run
 
-zeros_first : (f : Failure) (run : Run) → ZerosOf (after_first f run)
-zeros_first Failure.None run = record { zeros = tt }
-zeros_first Failure.Full run = record { zeros = refl }
-zeros_first Failure.Beyond run = record { zeros = refl }
+zeros_first : (f : Option Failure) (run : Run) → ZerosOf (after_first f run)
+zeros_first None run = record { zeros = tt }
+zeros_first (Some Failure.Full) run = record { zeros = refl }
+zeros_first (Some Failure.Beyond) run = record { zeros = refl }
 
-zeros_short : (r : Short) (f : ℕ → Opened) (z : Opened) → ((a : ℕ) → ZerosOf (f a)) → ZerosOf z → ZerosOf (on_short r f z)
-zeros_short Short.Nothing f z p q = q
-zeros_short (Short.Activity a) f z p q = p a
+zeros_short : (r : Option ℕ) (f : ℕ → Opened) (z : Opened) → ((a : ℕ) → ZerosOf (f a)) → ZerosOf z → ZerosOf (on_short r f z)
+zeros_short None f z p q = q
+zeros_short (Some a) f z p q = p a
 
 zeros_plan : (p : Plan) (psi : Clock) (slack : ℕ) (ts : List ℕ) → ZerosOf (open_plan p psi slack ts)
 unfolding open_plan
@@ -166,8 +164,8 @@ zeros_plan p psi slack ts =
     first_path_lem = load opened (next_of p.automaton p.automaton.initial)
 
 zeros_judged : (v : Verdict) (p : Plan) (psi : Clock) (slack : ℕ) (ts : List ℕ) → ZerosOf (open_judged v p psi slack ts)
-zeros_judged Verdict.Accepted p psi slack ts = zeros_plan p psi slack ts
-zeros_judged (Verdict.Refused f place) p psi slack ts = record { zeros = refl }
+zeros_judged (Ok u) p psi slack ts = zeros_plan p psi slack ts
+zeros_judged (Err e) p psi slack ts = record { zeros = refl }
 
 zeros : (bytes : List ℕ) (psi : Clock) (slack : ℕ) (ts : List ℕ) → ZerosOf (open_of bytes psi slack ts)
 unfolding open_of

@@ -1,23 +1,21 @@
 -- `opened_begins`: an accepted opening has loaded the first path. `plan_kept`: its run keeps the plan that its bytes hold, Ψ and the
 -- slack; an answer makes its reading the last one.
-use Rattle.std.specs.Prelude.{◌≡◌, ◌||◌, List, ℕ, ltb, eqb, length}
+use Rattle.std.specs.Prelude.{◌≡◌, ◌||◌, List, ℕ, ltb, eqb, length, Option, Some, None, Ok, Err}
 use Rattle.std.proofs.Math.Path.{refl}
 use Rattle.std.proofs.Common.{sym, subst, arith}
 use Rattle.basis.proofs.Laws.Bools.{by_cond}
 use Rattle.time.specs.Time.{horizon}
 use Rattle.time.specs.declared.Clock.{Clock}
 use Rattle.plan.specs.declared.Plan.{Plan}
-use Rattle.plan.specs.declared.Verdict.{Verdict}
+use Rattle.plan.specs.Verdict.{Verdict}
 use Rattle.judge.specs.Judge.{judge_of}
 use Rattle.automaton.specs.Next.{next_of}
 use Rattle.automaton.specs.declared.Next.{Next}
 use Rattle.run_window.specs.Window.{vacancies}
 use Rattle.run_path.specs.Path.{Path, path_from, longest_path}
-use Rattle.run_opening.specs.declared.Short.{Short}
 use Rattle.run_opening.specs.Short.{on_short, short_from}
 use Rattle.run_opening.specs.Given.{any_above, at_first, availabilities}
 use Rattle.run.specs.declared.Run.{Run}
-use Rattle.run_checks.specs.declared.Halt.{Halt}
 use Rattle.run.specs.declared.Opening.{Opening}
 use Rattle.run.specs.declared.Opened.{Opened}
 use Rattle.run.specs.declared.Unopened.{Unopened}
@@ -31,7 +29,7 @@ use Rattle.demands_log.specs.Kept.{Keeps}
 pub record Opens (p : Plan) (psi : Clock) (slack : ℕ) (run : Run) : Type 0 where
   pub keeps : Keeps p psi slack run
   pub last : run.last.0 ≡ 0
-  pub going : run.halt ≡ Halt.Going
+  pub going : run.halt ≡ None
 
 abbrev Kept : Plan → Clock → ℕ → Opening → Run → Type 0
 Kept p psi slack Opening.Opened run = Opens p psi slack run
@@ -67,9 +65,9 @@ module _ (p : Plan) (psi : Clock) (slack : ℕ) (ts : List ℕ) where
   refused : (u : Unopened) → Begins p psi slack ts (unopened u)
   refused u = record { begins = λ e. absurd (let z : ◌≡◌ {A = ℕ} 0 1 = cc in omega arith) }
 
-  begins_short : (r : Short) (f : ℕ → Opened) (z : Opened) → ((a : ℕ) → Begins p psi slack ts (f a)) → Begins p psi slack ts z → Begins p psi slack ts (on_short r f z)
-  begins_short Short.Nothing f z h q = q
-  begins_short (Short.Activity a) f z h q = h a
+  begins_short : (r : Option ℕ) (f : ℕ → Opened) (z : Opened) → ((a : ℕ) → Begins p psi slack ts (f a)) → Begins p psi slack ts z → Begins p psi slack ts (on_short r f z)
+  begins_short None f z h q = q
+  begins_short (Some a) f z h q = h a
 
   begins_plan : Begins p psi slack ts (open_plan p psi slack ts)
   unfolding open_plan
@@ -82,8 +80,8 @@ module _ (p : Plan) (psi : Clock) (slack : ℕ) (ts : List ℕ) where
       (refused Unopened.Availabilities)
 
   begins_judged : (v : Verdict) → Begins p psi slack ts (open_judged v p psi slack ts)
-  begins_judged Verdict.Accepted = begins_plan
-  begins_judged (Verdict.Refused f place) = refused (Unopened.Plan f place)
+  begins_judged (Ok u) = begins_plan
+  begins_judged (Err e) = refused (Unopened.Plan e.fault e.place)
 
 module _ (bytes : List ℕ) (psi : Clock) (slack : ℕ) (ts : List ℕ) (opened : (open_of bytes psi slack ts).opening ≡ Opening.Opened) where
   pub opened_begins : open_of bytes psi slack ts ≡ begin (unbegun (judge_of bytes).plan psi slack ts)

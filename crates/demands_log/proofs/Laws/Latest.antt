@@ -1,6 +1,6 @@
 -- "Any other answer makes its reading the last one": every answer but a refusal and a kept stop; it goes on unless it
 -- stops.
-use Rattle.std.specs.Prelude.{◌≡◌, refl, Bool, true, false, cond, ℕ, zero, suc, ltb, length}
+use Rattle.std.specs.Prelude.{◌≡◌, refl, Bool, true, false, cond, ℕ, zero, suc, ltb, length, Option, Some, None}
 use Rattle.std.proofs.Common.{sym, subst}
 use Rattle.basis.proofs.Laws.Bools.{by_cond}
 use Rattle.time.specs.declared.Clock.{Clock}
@@ -15,7 +15,7 @@ use Rattle.run_outcomes.specs.Way.{way_on}
 use Rattle.run_outcomes.specs.Told.{told_of}
 use Rattle.run_checks.proofs.Laws.Checks.{by_timely}
 use Rattle.run.specs.declared.Run.{Run}
-use Rattle.run_checks.specs.declared.Halt.{Halt}
+use Rattle.run_checks.specs.declared.Stop.{Stop}
 use Rattle.run.specs.declared.Call.{Call}
 use Rattle.run.specs.declared.Reply.{Reply}
 use Rattle.run.specs.declared.Answer.{Answer}
@@ -30,22 +30,22 @@ use Rattle.demands_log.proofs.Laws.ByCases.{by_found, by_way}
 -- ---- loading leaves the last reading, and stops nothing
 
 -- its last reading, and its stop
-abbrev On : Clock → Halt → Run → Type 0
+abbrev On : Clock → Option Stop → Run → Type 0
 On t h run = (run.last ≡ t) × (run.halt ≡ h)
 
 record Lasts (t : Clock) (l : Loading) : Type 0 where
-  lasts : On t Halt.Going l.run
+  lasts : On t None l.run
 
 record LastsOn (t : Clock) (m : Run → Loading) (l : Loading) : Type 0 where
   lasts : Lasts t (on_loading l m)
 
-lasts_path : (t : Clock) (m : Run → Loading) → ((r : Run) → On t Halt.Going r → Lasts t (m r)) → (run : Run) (q : Path) → On t Halt.Going run → LastsOn t m (load_path run q)
+lasts_path : (t : Clock) (m : Run → Loading) → ((r : Run) → On t None r → Lasts t (m r)) → (run : Run) (q : Path) → On t None run → LastsOn t m (load_path run q)
 lasts_path t m h run q e =
     by_cond (LastsOn t m) q.beyond _ _ (record { lasts = record { lasts = e } })
     (by_cond (LastsOn t m) (ltb (vacancies run.window) (length q.entries)) _ _ (record { lasts = record { lasts = e } })
     (record { lasts = h _ e }))
 
-lasts_further : (t : Clock) (k : ℕ) (run : Run) → On t Halt.Going run → Lasts t (further k run)
+lasts_further : (t : Clock) (k : ℕ) (run : Run) → On t None run → Lasts t (further k run)
 unfolding further load
 lasts_further t zero run e = record { lasts = e }
 lasts_further t (suc k) run e =
@@ -55,17 +55,17 @@ lasts_further t (suc k) run e =
 -- ---- an answer
 
 abbrev pub Right : Clock → Reply → Run → Type 0
-Right t (Reply.Start p a n) next = On t Halt.Going next
-Right t Reply.Wait next = On t Halt.Going next
-Right t Reply.Done next = On t Halt.Going next
-Right t Reply.Taken next = On t Halt.Going next
+Right t (Reply.Start p a n) next = On t None next
+Right t Reply.Wait next = On t None next
+Right t Reply.Done next = On t None next
+Right t Reply.Taken next = On t None next
 Right t (Reply.Refused f) next = Unit {0}
-Right t (Reply.Stopped s) next = On t (Halt.Stopped s) next
+Right t (Reply.Stopped s) next = On t (Some s) next
 
 record RightOf (t : Clock) (a : Answer) : Type 0 where
   right : Right t a.reply a.run
 
-right_done : (t : Clock) (next : Run) (b : Bool) → On t Halt.Going next → Right t (cond b Reply.Done Reply.Wait) next
+right_done : (t : Clock) (next : Run) (b : Bool) → On t None next → Right t (cond b Reply.Done Reply.Wait) next
 right_done t next true e = e
 right_done t next false e = e
 
@@ -89,10 +89,10 @@ right_completed : (run : Run) (t : Clock) (p n : ℕ) → RightOf t (completed r
 unfolding completed
 right_completed run t p n = right_reported run t p n _ (λ i e. right_completed_by run t i (kind_of run e))
 
-right_loaded : (t : Clock) (next : Run) (f : Failure) → On t Halt.Going next → RightOf t (after_loading f next)
-right_loaded t next Failure.None e = record { right = e }
-right_loaded t next Failure.Full e = record { right = (e.0, refl) }
-right_loaded t next Failure.Beyond e = record { right = (e.0, refl) }
+right_loaded : (t : Clock) (next : Run) (f : Option Failure) → On t None next → RightOf t (after_loading f next)
+right_loaded t next None e = record { right = e }
+right_loaded t next (Some Failure.Full) e = record { right = (e.0, refl) }
+right_loaded t next (Some Failure.Beyond) e = record { right = (e.0, refl) }
 
 right_learns_by : (run : Run) (t : Clock) (i : ℕ) (x : Entry) (o : ℕ) (k : Kind) → RightOf t (learns_by run t i x o k)
 right_learns_by run t i x o (Kind.Action a y) = record { right = tt }
@@ -113,17 +113,17 @@ right_learns run t p n o = right_reported run t p n _ (λ i e. right_learns_by r
 right_timely : (run : Run) (t : Clock) (go : Answer) → RightOf t go → RightOf t (timely run t go)
 right_timely run t go h = by_timely (RightOf t) _ _ _ _ _ (record { right = tt }) (λ i e q. record { right = (refl, refl) }) (λ i e q. record { right = (refl, refl) }) h
 
-right_called : (run : Run) (t : Clock) (go : Answer) → run.halt ≡ Halt.Going → RightOf t go → RightOf t (called run t go)
+right_called : (run : Run) (t : Clock) (go : Answer) → run.halt ≡ None → RightOf t go → RightOf t (called run t go)
 right_called run t go g h =
     by_cond (RightOf t) (run_in_limits run) _ _
-    (subst (λ (x : Halt). RightOf t (on_halt x (λ s. answer (Reply.Stopped s) run) (timely run t go))) (sym g) (right_timely run t go h)) (record { right = tt })
+    (subst (λ (x : Option Stop). RightOf t (on_halt x (λ s. answer (Reply.Stopped s) run) (timely run t go))) (sym g) (right_timely run t go h)) (record { right = tt })
 
-right : (run : Run) (c : Call) → run.halt ≡ Halt.Going → RightOf (reading_of c) (call_of run c)
+right : (run : Run) (c : Call) → run.halt ≡ None → RightOf (reading_of c) (call_of run c)
 unfolding call_of ask_of completion_of outcome_of
 right run (Call.Ask t) g = right_called run t _ g (right_asked run t)
 right run (Call.Completion t p n) g = right_called run t _ g (right_completed run t p n)
 right run (Call.Outcome t p n o) g = right_called run t _ g (right_learns run t p n o)
 
 -- of a run that was going, every answer but a refusal makes its reading the last one, and stops it or lets it go on
-pub reading_last : (run : Run) (c : Call) → run.halt ≡ Halt.Going → Right (reading_of c) (call_of run c).reply (call_of run c).run
+pub reading_last : (run : Run) (c : Call) → run.halt ≡ None → Right (reading_of c) (call_of run c).reply (call_of run c).run
 reading_last run c g = (right run c g).right

@@ -1,5 +1,5 @@
 -- `plan_stays`: a call leaves the plan of any run, a made-up one too.
-use Rattle.std.specs.Prelude.{◌≡◌, ℕ, zero, suc, ltb, length}
+use Rattle.std.specs.Prelude.{◌≡◌, ℕ, zero, suc, ltb, length, Option, Some, None}
 use Rattle.std.proofs.Math.Path.{refl}
 use Rattle.basis.proofs.Laws.Bools.{by_cond}
 use Rattle.time.specs.declared.Clock.{Clock}
@@ -75,10 +75,10 @@ module _ (run : Run) where
   right_completed t i (Kind.Release r) = record { stays = refl }
   right_completed t i (Kind.Event e) = record { stays = refl }
 
-  right_loaded : (f : Failure) (next : Run) → next.plan ≡ run.plan → Right (after_loading f next)
-  right_loaded Failure.None next e = record { stays = e }
-  right_loaded Failure.Full next e = record { stays = e }
-  right_loaded Failure.Beyond next e = record { stays = e }
+  right_loaded : (f : Option Failure) (next : Run) → next.plan ≡ run.plan → Right (after_loading f next)
+  right_loaded None next e = record { stays = e }
+  right_loaded (Some Failure.Full) next e = record { stays = e }
+  right_loaded (Some Failure.Beyond) next e = record { stays = e }
 
   right_learns : (t : Clock) (i : ℕ) (x : Entry) (o : ℕ) (k : Kind) → Right (learns_by run t i x o k)
   right_learns t i x o (Kind.Action a y) = record { stays = refl }

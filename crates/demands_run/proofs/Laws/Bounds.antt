@@ -1,5 +1,5 @@
 -- A run that is as it should be is in limits: none gets number 50.
-use Rattle.std.specs.Prelude.{◌≡◌, refl, true, List, [], ◌∷◌, ℕ, suc, ◌≤◌, ◌<◌, get_or}
+use Rattle.std.specs.Prelude.{◌≡◌, refl, true, List, [], ◌∷◌, ℕ, suc, ◌≤◌, ◌<◌, get_or, Option}
 use Rattle.std.proofs.Common.{arith}
 use Rattle.basis.specs.Inner.Tells.{Tells}
 use Rattle.basis.proofs.Laws.Tells.{tells_iff, tells_and, told_true, is_true, tells_ltb, tells_leb}
@@ -17,7 +17,6 @@ use Rattle.run_limits.specs.Window.{entry_in_limits, window_in_limits}
 use Rattle.plan_limits.proofs.Laws.Plans.{tells_in_limits}
 use Rattle.run_limits.proofs.Laws.Stored.{tells_progress}
 use Rattle.run.specs.Limits.{run_in_limits, halt_in_limits, stop_in_limits}
-use Rattle.run_checks.specs.declared.Halt.{Halt}
 use Rattle.run_checks.specs.declared.Stop.{Stop}
 use Rattle.run_path.specs.Pathed.{ProgressIn}
 use Rattle.demands_run.proofs.Laws.Stands.{Accepted}
@@ -65,7 +64,7 @@ module _ (p : Plan) (psi : Clock) (slack : ℕ) (given : Accepted p psi slack) w
   limits : InLimits p
   limits = given.lawful.file.limits
 
-  pub run_passes : (g : Progress) (w : List Entry) (last : Clock) (halt : Halt) → ProgressIn p g → ((j : ℕ) → entry_in_limits p.activities p.sizes (get_or w j vacant) ≡ true) → halt_in_limits halt ≡ true
+  pub run_passes : (g : Progress) (w : List Entry) (last : Clock) (halt : Option Stop) → ProgressIn p g → ((j : ℕ) → entry_in_limits p.activities p.sizes (get_or w j vacant) ≡ true) → halt_in_limits halt ≡ true
       → run_in_limits (record { plan = p; psi = psi; slack = slack; progress = g; window = w; last = last; halt = halt }) ≡ true
   unfolding run_in_limits
   run_passes g w last halt inside entries stop =

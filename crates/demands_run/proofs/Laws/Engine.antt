@@ -1,6 +1,6 @@
 -- What the run needs of one transition: the engine goes the way whose times are those of the combined activity, queues what the
 -- transition emits, and stays within the limits. The record of these laws is what the proofs rest on; Laws.EngineHolds proves it.
-use Rattle.std.specs.Prelude.{◌≡◌, false, cond, List, [], ◌∷◌, ◌++◌, map, ℕ, zero, suc, ◌+◌, ◌≤◌, ◌<◌, eqb, length}
+use Rattle.std.specs.Prelude.{◌≡◌, false, cond, List, [], ◌∷◌, ◌++◌, map, ℕ, zero, suc, ◌+◌, ◌≤◌, ◌<◌, eqb, length, Some}
 use Rattle.plan.specs.Plan.{move, emitted_by, events_in, outcomes_of}
 use Rattle.plan.specs.declared.Input.{Input}
 use Rattle.plan.specs.declared.Plan.{Plan}
@@ -8,7 +8,6 @@ use Rattle.plan.specs.declared.Automaton.{Automaton}
 use Rattle.automaton.specs.Next.{next_of, chosen_of}
 use Rattle.automaton.specs.Rules.{MeetsAutomaton}
 use Rattle.automaton.specs.declared.Next.{Next}
-use Rattle.automaton.specs.declared.Chosen.{Chosen}
 use Rattle.times_combined.proofs.Laws.Engine.{Steps}
 use Rattle.times_combined.specs.Paths.{step_of, Lawful}
 use Rattle.times.specs.Times.{at}
@@ -62,4 +61,4 @@ pub record EngineLaws : Type 0 where
   pub advances : (p : Plan) → Lawful p → (t : ℕ) (g : Progress) → Possible p t g → Advances p t g
   pub settles : (p : Plan) → Lawful p → MeetsAutomaton p → (s k : ℕ) → s < p.automaton.states → 63 ≤ k → Settles p.automaton k s
   pub chosen : (p : Plan) → Lawful p → MeetsAutomaton p → (s e o : ℕ) → s < p.automaton.states → next_of p.automaton s ≡ Next.Waits e → o < outcomes_of p e
-      → (t : ℕ) × (chosen_of p.automaton s e o ≡ Chosen.Move t)
+      → (t : ℕ) × (chosen_of p.automaton s e o ≡ Some t)

@@ -1,5 +1,5 @@
 -- The event at a place of the window: a node of the word with that event, before the word's end.
-use Rattle.std.specs.Prelude.{◌≡◌, true, List, ℕ, ◌<◌}
+use Rattle.std.specs.Prelude.{◌≡◌, true, List, ℕ, ◌<◌, Option}
 use Rattle.std.proofs.Common.{sym, ◌∙◌, subst}
 use Rattle.time.specs.declared.Clock.{Clock}
 use Rattle.plan.specs.Limits.{KindNames}
@@ -13,7 +13,7 @@ use Rattle.run_window.specs.Places.{Holds}
 use Rattle.run_window.specs.declared.Entry.{Entry}
 use Rattle.run_limits.specs.Window.{entry_in_limits}
 use Rattle.run.specs.Calls.{kind_of}
-use Rattle.run_checks.specs.declared.Halt.{Halt}
+use Rattle.run_checks.specs.declared.Stop.{Stop}
 use Rattle.demands_log.specs.Log.{Log}
 use Rattle.demands_theory.proofs.Laws.Way.{Agrees}
 use Rattle.demands_theory.proofs.Laws.OfPlan.{world_of}
@@ -28,7 +28,7 @@ use Rattle.demands_run.proofs.Laws.Bounds.{entry_within}
 use Rattle.demands_run.proofs.Laws.Ways.{run_of}
 use Rattle.demands_run.proofs.Laws.Kinds.{kind_is}
 
-module _ (p : Plan) (psi : Clock) (slack : ℕ) (given : Accepted p psi slack) (available : ℕ → ℕ) (log : Log) (is : List ℕ) (g : Progress) (w : List Entry) (last : Clock) (halt : Halt)
+module _ (p : Plan) (psi : Clock) (slack : ℕ) (given : Accepted p psi slack) (available : ℕ → ℕ) (log : Log) (is : List ℕ) (g : Progress) (w : List Entry) (last : Clock) (halt : Option Stop)
     (good : Good p psi slack available log is (run_of p psi slack given available g w last halt))
     (v : Invariant (world_of p available) machine psi.0 slack is log (run_of p psi slack given available g w last halt)) where
   pub path : Follows p p.automaton.initial is (state_after p is)

@@ -1,7 +1,7 @@
 -- Loading after a report: "the next is loaded in the call that reports the awaited outcome, and further ones while their outcomes
 -- are already reported." It goes as far as the log tells, unless a path fails, which then adds nothing; and it fails, or not,
 -- exactly as the words, their times and the reports say.
-use Rattle.std.specs.Prelude.{◌≡◌, refl, false, ltb, length}
+use Rattle.std.specs.Prelude.{◌≡◌, refl, false, ltb, length, Option, Some, None}
 use Rattle.std.proofs.Common.{sym, ap, ◌∙◌, subst, ⊎_elim, ltb-true, ltb-false, ne_eqb, eq-eqb}
 use mathlib.Core.List.{List, ◌∷◌}
 use Prim.Native.Nat.{ℕ, zero, suc, ◌+◌, ◌≤◌, ◌<◌}
@@ -26,7 +26,7 @@ use Rattle.run_window.specs.declared.Entry.{Entry}
 use Rattle.run_outcomes.specs.Way.{way_on}
 use Rattle.run.specs.Loading.{loading, load, on_loading, further}
 use Rattle.run.specs.declared.Run.{Run}
-use Rattle.run_checks.specs.declared.Halt.{Halt}
+use Rattle.run_checks.specs.declared.Stop.{Stop}
 use Rattle.run_loading.specs.declared.Failure.{Failure}
 use Rattle.run.specs.Loading.{Loading}
 use Rattle.demands_log.specs.Log.{Id, Log, Reported, Told}
@@ -49,7 +49,7 @@ use Rattle.demands_run.proofs.Laws.Sums.{sum, sum_falls, sum_has}
 use Rattle.demands_run.proofs.Laws.Onward.{Heard, heard_if, stuck_if}
 
 module _ (p : Plan) (lawful : Lawful p) (automaton : MeetsAutomaton p) (available : ℕ → ℕ) (log : Log) (base : List ℕ) (v : List Entry) (laws : EngineLaws)
-    (psi : Clock) (slack : ℕ) (last : Clock) (halt : Halt) where
+    (psi : Clock) (slack : ℕ) (last : Clock) (halt : Option Stop) where
   abbrev pub run_at : Progress → List Entry → Run
   run_at g w = record { plan = p; psi = psi; slack = slack; progress = g; window = w; last = last; halt = halt }
 
@@ -76,7 +76,7 @@ module _ (p : Plan) (lawful : Lawful p) (automaton : MeetsAutomaton p) (availabl
     -- it goes, and fails or not, exactly as the words, their times and the reports say
     pub says : Loads p available log us word l.failure
 
-  stops : (us : List ℕ) (g : Progress) (w : List Entry) → In us g w → Rests p us → (f : Failure) → EndsAt p available log us f → Furthered us g (loading f (run_at g w))
+  stops : (us : List ℕ) (g : Progress) (w : List Entry) → In us g w → Rests p us → (f : Option Failure) → EndsAt p available log us f → Furthered us g (loading f (run_at g w))
   stops us g w h rests f e = record { word = us; progress = g; window = w; same = refl; loaded = h; onto = still; rests = rests; says = ends e }
 
   -- how many instances are told
@@ -109,7 +109,7 @@ module _ (p : Plan) (lawful : Lawful p) (automaton : MeetsAutomaton p) (availabl
 
     pub further_loads : (k : ℕ) (us : List ℕ) (g : Progress) (w : List Entry) → In us g w → Rests p us → told g ≤ k → Furthered us g (further k (run_at g w))
     unfolding further load
-    further_loads zero us g w h rests few = stops us g w h rests Failure.None (whole (stuck_if p lawful automaton available log us g h.stands laws rests none))
+    further_loads zero us g w h rests few = stops us g w h rests None (whole (stuck_if p lawful automaton available log us g h.stands laws rests none))
       where
         none : (t : ℕ) → way_on p.automaton g (next_of p.automaton g.state) ≡ Next.Goes t → ⊥
         none t e =
@@ -120,15 +120,15 @@ module _ (p : Plan) (lawful : Lawful p) (automaton : MeetsAutomaton p) (availabl
     further_loads (suc k) us g w h rests few =
         by_way (Furthered us g) (way_on p.automaton g (next_of p.automaton g.state)) _ _
         (λ t e. goes t (heard_if p lawful automaton available log us g h.stands t e) (λ us g w h r l. further_loads k us g w h r l))
-        (λ none. stops us g w h rests Failure.None (whole (stuck_if p lawful automaton available log us g h.stands laws rests none)))
+        (λ none. stops us g w h rests None (whole (stuck_if p lawful automaton available log us g h.stands laws rests none)))
       where
         goes : (t : ℕ) → Heard p lawful automaton available log us g h.stands t
             → ((us : List ℕ) (g : Progress) (w : List Entry) → In us g w → Rests p us → told g ≤ k → Furthered us g (further k (run_at g w)))
             → Furthered us g (on_loading (load (run_at g w) (Next.Goes t)) (further k))
         goes t x more =
-            by_test (λ (l : Loading). Furthered us g (on_loading l (further k))) path.beyond _ _ (λ b. stops us g w h rests Failure.Beyond (beyond (told_true limits b))) λ b.
+            by_test (λ (l : Loading). Furthered us g (on_loading l (further k))) path.beyond _ _ (λ b. stops us g w h rests (Some Failure.Beyond) (beyond (told_true limits b))) λ b.
             by_test (λ (l : Loading). Furthered us g (on_loading l (further k))) (ltb (vacancies w) (length path.entries)) _ _
-            (λ f. stops us g w h rests Failure.Full (full (record { path = (passed b).word; next = next b; within = told_false limits b; many = too_many p log us (passed b).word w path.entries h.long h.once (passed b).brings (holds_waits us g w h) (waits_held us g w h) below fresh (ltb-true _ _ f) }))) λ f.
+            (λ f. stops us g w h rests (Some Failure.Full) (full (record { path = (passed b).word; next = next b; within = told_false limits b; many = too_many p log us (passed b).word w path.entries h.long h.once (passed b).brings (holds_waits us g w h) (waits_held us g w h) below fresh (ltb-true _ _ f) }))) λ f.
             on b f (first-of p lawful automaton available log base v laws 63 us g w h t x.takes (λ i. path_on p lawful automaton available log base v laws 63 (t ∷ us) _ _ i (laws.settles p lawful automaton _ 63 i.stands.within.state (omega arith))) b (ltb-false _ _ f))
           where
             path : Path

@@ -1,5 +1,5 @@
 -- An accepted outcome goes its way: it is stored, and then as many paths are loaded as the log tells of.
-use Rattle.std.specs.Prelude.{◌≡◌, refl, true, List, [], ◌∷◌, ℕ, ◌≤◌, ◌<◌, ltb, length, get_or, set}
+use Rattle.std.specs.Prelude.{◌≡◌, refl, true, List, [], ◌∷◌, ℕ, ◌≤◌, ◌<◌, ltb, length, get_or, set, Option, Some, None}
 use Rattle.std.proofs.Common.{sym, ap, ◌∙◌, subst, inl, inr, ⊎_elim, arith, ltb-true, length-set}
 use Rattle.std.proofs.Math.Decide.{ℕ_discrete}
 use Rattle.time.specs.declared.Clock.{Clock}
@@ -23,7 +23,7 @@ use Rattle.run_outcomes.specs.Told.{told_of}
 use Rattle.run.specs.Calls.{cleared, kind_of, after_loading}
 use Rattle.run.specs.Loading.{further, most_pending}
 use Rattle.run.specs.declared.Run.{Run}
-use Rattle.run_checks.specs.declared.Halt.{Halt}
+use Rattle.run_checks.specs.declared.Stop.{Stop}
 use Rattle.run.specs.declared.Call.{Call}
 use Rattle.run.specs.declared.Reply.{Reply}
 use Rattle.run_loading.specs.declared.Failure.{Failure}
@@ -67,12 +67,12 @@ tolds_few (x ∷ q) = let u = tolds_few q in let v = one x.told in omega arith
     one Told.Nothing = omega arith
     one (Told.Outcome o) = omega arith
 
-failed_limits : (f : Failure) → halt_in_limits (halt_after f) ≡ true
-failed_limits Failure.None = refl
-failed_limits Failure.Full = refl
-failed_limits Failure.Beyond = refl
+failed_limits : (f : Option Failure) → halt_in_limits (halt_after f) ≡ true
+failed_limits None = refl
+failed_limits (Some Failure.Full) = refl
+failed_limits (Some Failure.Beyond) = refl
 
-module _ (laws : EngineLaws) (p : Plan) (psi : Clock) (slack : ℕ) (given : Accepted p psi slack) (available : ℕ → ℕ) (log : Log) (is : List ℕ) (g : Progress) (w : List Entry) (last : Clock) (halt : Halt)
+module _ (laws : EngineLaws) (p : Plan) (psi : Clock) (slack : ℕ) (given : Accepted p psi slack) (available : ℕ → ℕ) (log : Log) (is : List ℕ) (g : Progress) (w : List Entry) (last : Clock) (halt : Option Stop)
     (good : Good p psi slack available log is (run_of p psi slack given available g w last halt))
     (v : Invariant (world_of p available) machine psi.0 slack is log (run_of p psi slack given available g w last halt)) where
   abbrev W : World
@@ -84,7 +84,7 @@ module _ (laws : EngineLaws) (p : Plan) (psi : Clock) (slack : ℕ) (given : Acc
   path : Follows p p.automaton.initial is (state_after p is)
   path = EventAt.path p psi slack given available log is g w last halt good v
 
-  module _ (t : Clock) (i : ℕ) (e : Entry) (ev o : ℕ) (going : halt ≡ Halt.Going) (calm : Calm p psi slack given available log is g w last halt good t) (held : Holds w i e) (started : is_started e.phase ≡ true)
+  module _ (t : Clock) (i : ℕ) (e : Entry) (ev o : ℕ) (going : halt ≡ None) (calm : Calm p psi slack given available log is g w last halt good t) (held : Holds w i e) (started : is_started e.phase ≡ true)
       (kind : kind_of run e ≡ Kind.Event ev) (has : ltb o (outcomes_of p ev) ≡ true) where
     abbrev c : Call
     c = Call.Outcome t e.position e.node o
@@ -107,10 +107,10 @@ module _ (laws : EngineLaws) (p : Plan) (psi : Clock) (slack : ℕ) (given : Acc
     inside : e.position < length_of is
     inside = EventAt.inside p psi slack given available log is g w last halt good v i e ev held kind
 
-    accepts : (f : Failure) → Accepts (reply_after f) log
-    accepts Failure.None = tt
-    accepts Failure.Full = (tt, unstopped)
-    accepts Failure.Beyond = (tt, unstopped)
+    accepts : (f : Option Failure) → Accepts (reply_after f) log
+    accepts None = tt
+    accepts (Some Failure.Full) = (tt, unstopped)
+    accepts (Some Failure.Beyond) = (tt, unstopped)
 
     abbrev g1 : Progress
     g1 = told_of g ev e o
@@ -122,7 +122,7 @@ module _ (laws : EngineLaws) (p : Plan) (psi : Clock) (slack : ℕ) (given : Acc
     l = further most_pending (cleared run t i g1)
 
     -- the log with this call, whose answer tells how loading went
-    module _ (f : Failure) where
+    module _ (f : Option Failure) where
       abbrev log1 : Log
       log1 = said c (reply_after f) ∷ log
 
@@ -143,7 +143,7 @@ module _ (laws : EngineLaws) (p : Plan) (psi : Clock) (slack : ℕ) (given : Acc
         long = length-set w i vacant ∙ good.long;
       }
 
-      few : told p given.lawful given.automaton available log1 is w1 laws psi slack t Halt.Going g1 ≤ most_pending
+      few : told p given.lawful given.automaton available log1 is w1 laws psi slack t None g1 ≤ most_pending
       few =
           let u = sum_at_most p.events 8 (λ e. tolds (queue_of g1 e)) (λ e m.
           let a = tolds_few (queue_of g1 e) in
@@ -171,9 +171,9 @@ module _ (laws : EngineLaws) (p : Plan) (psi : Clock) (slack : ℕ) (given : Acc
       old_report : (x : Id) → Reported log1 x → x.position < length_of is
       old_report x = ⊎_elim (λ r. subst (λ (z : Id). z.position < length_of is) r.0 inside) (λ r. old_position p given.lawful available is (state_after p is) path x (v.accounts.reported_node x r))
 
-      loads : Furthered p given.lawful given.automaton available log1 is w1 laws psi slack t Halt.Going is g1 l
+      loads : Furthered p given.lawful given.automaton available log1 is w1 laws psi slack t None is g1 l
       loads =
-          further_loads p given.lawful given.automaton available log1 is w1 laws psi slack t Halt.Going (told_once log1 reports_once) unreported held_still old_report
+          further_loads p given.lawful given.automaton available log1 is w1 laws psi slack t None (told_once log1 reports_once) unreported held_still old_report
           most_pending is g1 w1 start good.rests few
 
       after_loading_lem : l.failure ≡ f → Good p psi slack available log1 loads.word (run_of p psi slack given available loads.progress loads.window t (halt_after f))
@@ -205,7 +205,7 @@ module _ (laws : EngineLaws) (p : Plan) (psi : Clock) (slack : ℕ) (given : Acc
       not_told d x u n (waits b m none) old k = none x u (subst (λ (z : ℕ). Oldest p is z x) (waits_same (sym n ∙ m)) old) k
 
       -- nothing that is loaded starts before the reported event's completion
-      held_back : (word : List ℕ) → Onto p given.lawful given.automaton available log1 is w1 laws psi slack t Halt.Going is g1 word → Follows p p.automaton.initial word (state_after p word)
+      held_back : (word : List ℕ) → Onto p given.lawful given.automaton available log1 is w1 laws psi slack t None is g1 word → Follows p p.automaton.initial word (state_after p word)
           → (y : Entry) → Agrees W word y → length_of is ≤ y.position → e.end.0 ≤ y.start.0
       held_back word still q y a m = absurd (let u = old_position p given.lawful available is (state_after p is) path (id_of y) a.node in omega arith)
       held_back word (hearing {t = n} s h b) q y a m =
@@ -217,7 +217,7 @@ module _ (laws : EngineLaws) (p : Plan) (psi : Clock) (slack : ℕ) (given : Acc
           omega arith
 
       -- the whole way, from the run that loading hands back
-      way : (x : Furthered p given.lawful given.automaton available log1 is w1 laws psi slack t Halt.Going is g1 l) → Way.Loads W (Holds w) (Holds x.window) i e.end.0 is x.word
+      way : (x : Furthered p given.lawful given.automaton available log1 is w1 laws psi slack t None is g1 l) → Way.Loads W (Holds w) (Holds x.window) i e.end.0 is x.word
       way x = record {
         extends = x.loaded.grows;
         kept = λ j y n q. x.loaded.kept j y (stored_kept w i vacant j y n q);
@@ -231,32 +231,32 @@ module _ (laws : EngineLaws) (p : Plan) (psi : Clock) (slack : ℕ) (given : Acc
         all = x.loaded.all;
       }
 
-    learnt_way : (f : Failure) → l.failure ≡ f → Goes p psi slack given available log is g w last halt good c (after_loading f l.run)
-    learnt_way Failure.None q =
-        let x = loads Failure.None in
-        subst (λ (r : Run). Goes p psi slack given available log is g w last halt good c (after_loading Failure.None r)) (sym x.same) (
+    learnt_way : (f : Option Failure) → l.failure ≡ f → Goes p psi slack given available log is g w last halt good c (after_loading f l.run)
+    learnt_way None q =
+        let x = loads None in
+        subst (λ (r : Run). Goes p psi slack given available log is g w last halt good c (after_loading None r)) (sym x.same) (
           x.word,
-          learns i e Failure.None (record { going = going; last = refl; halt = refl }) calm held started (way Failure.None x),
-          after_loading_lem Failure.None q,
+          learns i e None (record { going = going; last = refl; halt = refl }) calm held started (way None x),
+          after_loading_lem None q,
         )
-    learnt_way Failure.Full q =
-        let x = loads Failure.Full in
-        subst (λ (r : Run). Goes p psi slack given available log is g w last halt good c (after_loading Failure.Full r)) (sym x.same) (
+    learnt_way (Some Failure.Full) q =
+        let x = loads (Some Failure.Full) in
+        subst (λ (r : Run). Goes p psi slack given available log is g w last halt good c (after_loading (Some Failure.Full) r)) (sym x.same) (
           x.word,
-          learns i e Failure.Full (record { going = going; last = refl; halt = refl }) calm held started (way Failure.Full x),
-          after_loading_lem Failure.Full q,
+          learns i e (Some Failure.Full) (record { going = going; last = refl; halt = refl }) calm held started (way (Some Failure.Full) x),
+          after_loading_lem (Some Failure.Full) q,
         )
-    learnt_way Failure.Beyond q =
-        let x = loads Failure.Beyond in
-        subst (λ (r : Run). Goes p psi slack given available log is g w last halt good c (after_loading Failure.Beyond r)) (sym x.same) (
+    learnt_way (Some Failure.Beyond) q =
+        let x = loads (Some Failure.Beyond) in
+        subst (λ (r : Run). Goes p psi slack given available log is g w last halt good c (after_loading (Some Failure.Beyond) r)) (sym x.same) (
           x.word,
-          learns i e Failure.Beyond (record { going = going; last = refl; halt = refl }) calm held started (way Failure.Beyond x),
-          after_loading_lem Failure.Beyond q,
+          learns i e (Some Failure.Beyond) (record { going = going; last = refl; halt = refl }) calm held started (way (Some Failure.Beyond) x),
+          after_loading_lem (Some Failure.Beyond) q,
         )
 
-  pub learning_says : (t : Clock) (i : ℕ) (e : Entry) (ev o : ℕ) → halt ≡ Halt.Going → Calm p psi slack given available log is g w last halt good t → Holds w i e → is_started e.phase ≡ true → kind_of run e ≡ Kind.Event ev → ltb o (outcomes_of p ev) ≡ true
+  pub learning_says : (t : Clock) (i : ℕ) (e : Entry) (ev o : ℕ) → halt ≡ None → Calm p psi slack given available log is g w last halt good t → Holds w i e → is_started e.phase ≡ true → kind_of run e ≡ Kind.Event ev → ltb o (outcomes_of p ev) ≡ true
       → (us : List ℕ) × Loads p available (said (Call.Outcome t e.position e.node o) Reply.Taken ∷ log) is us (further most_pending (cleared run t i (told_of g ev e o))).failure
-  learning_says t i e ev o going calm held started kind has = let x = loads t i e ev o going calm held started kind has Failure.None in (x.word, x.says)
+  learning_says t i e ev o going calm held started kind has = let x = loads t i e ev o going calm held started kind has None in (x.word, x.says)
 
   pub learning : Learning p psi slack given available log is g w last halt good
   learning t i e ev o going calm held started kind has = learnt_way t i e ev o going calm held started kind has (further most_pending (cleared run t i (told_of g ev e o))).failure refl

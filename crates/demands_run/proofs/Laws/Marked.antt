@@ -1,5 +1,5 @@
 -- The report of a marker goes its way: the word stays, nothing is loaded, and the place is free again.
-use Rattle.std.specs.Prelude.{◌≡◌, refl, true, List, ◌∷◌, ℕ, set}
+use Rattle.std.specs.Prelude.{◌≡◌, refl, true, List, ◌∷◌, ℕ, set, None, Option}
 use Rattle.std.proofs.Common.{sym, ◌∙◌, inl, inr, ltb-true, eqb-true, length-set}
 use Rattle.time.specs.declared.Clock.{Clock}
 use Rattle.plan.specs.declared.Plan.{Plan}
@@ -9,8 +9,7 @@ use Rattle.run_window.specs.Places.{Holds}
 use Rattle.run_window.specs.declared.Entry.{Entry}
 use Rattle.run_window.proofs.Laws.Places.{stored_kept, stored_each, cleared_only}
 use Rattle.run_limits.specs.Window.{entry_in_limits}
-use Rattle.run_checks.specs.declared.Halt.{Halt}
-use Rattle.run_loading.specs.declared.Failure.{Failure}
+use Rattle.run_checks.specs.declared.Stop.{Stop}
 use Rattle.run.specs.declared.Call.{Call}
 use Rattle.run.specs.declared.Reply.{Reply}
 use Rattle.demands_log.specs.Log.{Log, said}
@@ -30,7 +29,7 @@ use Rattle.demands_run.proofs.Laws.EventAt.{event, low, inside}
 use Rattle.demands_run.proofs.Laws.Informed.{stands_marked}
 use Rattle.demands_run.proofs.Laws.Apart.{stuck_marked}
 
-module _ (p : Plan) (psi : Clock) (slack : ℕ) (given : Accepted p psi slack) (available : ℕ → ℕ) (log : Log) (is : List ℕ) (g : Progress) (w : List Entry) (last : Clock) (halt : Halt)
+module _ (p : Plan) (psi : Clock) (slack : ℕ) (given : Accepted p psi slack) (available : ℕ → ℕ) (log : Log) (is : List ℕ) (g : Progress) (w : List Entry) (last : Clock) (halt : Option Stop)
     (good : Good p psi slack available log is (run_of p psi slack given available g w last halt))
     (v : Invariant (world_of p available) machine psi.0 slack is log (run_of p psi slack given available g w last halt)) where
   abbrev W : World
@@ -48,9 +47,9 @@ module _ (p : Plan) (psi : Clock) (slack : ℕ) (given : Accepted p psi slack) (
 
   pub marking : Marking p psi slack given available log is g w last halt good
   marking t i e ev o going calm held started kind has marker =
-      (is, learns i e Failure.None (record { going = going; last = refl; halt = refl }) calm held started (loads_nothing i e.end.0), after)
+      (is, learns i e None (record { going = going; last = refl; halt = refl }) calm held started (loads_nothing i e.end.0), after)
     where
-      after : Good p psi slack available (said (Call.Outcome t e.position e.node o) Reply.Taken ∷ log) is (run_of p psi slack given available g (set w i vacant) t Halt.Going)
+      after : Good p psi slack available (said (Call.Outcome t e.position e.node o) Reply.Taken ∷ log) is (run_of p psi slack given available g (set w i vacant) t None)
       after =
           let at = event p psi slack given available log is g w last halt good v i e ev held kind in
           let before = inside p psi slack given available log is g w last halt good v i e ev held kind in

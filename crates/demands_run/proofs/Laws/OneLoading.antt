@@ -1,5 +1,5 @@
 -- Words, their times and the reports say of loading one thing only: what it reaches, and how it ends.
-use Rattle.std.specs.Prelude.{◌≡◌, refl, List, ◌∷◌, ℕ}
+use Rattle.std.specs.Prelude.{◌≡◌, refl, List, ◌∷◌, ℕ, Option}
 use Rattle.std.proofs.Common.{subst}
 use Rattle.plan.specs.declared.Plan.{Plan}
 use Rattle.times_combined.specs.Paths.{Lawful}
@@ -27,7 +27,7 @@ module _ (p : Plan) (lawful : Lawful p) (available : ℕ → ℕ) (log : Log) (u
   no_path : (us vs : List ℕ) → Stuck p log us → Onward p log us vs → ⊥
   no_path us vs s o = not_stuck p lawful log unique us o.first (last p log (o.first ∷ us) o.taken).1 s
 
-  one_end : {us : List ℕ} {f g : Failure} → EndsAt p available log us f → EndsAt p available log us g → f ≡ g
+  one_end : {us : List ℕ} {f g : Option Failure} → EndsAt p available log us f → EndsAt p available log us g → f ≡ g
   one_end (whole s) (whole r) = refl
   one_end {us} (whole s) (beyond y) = absurd (no_path us y.at s y.onward)
   one_end {us} (whole s) (full y) = absurd (no_path us y.path s y.next.onward)
@@ -39,13 +39,13 @@ module _ (p : Plan) (lawful : Lawful p) (available : ℕ → ℕ) (log : Log) (u
   one_end (full y) (full z) = refl
 
   -- where loading ends it does not go on
-  at-end : {us vs : List ℕ} {f : Failure} → Takes p log us → EndsAt p available log us f → NextPath p log us vs → (PathBeyond p available log us → ⊥) → (TooMany p log vs → ⊥) → ⊥
+  at-end : {us vs : List ℕ} {f : Option Failure} → Takes p log us → EndsAt p available log us f → NextPath p log us vs → (PathBeyond p available log us → ⊥) → (TooMany p log vs → ⊥) → ⊥
   at-end {us} {vs} h (whole s) n nb few = no_path us vs s n.onward
   at-end h (beyond y) n nb few = nb y
   at-end {us} {vs} h (full y) n nb few = few (subst (TooMany p log) (one_path us y.path vs h y.next n) y.many)
 
   -- it reaches one word, and ends in one way
-  pub one_loading : {us vs ws : List ℕ} {f g : Failure} → Takes p log us → Loads p available log us vs f → Loads p available log us ws g → (vs ≡ ws) × (f ≡ g)
+  pub one_loading : {us vs ws : List ℕ} {f g : Option Failure} → Takes p log us → Loads p available log us vs f → Loads p available log us ws g → (vs ≡ ws) × (f ≡ g)
   one_loading h (ends a) (ends b) = (refl, one_end a b)
   one_loading h (ends a) (later n nb few l) = absurd (at-end h a n nb few)
   one_loading h (later n nb few l) (ends b) = absurd (at-end h b n nb few)

@@ -1,6 +1,6 @@
 -- The way on from a state at rest: if the oldest instance of the awaited event is told, its transition is taken by the log; if
 -- not, there is no further one.
-use Rattle.std.specs.Prelude.{◌≡◌, Bool, true, false, cond, List, [], ◌∷◌, ◌++◌, map, ℕ, zero, suc, ◌+◌, ◌*◌, ◌<◌, ltb, length, get_or}
+use Rattle.std.specs.Prelude.{◌≡◌, Bool, true, false, cond, List, [], ◌∷◌, ◌++◌, map, ℕ, zero, suc, ◌+◌, ◌*◌, ◌<◌, ltb, length, get_or, Option, None, Some}
 use Rattle.std.proofs.Math.Path.{refl, ap}
 use Rattle.std.proofs.Common.{sym, ◌∙◌, subst, inl, arith, length-append}
 use borrow.Author.Tests.{ltb-true, lt-ltb}
@@ -12,7 +12,6 @@ use Rattle.plan.specs.declared.Plan.{Plan}
 use Rattle.automaton.specs.Next.{next_of, chosen_of}
 use Rattle.automaton.specs.Rules.{MeetsAutomaton}
 use Rattle.automaton.specs.declared.Next.{Next}
-use Rattle.automaton.specs.declared.Chosen.{Chosen}
 use Rattle.automaton.proofs.Laws.Following.{chosen_leaves, awaited_below}
 use Rattle.automaton.proofs.Laws.Later.{waits_several}
 use Rattle.automaton.proofs.Laws.Cases.{goes_same, ended_goes, waits_goes}
@@ -76,11 +75,11 @@ module _ (p : Plan) (lawful : Lawful p) (automaton : MeetsAutomaton p) (availabl
   here = sym s.place
 
   -- what the log tells of the oldest makes it go on
-  heard : (e o t : ℕ) → next_of p.automaton g.state ≡ Next.Waits e → 0 < pending_of g e → (instance_of g e 0).told ≡ Told.Outcome o → chosen_of p.automaton g.state e o ≡ Chosen.Move t → Heard t
+  heard : (e o t : ℕ) → next_of p.automaton g.state ≡ Next.Waits e → 0 < pending_of g e → (instance_of g e 0).told ≡ Told.Outcome o → chosen_of p.automaton g.state e o ≡ Some t → Heard t
   heard e o t w l told c =
       let q = head_queued e l in
       let known : Log.Told log (id_of (instance_of g e 0)) o = subst (ToldAs log (id_of (instance_of g e 0))) told (q.told (instance_of g e 0) (inl refl) (several e w)) in
-      let there : chosen_of p.automaton (state_after p us) e o ≡ Chosen.Move t = ap (λ (z : ℕ). chosen_of p.automaton z e o) here ∙ c in
+      let there : chosen_of p.automaton (state_after p us) e o ≡ Some t = ap (λ (z : ℕ). chosen_of p.automaton z e o) here ∙ c in
       record {
         event = e;
         outcome = o;
@@ -99,9 +98,9 @@ module _ (p : Plan) (lawful : Lawful p) (automaton : MeetsAutomaton p) (availabl
   unfolding way_on
   heard_if t = by (next_of p.automaton g.state) refl
     where
-      chosen : (e o : ℕ) → next_of p.automaton g.state ≡ Next.Waits e → 0 < pending_of g e → (instance_of g e 0).told ≡ Told.Outcome o → (c : Chosen) → chosen_of p.automaton g.state e o ≡ c → on_chosen c Next.Goes (Next.Waits e) ≡ Next.Goes t → Heard t
-      chosen e o w l told Chosen.Nothing q h = waits_goes h
-      chosen e o w l told (Chosen.Move u) q h = heard e o t w l told (q ∙ ap Chosen.Move (goes_same h))
+      chosen : (e o : ℕ) → next_of p.automaton g.state ≡ Next.Waits e → 0 < pending_of g e → (instance_of g e 0).told ≡ Told.Outcome o → (c : Option ℕ) → chosen_of p.automaton g.state e o ≡ c → on_chosen c Next.Goes (Next.Waits e) ≡ Next.Goes t → Heard t
+      chosen e o w l told None q h = waits_goes h
+      chosen e o w l told (Some u) q h = heard e o t w l told (q ∙ ap Some (goes_same h))
 
       telling : (e : ℕ) → next_of p.automaton g.state ≡ Next.Waits e → 0 < pending_of g e → (x : Told) → (instance_of g e 0).told ≡ x
           → on_told x (λ o. on_chosen (chosen_of p.automaton g.state e o) Next.Goes (Next.Waits e)) (Next.Waits e) ≡ Next.Goes t → Heard t
@@ -119,7 +118,7 @@ module _ (p : Plan) (lawful : Lawful p) (automaton : MeetsAutomaton p) (availabl
       by (Next.Waits e) w h = pending e w (ltb 0 (pending_of g e)) refl h
 
   -- the way on, where the oldest is told
-  goes_on : (e o t : ℕ) → next_of p.automaton g.state ≡ Next.Waits e → 0 < pending_of g e → (instance_of g e 0).told ≡ Told.Outcome o → chosen_of p.automaton g.state e o ≡ Chosen.Move t
+  goes_on : (e o t : ℕ) → next_of p.automaton g.state ≡ Next.Waits e → 0 < pending_of g e → (instance_of g e 0).told ≡ Told.Outcome o → chosen_of p.automaton g.state e o ≡ Some t
       → way_on p.automaton g (next_of p.automaton g.state) ≡ Next.Goes t
   unfolding way_on
   goes_on e o t w l told c = rw (w, lt-ltb 0 (pending_of g e) l, told, c)

@@ -1,5 +1,5 @@
 -- An accepted opening gives a good run: in limits, with the first path loaded and at rest.
-use Rattle.std.specs.Prelude.{◌≡◌, false, ◌||◌, ℕ, ◌*◌, ◌-◌, ◌≤◌, ◌<◌, ltb, eqb, get_or, replicate}
+use Rattle.std.specs.Prelude.{◌≡◌, false, ◌||◌, ℕ, ◌*◌, ◌-◌, ◌≤◌, ◌<◌, ltb, eqb, get_or, replicate, None, Ok, Err}
 use Rattle.std.proofs.Math.Path.{refl, ap}
 use Rattle.std.proofs.Common.{sym, ◌∙◌, subst, true≢false, inl, arith, length-append}
 use Rattle.std.proofs.Math.Bool.{true}
@@ -21,7 +21,7 @@ use Rattle.time.specs.declared.Specified.{Specified}
 use Rattle.plan.specs.Plan.{activity_of, resource_of}
 use Rattle.plan.specs.Limits.{FileRules}
 use Rattle.plan.specs.declared.Plan.{Plan}
-use Rattle.plan.specs.declared.Verdict.{Verdict}
+use Rattle.plan.specs.Verdict.{Verdict}
 use Rattle.activity.specs.Rules.{node, Meets}
 use Rattle.automaton.specs.Next.{next_of}
 use Rattle.automaton.specs.Rules.{MeetsAutomaton}
@@ -45,7 +45,6 @@ use Rattle.run.specs.Limits.{slack_in_limits}
 use Rattle.run.specs.Loading.{load}
 use Rattle.run_opening.specs.Given.{at_first, availabilities, any_above}
 use Rattle.run_opening.specs.Short.{short_from}
-use Rattle.run_opening.specs.declared.Short.{Short}
 use Rattle.run_opening.proofs.Laws.Given.{given_at, none_above}
 use Rattle.run.specs.Opening.{fresh, first_loaded, begin, open_plan, open_judged, open_of}
 use Rattle.run.specs.Opening as Opening
@@ -259,7 +258,7 @@ module _ (laws : EngineLaws) (bytes : List ℕ) (accept : AcceptedLaws bytes) (p
       by_shortest Fine (short_from p slack 0 p.activities) _ _ (λ d. unopened (Unopened.Short d)) (λ d. well (eqb-true _ _ a) (or-false (ltb horizon psi.0) (any_above ts) b) c d))
       (λ c. unopened Unopened.Slack))) (λ a. unopened Unopened.Availabilities)
     where
-      well : length ts ≡ p.resources → (ltb horizon psi.0 ≡ false) × (any_above ts ≡ false) → slack_in_limits slack ≡ true → short_from p slack 0 p.activities ≡ Short.Nothing
+      well : length ts ≡ p.resources → (ltb horizon psi.0 ≡ false) × (any_above ts ≡ false) → slack_in_limits slack ≡ true → short_from p slack 0 p.activities ≡ None
           → Fine (begin (fresh p psi slack (at_first (availabilities ts) p.automaton.initial)))
       well enough in-time c d q =
           let given : Accepted p psi slack = record {
@@ -272,8 +271,8 @@ module _ (laws : EngineLaws) (bytes : List ℕ) (accept : AcceptedLaws bytes) (p
           begins laws p psi slack given ts enough (none_above ts in-time.1) q
 
   open_judged_lem : (v : Verdict) → (judge_of bytes).verdict ≡ v → Fine (open_judged v (judge_of bytes).plan psi slack ts)
-  open_judged_lem Verdict.Accepted e = open_plan_lem (judge_of bytes).plan (accept (judge_of bytes).plan (λ i. record { verdict = e i; plan = (judge_of bytes).plan }))
-  open_judged_lem (Verdict.Refused f place) e = unopened (Unopened.Plan f place)
+  open_judged_lem (Ok u) e = open_plan_lem (judge_of bytes).plan (accept (judge_of bytes).plan (λ i. record { verdict = e i; plan = (judge_of bytes).plan }))
+  open_judged_lem (Err x) e = unopened (Unopened.Plan x.fault x.place)
 
   pub opens_well : (open_of bytes psi slack ts).opening ≡ Outcome.Opened → OpensWell psi slack ts (open_of bytes psi slack ts)
   unfolding open_of

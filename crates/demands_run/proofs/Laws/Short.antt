@@ -1,5 +1,5 @@
 -- 33 "an action or event with duration not above the slack": where none is found, every one lasts longer than the slack.
-use Rattle.std.specs.Prelude.{◌≡◌, refl, Bool, true, false, cond, ◌&&◌, List, [], ◌∷◌, ℕ, zero, suc, ◌+◌, ◌≤◌, ◌<◌, leb}
+use Rattle.std.specs.Prelude.{◌≡◌, refl, Bool, true, false, cond, ◌&&◌, List, [], ◌∷◌, ℕ, zero, suc, ◌+◌, ◌≤◌, ◌<◌, leb, Option, Some, None}
 use Rattle.std.proofs.Common.{sym, subst, arith, leb-false}
 use Rattle.std.proofs.Math.Decide.{ℕ_discrete}
 use Rattle.basis.proofs.Laws.Bools.{and-false, or-false}
@@ -8,7 +8,6 @@ use Rattle.plan.specs.declared.Node.{Node}
 use Rattle.plan.specs.declared.Plan.{Plan}
 use Rattle.run_path.specs.Path.{is_work}
 use Rattle.run_opening.specs.Short.{any_short, short_from, on_short}
-use Rattle.run_opening.specs.declared.Short.{Short}
 use Rattle.demands_theory.proofs.Laws.OfPlan.{Outlast}
 use Rattle.demands_run.proofs.Laws.Loaded.{working_work}
 
@@ -19,17 +18,17 @@ none_short slack (x ∷ ns) e zero l w =
     leb-false x.duration slack (and-false (is_work x.kind) (leb x.duration slack) (or-false (is_work x.kind && leb x.duration slack) (any_short slack ns) e).0 (working_work x.kind w))
 none_short slack (x ∷ ns) e (suc n) l w = none_short slack ns (or-false (is_work x.kind && leb x.duration slack) (any_short slack ns) e).1 n (omega arith) w
 
-pub short_none : (p : Plan) (slack k a : ℕ) → short_from p slack a k ≡ Short.Nothing → (b : ℕ) → a ≤ b → b < a + k → Outlast slack (activity_of p b)
+pub short_none : (p : Plan) (slack k a : ℕ) → short_from p slack a k ≡ None → (b : ℕ) → a ≤ b → b < a + k → Outlast slack (activity_of p b)
 unfolding short_from
 short_none p slack zero a e b h l = absurd (omega arith)
 short_none p slack (suc k) a e b h l = go (any_short slack (activity_of p a)) refl e (ℕ_discrete b a) (λ q m. short_none p slack k (a + 1) q b m (omega arith))
   where
-    go : (c : Bool) → any_short slack (activity_of p a) ≡ c → cond c (Short.Activity a) (short_from p slack (a + 1) k) ≡ Short.Nothing → Dec (b ≡ a)
-        → (short_from p slack (a + 1) k ≡ Short.Nothing → a + 1 ≤ b → Outlast slack (activity_of p b)) → Outlast slack (activity_of p b)
+    go : (c : Bool) → any_short slack (activity_of p a) ≡ c → cond c (Some a) (short_from p slack (a + 1) k) ≡ None → Dec (b ≡ a)
+        → (short_from p slack (a + 1) k ≡ None → a + 1 ≤ b → Outlast slack (activity_of p b)) → Outlast slack (activity_of p b)
     go true f q d more = absurd (let z : ◌≡◌ {A = ℕ} 0 1 = cc in omega arith)
     go false f q (yes z) more = subst (λ (n : ℕ). Outlast slack (activity_of p n)) (sym z) (none_short slack (activity_of p a) f)
     go false f q (no z) more = more q (omega arith)
 
-pub by_shortest : {A : Type 0} (P : A → Type 0) (s : Short) (f : ℕ → A) (z : A) → ((a : ℕ) → P (f a)) → (s ≡ Short.Nothing → P z) → P (on_short s f z)
-by_shortest P Short.Nothing f z k g = g refl
-by_shortest P (Short.Activity a) f z k g = k a
+pub by_shortest : {A : Type 0} (P : A → Type 0) (s : Option ℕ) (f : ℕ → A) (z : A) → ((a : ℕ) → P (f a)) → (s ≡ None → P z) → P (on_short s f z)
+by_shortest P None f z k g = g refl
+by_shortest P (Some a) f z k g = k a

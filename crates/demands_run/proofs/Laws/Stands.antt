@@ -1,7 +1,7 @@
 -- What a run knows of itself after the calls of a log: it is in limits and keeps the opening's plan, Ψ and slack; its word is
 -- taken by what the log tells, up to a waiting or final state, within the limits of 44, and as far as it goes unless a loading has
 -- failed, by the next path; and where it stands is where the engine's way over that word leads.
-use Rattle.std.specs.Prelude.{◌≡◌, true, List, ◌++◌, map, ℕ, ◌≤◌, ◌<◌, length, get_or}
+use Rattle.std.specs.Prelude.{◌≡◌, true, List, ◌++◌, map, ℕ, ◌≤◌, ◌<◌, length, get_or, Some}
 use Rattle.std.proofs.Common.{sym, ap, ◌∙◌}
 use Rattle.basis.specs.Lists.{Among}
 use Rattle.time.specs.Time.{horizon}
@@ -26,7 +26,6 @@ use Rattle.run_window.specs.Window.{vacant}
 use Rattle.run_limits.specs.Window.{entry_in_limits}
 use Rattle.run.specs.Limits.{slack_in_limits, halt_in_limits}
 use Rattle.run.specs.declared.Run.{Run}
-use Rattle.run_checks.specs.declared.Halt.{Halt}
 use Rattle.run_checks.specs.declared.Stop.{Stop}
 use Rattle.demands_log.specs.Log.{Id, id, Log, FailedIn}
 use Rattle.demands_log.specs.Log as Log
@@ -96,8 +95,8 @@ pub record Good (p : Plan) (psi : Clock) (slack : ℕ) (available : ℕ → ℕ)
   pub rests : Rests p is
   pub within : Loading.Within p available is
   pub whole : (FailedIn log → ⊥) → Stuck p log is
-  pub beyond : run.halt ≡ Halt.Stopped Stop.Beyond → PathBeyond p available log is
-  pub full : run.halt ≡ Halt.Stopped Stop.Full → PathFull p available log is
+  pub beyond : run.halt ≡ Some Stop.Beyond → PathBeyond p available log is
+  pub full : run.halt ≡ Some Stop.Full → PathFull p available log is
   pub long : length run.window ≡ 512
   pub entries : (j : ℕ) → entry_in_limits p.activities p.sizes (get_or run.window j vacant) ≡ true
   pub halt : halt_in_limits run.halt ≡ true

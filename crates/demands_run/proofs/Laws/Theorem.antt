@@ -1,6 +1,6 @@
 -- Demand 3 of the run of document 01: after an accepted opening and any list of calls there is a word of the log, and only one,
 -- it has specified times, and the claim holds of it.
-use Rattle.std.specs.Prelude.{◌≡◌, true, List, [], ◌∷◌, ℕ, ltb, length, get_or}
+use Rattle.std.specs.Prelude.{◌≡◌, true, List, [], ◌∷◌, ℕ, ltb, length, get_or, None}
 use Rattle.std.proofs.Common.{sym, ap, ◌∙◌, subst}
 use Rattle.time.specs.declared.Clock.{Clock}
 use Rattle.plan.specs.Plan.{outcomes_of}
@@ -14,7 +14,6 @@ use Rattle.run.specs.Limits.{run_in_limits}
 use Rattle.run.specs.Loading.{further, most_pending}
 use Rattle.run.specs.Calls.{kind_of, cleared}
 use Rattle.run.specs.declared.Run.{Run}
-use Rattle.run_checks.specs.declared.Halt.{Halt}
 use Rattle.run.specs.declared.Reply.{Reply}
 use Rattle.demands_log.specs.Log.{FailedIn, said}
 use Rattle.run.specs.Opening.{open_of}
@@ -90,7 +89,7 @@ module _ (bytes : List ℕ) (are : Bytes bytes) (psi : Clock) (slack : ℕ) (ts 
     pub place : driven.run.progress.state ≡ state_after plan is
     place = after.1.stands.place ∙ ap (state_after plan) loaded
 
-    pub loading : (t : Clock) (i : ℕ) (e : Entry) (ev o : ℕ) → driven.run.halt ≡ Halt.Going → Clear psi.0 slack driven.run.last.0 (Holds driven.run.window) t.0 → Holds driven.run.window i e → is_started e.phase ≡ true
+    pub loading : (t : Clock) (i : ℕ) (e : Entry) (ev o : ℕ) → driven.run.halt ≡ None → Clear psi.0 slack driven.run.last.0 (Holds driven.run.window) t.0 → Holds driven.run.window i e → is_started e.phase ≡ true
         → kind_of driven.run e ≡ Kind.Event ev → ltb o (outcomes_of plan ev) ≡ true
         → (us : List ℕ) × Loads plan available (said (Call.Outcome t e.position e.node o) Reply.Taken ∷ driven.log) is us (further most_pending (cleared driven.run t i (told_of driven.run.progress ev e o))).failure
     loading t i e ev o going calm held started kind has =

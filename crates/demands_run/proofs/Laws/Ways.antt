@@ -1,7 +1,7 @@
 -- Each call goes one of the eight ways and the run keeps what it knows of itself, if an accepted outcome does.
 use Rattle.std.proofs.Math.Path.{◌≡◌, refl, ap}
 use Rattle.std.proofs.Common.{sym, ◌∙◌, subst, true≢false, inl, inr, ⊎_elim, length-set}
-use Rattle.std.specs.Prelude.{Bool, false, ◌&&◌, List, [], ◌∷◌, ◌⊎◌, ℕ, suc, ◌+◌, ◌≤◌, ◌<◌, ltb, length, get_or, set}
+use Rattle.std.specs.Prelude.{Bool, false, ◌&&◌, List, [], ◌∷◌, ◌⊎◌, ℕ, suc, ◌+◌, ◌≤◌, ◌<◌, ltb, length, get_or, set, Option, Some, None}
 use Rattle.std.proofs.Math.Bool.{true}
 use native.Mathlib.Omega.{arith}
 use borrow.Author.Tests.{ltb-false}
@@ -26,7 +26,6 @@ use Rattle.run_outcomes.specs.Told.{told_of}
 use Rattle.run.specs.Calls.{answer, heard, cleared, kind_of, is_done, learnt, reported, completed_by, is_marker, learns_by, asked, completed, learns, timely, called, ask_of, completion_of, outcome_of, call_of}
 use Rattle.run.specs.Calls as Calls
 use Rattle.run.specs.declared.Run.{Run}
-use Rattle.run_checks.specs.declared.Halt.{Halt}
 use Rattle.run_checks.specs.declared.Stop.{Stop}
 use Rattle.run.specs.declared.Call.{Call}
 use Rattle.run.specs.declared.Reply.{Reply}
@@ -70,20 +69,20 @@ marks w i e h j f = (
 clears : (w : List Entry) (i : ℕ) → Clears (Holds w) (Holds (set w i vacant)) i
 clears w i j f = (λ q. cleared_only w i j f q, λ q. stored_kept w i vacant j f q.0 q.1)
 
-abbrev FailedHalt : Halt → Type 0
-FailedHalt Halt.Going = ⊥
-FailedHalt (Halt.Stopped s) = Failing s
+abbrev FailedHalt : Option Stop → Type 0
+FailedHalt None = ⊥
+FailedHalt (Some s) = Failing s
 
 -- ---- a run of an accepted opening
 
 module _ (p : Plan) (psi : Clock) (slack : ℕ) (given : Accepted p psi slack) (available : ℕ → ℕ) where
-  abbrev pub run_of : Progress → List Entry → Clock → Halt → Run
+  abbrev pub run_of : Progress → List Entry → Clock → Option Stop → Run
   run_of g w last halt = record { plan = p; psi = psi; slack = slack; progress = g; window = w; last = last; halt = halt }
 
   abbrev pub Entries : List Entry → Type 0
   Entries w = (j : ℕ) → entry_in_limits p.activities p.sizes (get_or w j vacant) ≡ true
 
-  module _ (log : Log) (is : List ℕ) (g : Progress) (w : List Entry) (last : Clock) (halt : Halt) (good : Good p psi slack available log is (run_of g w last halt)) where
+  module _ (log : Log) (is : List ℕ) (g : Progress) (w : List Entry) (last : Clock) (halt : Option Stop) (good : Good p psi slack available log is (run_of g w last halt)) where
     abbrev pub run : Run
     run = run_of g w last halt
 
@@ -96,17 +95,17 @@ module _ (p : Plan) (psi : Clock) (slack : ℕ) (given : Accepted p psi slack) (
 
     -- an accepted outcome o of the event ev at place i
     abbrev pub Learning : Type 0
-    Learning = (t : Clock) (i : ℕ) (e : Entry) (ev o : ℕ) → halt ≡ Halt.Going → Calm t → Holds w i e → is_started e.phase ≡ true → kind_of run e ≡ Kind.Event ev → ltb o (outcomes_of p ev) ≡ true
+    Learning = (t : Clock) (i : ℕ) (e : Entry) (ev o : ℕ) → halt ≡ None → Calm t → Holds w i e → is_started e.phase ≡ true → kind_of run e ≡ Kind.Event ev → ltb o (outcomes_of p ev) ≡ true
         → Goes (Call.Outcome t e.position e.node o) (learnt (cleared run t i (told_of g ev e o)))
 
     -- and of a marker
     abbrev pub Marking : Type 0
-    Marking = (t : Clock) (i : ℕ) (e : Entry) (ev o : ℕ) → halt ≡ Halt.Going → Calm t → Holds w i e → is_started e.phase ≡ true → kind_of run e ≡ Kind.Event ev → ltb o (outcomes_of p ev) ≡ true → is_marker p ev ≡ true
+    Marking = (t : Clock) (i : ℕ) (e : Entry) (ev o : ℕ) → halt ≡ None → Calm t → Holds w i e → is_started e.phase ≡ true → kind_of run e ≡ Kind.Event ev → ltb o (outcomes_of p ev) ≡ true → is_marker p ev ≡ true
         → Goes (Call.Outcome t e.position e.node o) (answer Reply.Taken (cleared run t i g))
 
     -- nothing is told, and the word stays
-    stays_good : (c : Call) (r : Reply) → (Accepts r log → ⊥) ⊎ ((x : Id) (o : ℕ) → Tells c r log x o → ⊥) → (v : List Entry) (t : Clock) (h : Halt) → Entries v → length v ≡ 512 → halt_in_limits h ≡ true
-        → ((s : Stop) → Failing s → h ≡ Halt.Stopped s → (halt ≡ Halt.Stopped s) × (Accepts r log → ⊥))
+    stays_good : (c : Call) (r : Reply) → (Accepts r log → ⊥) ⊎ ((x : Id) (o : ℕ) → Tells c r log x o → ⊥) → (v : List Entry) (t : Clock) (h : Option Stop) → Entries v → length v ≡ 512 → halt_in_limits h ≡ true
+        → ((s : Stop) → Failing s → h ≡ Some s → (halt ≡ Some s) × (Accepts r log → ⊥))
         → Good p psi slack available (said c r ∷ log) is (run_of g v t h)
     stays_good c r n v t h entries long stop old = record {
       same_plan = refl;
@@ -126,7 +125,7 @@ module _ (p : Plan) (psi : Clock) (slack : ℕ) (given : Accepted p psi slack) (
         silent : (x : Id) (o : ℕ) → Tells c r log x o → ⊥
         silent = ⊎_elim (λ a x o q. tells_not c r log a x o q) (λ a. a) n
 
-    refuse : (c : Call) (f : Refusal) → halt ≡ Halt.Going → (f ≡ Refusal.OutOfLimits → ⊥) → Goes c (Calls.refuse run f)
+    refuse : (c : Call) (f : Refusal) → halt ≡ None → (f ≡ Refusal.OutOfLimits → ⊥) → Goes c (Calls.refuse run f)
     refuse c f h n = (is, refuses h n refl, stays_good c (Reply.Refused f) (inl (λ a. a)) w last halt good.entries good.long good.halt (λ s x e. (e, λ a. a)))
 
     entry_of_lem : (i : ℕ) (e : Entry) → Holds w i e → entry_in_limits p.activities p.sizes e ≡ true
@@ -134,7 +133,7 @@ module _ (p : Plan) (psi : Clock) (slack : ℕ) (given : Accepted p psi slack) (
 
     -- ---- 51, 42 and 41
 
-    timely_way : (c : Call) (t : Clock) → t.0 ≡ reading c → halt ≡ Halt.Going → (go : Answer) → (Calm t → Goes c go) → Goes c (timely run t go)
+    timely_way : (c : Call) (t : Clock) → t.0 ≡ reading c → halt ≡ None → (go : Answer) → (Calm t → Goes c go) → Goes c (timely run t go)
     unfolding timely_by
     timely_way c t rd h go k =
         by_test (Goes c) (ltb t.0 last.0) _ _ (λ b. refuse c Refusal.ReadingBelow h (λ e. below e)) λ b.
@@ -158,7 +157,7 @@ module _ (p : Plan) (psi : Clock) (slack : ℕ) (given : Accepted p psi slack) (
             let held : Holds w i e = record { entry = f.stands; held = ap is_held q.0 } in (
               is,
               overdues {c = c} i e (record { going = h; last = rd; halt = refl }) (λ j x. (λ z. z, λ z. z)) held (ap is_started q.0) (let u = q.1 in omega arith),
-              stays_good c (Reply.Stopped (Stop.Overdue e.position e.node)) (inl (λ a. a.0)) w t (Halt.Stopped (Stop.Overdue e.position e.node)) good.entries good.long (late_passes p psi slack given e held.held (entry_of_lem i e held)) (λ s x z. absurd (subst FailedHalt (sym z) x)),
+              stays_good c (Reply.Stopped (Stop.Overdue e.position e.node)) (inl (λ a. a.0)) w t (Some (Stop.Overdue e.position e.node)) good.entries good.long (late_passes p psi slack given e held.held (entry_of_lem i e held)) (λ s x z. absurd (subst FailedHalt (sym z) x)),
             )
 
         late : last.0 ≤ t.0 → (i : ℕ) (e : Entry) → First (is_late psi slack t) (starts_before p.nodes) w i e → Goes c (Calls.stops run t (Stop.Late e.position e.node))
@@ -167,12 +166,12 @@ module _ (p : Plan) (psi : Clock) (slack : ℕ) (given : Accepted p psi slack) (
             let held : Holds w i e = record { entry = f.stands; held = ap is_held q.0 } in (
               is,
               lates {c = c} i e (record { going = h; last = rd; halt = refl }) (λ j x. (λ z. z, λ z. z)) (omega arith) held (ap is_started q.0) (let u = q.1 in omega arith),
-              stays_good c (Reply.Stopped (Stop.Late e.position e.node)) (inl (λ a. a.0)) w t (Halt.Stopped (Stop.Late e.position e.node)) good.entries good.long (late_passes p psi slack given e held.held (entry_of_lem i e held)) (λ s x z. absurd (subst FailedHalt (sym z) x)),
+              stays_good c (Reply.Stopped (Stop.Late e.position e.node)) (inl (λ a. a.0)) w t (Some (Stop.Late e.position e.node)) good.entries good.long (late_passes p psi slack given e held.held (entry_of_lem i e held)) (λ s x z. absurd (subst FailedHalt (sym z) x)),
             )
 
     -- ---- ask
 
-    turns : (t : Clock) (v : List Entry) → halt ≡ Halt.Going → Turns machine run (run_of g v t Halt.Going) t.0 Halt.Going
+    turns : (t : Clock) (v : List Entry) → halt ≡ None → Turns machine run (run_of g v t None) t.0 None
     turns t v h = record { going = h; last = refl; halt = refl }
 
     started_entries : (i : ℕ) (e : Entry) → Holds w i e → Entries (set w i (started_of e))
@@ -184,21 +183,21 @@ module _ (p : Plan) (psi : Clock) (slack : ℕ) (given : Accepted p psi slack) (
     final : is_final p.automaton g.state ≡ true → (world_of p available).Final is
     final f = subst (λ (s : ℕ). is_final p.automaton s ≡ true) good.stands.place f
 
-    ask_way : (t : Clock) → halt ≡ Halt.Going → Calm t → Goes (Call.Ask t) (asked run t)
+    ask_way : (t : Clock) → halt ≡ None → Calm t → Goes (Call.Ask t) (asked run t)
     unfolding asked
     ask_way t h k =
         by_first (is_due psi t) (starts_before p.nodes) (starts_order p.nodes) w (Goes (Call.Ask t)) _ _ (λ i e f. start i e f) λ none_due.
-        by_test (λ (r : Reply). Goes (Call.Ask t) (answer r (heard run t Halt.Going g w))) (is_done run) Reply.Done Reply.Wait
-        (λ b. (is, idles (turns t w h) k tt (not_due none_due) (done b) (λ j x. (λ z. z, λ z. z)), stays_good (Call.Ask t) Reply.Done (inl (λ a. a)) w t Halt.Going good.entries good.long refl (λ s x z. absurd (not_going s (sym z)))))
-        (λ b. (is, idles (turns t w h) k tt (not_due none_due) (wait b) (λ j x. (λ z. z, λ z. z)), stays_good (Call.Ask t) Reply.Wait (inl (λ a. a)) w t Halt.Going good.entries good.long refl (λ s x z. absurd (not_going s (sym z)))))
+        by_test (λ (r : Reply). Goes (Call.Ask t) (answer r (heard run t None g w))) (is_done run) Reply.Done Reply.Wait
+        (λ b. (is, idles (turns t w h) k tt (not_due none_due) (done b) (λ j x. (λ z. z, λ z. z)), stays_good (Call.Ask t) Reply.Done (inl (λ a. a)) w t None good.entries good.long refl (λ s x z. absurd (not_going s (sym z)))))
+        (λ b. (is, idles (turns t w h) k tt (not_due none_due) (wait b) (λ j x. (λ z. z, λ z. z)), stays_good (Call.Ask t) Reply.Wait (inl (λ a. a)) w t None good.entries good.long refl (λ s x z. absurd (not_going s (sym z)))))
       where
-        start : (i : ℕ) (e : Entry) → First (is_due psi t) (starts_before p.nodes) w i e → Goes (Call.Ask t) (answer (Reply.Start e.position e.activity e.node) (heard run t Halt.Going g (set w i (started_of e))))
+        start : (i : ℕ) (e : Entry) → First (is_due psi t) (starts_before p.nodes) w i e → Goes (Call.Ask t) (answer (Reply.Start e.position e.activity e.node) (heard run t None g (set w i (started_of e))))
         start i e f =
             let q = (due_tells psi t e).0 f.passes in
             let held : Holds w i e = record { entry = f.stands; held = ap is_held q.0 } in (
               is,
               begins i e (turns t (set w i (started_of e)) h) k held (ap is_started q.0) q.1 (marks w i e held),
-              stays_good (Call.Ask t) (Reply.Start e.position e.activity e.node) (inl (λ a. a)) (set w i (started_of e)) t Halt.Going (started_entries i e held) (length-set w i (started_of e) ∙ good.long) refl (λ s x z. absurd (not_going s (sym z))),
+              stays_good (Call.Ask t) (Reply.Start e.position e.activity e.node) (inl (λ a. a)) (set w i (started_of e)) t None (started_entries i e held) (length-set w i (started_of e) ∙ good.long) refl (λ s x z. absurd (not_going s (sym z))),
             )
 
         not_due : NonePass (is_due psi t) w → (i : ℕ) (e : Entry) → Holds w i e → is_started e.phase ≡ false → t.0 < psi.0 + e.start.0
@@ -220,7 +219,7 @@ module _ (p : Plan) (psi : Clock) (slack : ℕ) (given : Accepted p psi slack) (
 
     -- ---- reports
 
-    report_way : (c : ℕ → ℕ → Call) (position node : ℕ) (f : ℕ → Entry → Answer) → halt ≡ Halt.Going
+    report_way : (c : ℕ → ℕ → Call) (position node : ℕ) (f : ℕ → Entry → Answer) → halt ≡ None
         → ((i : ℕ) (e : Entry) → Holds w i e → is_started e.phase ≡ true → Goes (c e.position e.node) (f i e)) → Goes (c position node) (reported run position node f)
     report_way c position node f h k =
         by_first (is_node position node) by_start report_order w (Goes (c position node)) _ _
@@ -244,7 +243,7 @@ module _ (p : Plan) (psi : Clock) (slack : ℕ) (given : Accepted p psi slack) (
     lacking : Refusal.OutcomeLacking ≡ Refusal.OutOfLimits → ⊥
     lacking e = let z : ◌≡◌ {A = ℕ} 0 1 = cc in omega arith
 
-    completion_way : (t : Clock) (position node : ℕ) → halt ≡ Halt.Going → Calm t → Goes (Call.Completion t position node) (completed run t position node)
+    completion_way : (t : Clock) (position node : ℕ) → halt ≡ None → Calm t → Goes (Call.Completion t position node) (completed run t position node)
     unfolding completed
     completion_way t position node h k = report_way (λ m n. Call.Completion t m n) position node _ h (λ i e held s. by i e held s (kind_of run e))
       where
@@ -252,14 +251,14 @@ module _ (p : Plan) (psi : Clock) (slack : ℕ) (given : Accepted p psi slack) (
         by i e held s (Kind.Action a x) = (
           is,
           completes i e (turns t (set w i vacant) h) k held s (clears w i),
-          stays_good (Call.Completion t e.position e.node) Reply.Taken (inr (λ x o q. q)) (set w i vacant) t Halt.Going
+          stays_good (Call.Completion t e.position e.node) Reply.Taken (inr (λ x o q. q)) (set w i vacant) t None
               (stored_each (λ (x : Entry). entry_in_limits p.activities p.sizes x ≡ true) w i vacant good.entries (vacant_passes p.activities p.sizes)) (length-set w i vacant ∙ good.long) refl (λ s x z. absurd (not_going s (sym z))),
         )
         by i e held s (Kind.Claim r) = refuse (Call.Completion t e.position e.node) Refusal.OtherKind h other_kind
         by i e held s (Kind.Release r) = refuse (Call.Completion t e.position e.node) Refusal.OtherKind h other_kind
         by i e held s (Kind.Event v) = refuse (Call.Completion t e.position e.node) Refusal.OtherKind h other_kind
 
-    outcome_way : Learning → Marking → (t : Clock) (position node o : ℕ) → halt ≡ Halt.Going → Calm t → Goes (Call.Outcome t position node o) (learns run t position node o)
+    outcome_way : Learning → Marking → (t : Clock) (position node o : ℕ) → halt ≡ None → Calm t → Goes (Call.Outcome t position node o) (learns run t position node o)
     unfolding learns
     outcome_way learning marking t position node o h k = report_way (λ m n. Call.Outcome t m n o) position node _ h (λ i e held s. by i e held s (kind_of run e) refl)
       where
@@ -274,7 +273,7 @@ module _ (p : Plan) (psi : Clock) (slack : ℕ) (given : Accepted p psi slack) (
 
     -- ---- any call
 
-    called_way : Invariant (world_of p available) machine psi.0 slack is log run → (c : Call) (t : Clock) → t.0 ≡ reading c → (go : Answer) → (halt ≡ Halt.Going → Calm t → Goes c go) → Goes c (called run t go)
+    called_way : Invariant (world_of p available) machine psi.0 slack is log run → (c : Call) (t : Clock) → t.0 ≡ reading c → (go : Answer) → (halt ≡ None → Calm t → Goes c go) → Goes c (called run t go)
     called_way v c t rd go k =
         by_test (Goes c) (run_in_limits run) _ _
         (λ b. by_halt (Goes c) halt _ _

@@ -1,6 +1,6 @@
 -- There is a word of the log, after a failed loading too: from the word that is loaded the log and the automaton lead on, and
 -- each waiting state that is passed leaves one told instance less.
-use Rattle.std.specs.Prelude.{◌≡◌, refl, Bool, true, false, cond, ◌⊎◌, List, [], ◌∷◌, ◌++◌, map, ℕ, zero, suc, ◌+◌, ◌*◌, ◌≤◌, ◌<◌, eqb, length}
+use Rattle.std.specs.Prelude.{◌≡◌, refl, Bool, true, false, cond, ◌⊎◌, List, [], ◌∷◌, ◌++◌, map, ℕ, zero, suc, ◌+◌, ◌*◌, ◌≤◌, ◌<◌, eqb, length, Some}
 use Rattle.std.proofs.Common.{sym, ap, ◌∙◌, subst, inl, inr, ⊎_elim, append_assoc, arith, add-zero, eqb-true, ne_eqb, eq-eqb, length-append}
 use Rattle.std.proofs.lemmas.List.{map-append}
 use Rattle.basis.specs.Lists.{Among}
@@ -12,7 +12,6 @@ use Rattle.plan.specs.declared.Plan.{Plan}
 use Rattle.automaton.specs.Next.{chosen_of}
 use Rattle.automaton.specs.Rules.{MeetsAutomaton}
 use Rattle.automaton.specs.declared.Next.{Next}
-use Rattle.automaton.specs.declared.Chosen.{Chosen}
 use Rattle.automaton.proofs.Laws.Following.{chosen_leaves, awaited_below}
 use Rattle.automaton.proofs.Laws.Later.{waits_several}
 use Rattle.automaton.proofs.Laws.Cases.{ended_goes, waits_goes}
@@ -219,7 +218,7 @@ module _ (p : Plan) (lawful : Lawful p) (automaton : MeetsAutomaton p) (log : Lo
             names : o < outcomes_of p e
             names = subst (ToldNames (outcomes_of p e)) told (h.names e (awaited_below p lawful.file.limits (state_after p us) e w) y (subst (Among y) (sym z) (inl refl)))
 
-            c : (t : ℕ) × (chosen_of p.automaton (state_after p us) e o ≡ Chosen.Move t)
+            c : (t : ℕ) × (chosen_of p.automaton (state_after p us) e o ≡ Some t)
             c = laws.chosen p lawful automaton (state_after p us) e o (low_state us h.taken) w names
 
             next : Takes p log (c.0 ∷ us)

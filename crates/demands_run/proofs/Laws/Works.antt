@@ -1,5 +1,5 @@
 -- The run of an accepted opening works as demand 3 asks: each call goes one of the eight ways, and the run keeps what it knows.
-use Rattle.std.specs.Prelude.{◌≡◌, refl, List, ◌∷◌, true, ℕ, ltb}
+use Rattle.std.specs.Prelude.{◌≡◌, refl, List, ◌∷◌, true, ℕ, ltb, None}
 use Rattle.std.proofs.Common.{sym, ◌∙◌, subst, ⊎_elim}
 use Rattle.time.specs.declared.Clock.{Clock}
 use Rattle.plan.specs.Plan.{outcomes_of}
@@ -10,7 +10,6 @@ use Rattle.run_window.specs.Places.{Holds}
 use Rattle.run_window.specs.declared.Entry.{Entry}
 use Rattle.run_outcomes.specs.Told.{told_of}
 use Rattle.run.specs.Loading.{further, most_pending}
-use Rattle.run_checks.specs.declared.Halt.{Halt}
 use Rattle.run.specs.declared.Reply.{Reply}
 use Rattle.run_checks.specs.declared.Stop.{Stop}
 use Rattle.demands_theory.specs.Loading.{Loads}
@@ -50,7 +49,7 @@ module _ (laws : EngineLaws) (p : Plan) (psi : Clock) (slack : ℕ) (given : Acc
     v1 = subst (Invariant (world_of p available) machine psi.0 slack is log) (sym same) v
 
     -- how loading after an accepted outcome ends
-    pub loading_says : (t : Clock) (i : ℕ) (e : Entry) (ev o : ℕ) → run.halt ≡ Halt.Going → Clear psi.0 slack run.last.0 (Holds run.window) t.0 → Holds run.window i e → is_started e.phase ≡ true
+    pub loading_says : (t : Clock) (i : ℕ) (e : Entry) (ev o : ℕ) → run.halt ≡ None → Clear psi.0 slack run.last.0 (Holds run.window) t.0 → Holds run.window i e → is_started e.phase ≡ true
         → kind_of run e ≡ Kind.Event ev → ltb o (outcomes_of p ev) ≡ true
         → (us : List ℕ) × Loads p available (said (Call.Outcome t e.position e.node o) Reply.Taken ∷ log) is us (further most_pending (cleared run t i (told_of run.progress ev e o))).failure
     loading_says t i e ev o going calm held started =

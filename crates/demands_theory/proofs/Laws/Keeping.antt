@@ -1,5 +1,5 @@
 -- The invariant, kept by every way that a call can go.
-use Rattle.std.specs.Prelude.{◌≡◌, refl, true, ◌∷◌, ℕ, ◌+◌, ◌≤◌}
+use Rattle.std.specs.Prelude.{◌≡◌, refl, true, ◌∷◌, ℕ, ◌+◌, ◌≤◌, Option, Some, None}
 use Rattle.std.proofs.Common.{sym, ap, ◌∙◌, subst, true≢false, inl, inr, ⊎_elim, arith}
 use Rattle.run_window.specs.Window.{is_started}
 use Rattle.run_window.specs.declared.Entry.{Entry}
@@ -7,7 +7,6 @@ use Rattle.run.specs.declared.Call.{Call}
 use Rattle.run.specs.declared.Reply.{Reply}
 use Rattle.run_checks.specs.declared.Refusal.{Refusal}
 use Rattle.run_checks.specs.declared.Stop.{Stop}
-use Rattle.run_checks.specs.declared.Halt.{Halt}
 use Rattle.run_loading.specs.declared.Failure.{Failure}
 use Rattle.run.specs.Inner.Calls.{reply_after, halt_after}
 use Rattle.demands_log.specs.Log.{Id, Said, said, Log, reading, Started, Stops, StoppedBy, Accepts, Finishes}
@@ -38,27 +37,27 @@ module _ (W : World) (M : Machine) (psi slack : ℕ) (Good : Log → W.Word → 
   }
 
   -- a run that goes has not been stopped
-  unstopped : M.halt run ≡ Halt.Going → (s : Stop) → StoppedBy log s → ⊥
+  unstopped : M.halt run ≡ None → (s : Stop) → StoppedBy log s → ⊥
   unstopped e s q = not_going s (sym (v.stopped s q) ∙ e)
 
   -- the run as it was: a kept stop, a refusal
   same : (c : Call) (r : Reply) (run' : M.Run) → run' ≡ run → Invariant W M psi slack word (said c r ∷ log) run → Invariant W M psi slack word (said c r ∷ log) run'
   same c r run' e h = subst (Invariant W M psi slack word (said c r ∷ log)) (sym e) h
 
-  keep : (c : Call) (s : Stop) → M.halt run ≡ Halt.Stopped s → Invariant W M psi slack word (said c (Reply.Stopped s) ∷ log) run
+  keep : (c : Call) (s : Stop) → M.halt run ≡ Some s → Invariant W M psi slack word (said c (Reply.Stopped s) ∷ log) run
   keep c s e =
       let na : Accepts (Reply.Stopped s) log → ⊥ = stop_accepts s log (v.halted s e) in
       record {
         accounts = accounts_quiet W psi slack word log _ v.accounts c (Reply.Stopped s) _ (λ j f. (λ h. h, λ h. h)) (λ id p. p) na;
         clock = λ h. absurd (not_going s (sym e ∙ h));
         halted = λ s' q. inl tt;
-        stopped = λ u. ⊎_elim (λ q. e ∙ ap Halt.Stopped (same_stop q)) (λ q. v.stopped u q);
+        stopped = λ u. ⊎_elim (λ q. e ∙ ap Some (same_stop q)) (λ q. v.stopped u q);
         numbers = (not_50 (Reply.Stopped s) tt, v.numbers);
         latest = spoken c (Reply.Stopped s) _ (λ p. p) (λ p. p);
         mild = λ C m h. let b = v.mild C (λ id p. m id (inr p)) h.1 in ((subst MildHalt e b.1, b.0), b.1);
       }
 
-  refuse : (c : Call) (f : Refusal) → M.halt run ≡ Halt.Going → (f ≡ Refusal.OutOfLimits → ⊥) → Invariant W M psi slack word (said c (Reply.Refused f) ∷ log) run
+  refuse : (c : Call) (f : Refusal) → M.halt run ≡ None → (f ≡ Refusal.OutOfLimits → ⊥) → Invariant W M psi slack word (said c (Reply.Refused f) ∷ log) run
   refuse c f e l =
       record {
         accounts = accounts_quiet W psi slack word log _ v.accounts c (Reply.Refused f) _ (λ j f. (λ h. h, λ h. h)) (λ id p. p) (λ p. p);
@@ -71,7 +70,7 @@ module _ (W : World) (M : Machine) (psi slack : ℕ) (Good : Log → W.Word → 
       }
 
   -- a new stop as late or overdue, which the host's side excludes
-  halt : (c : Call) (s : Stop) (run' : M.Run) → M.halt run ≡ Halt.Going → M.halt run' ≡ Halt.Stopped s → Stays (M.holds run) (M.holds run') → (Accepts (Reply.Stopped s) log → ⊥) →
+  halt : (c : Call) (s : Stop) (run' : M.Run) → M.halt run ≡ None → M.halt run' ≡ Some s → Stays (M.holds run) (M.holds run') → (Accepts (Reply.Stopped s) log → ⊥) →
       ((C : Id → ℕ) → ((id : Id) → Started log id → C id ≡ W.completion word id) → HostAt psi slack C log (reading c) → ⊥) →
       Invariant W M psi slack word (said c (Reply.Stopped s) ∷ log) run'
   halt c s run' going e q na never =
@@ -79,7 +78,7 @@ module _ (W : World) (M : Machine) (psi slack : ℕ) (Good : Log → W.Word → 
         accounts = accounts_quiet W psi slack word log _ v.accounts c (Reply.Stopped s) _ q (λ id p. p) na;
         clock = λ h. absurd (not_going s (sym e ∙ h));
         halted = λ s' p. inl tt;
-        stopped = λ u. ⊎_elim (λ p. e ∙ ap Halt.Stopped (same_stop p)) (λ p. absurd (unstopped going u p));
+        stopped = λ u. ⊎_elim (λ p. e ∙ ap Some (same_stop p)) (λ p. absurd (unstopped going u p));
         numbers = (not_50 (Reply.Stopped s) tt, v.numbers);
         latest = spoken c (Reply.Stopped s) _ (λ p. p) (λ p. p);
         mild = λ C m h. absurd (never C (λ id p. m id (inr p)) (h.0 refl));
@@ -94,7 +93,7 @@ module _ (W : World) (M : Machine) (psi slack : ℕ) (Good : Log → W.Word → 
       v.accounts.unreported i e h (host.reports (id_of e) r (omega arith))
 
   -- an answer that is neither a refusal nor a stop, and no outcome
-  goes : (c : Call) (r : Reply) (run' : M.Run) → Turns M run run' (reading c) Halt.Going → (Stops r → ⊥) → Other r → Mild r → Answers W word (M.holds run') r →
+  goes : (c : Call) (r : Reply) (run' : M.Run) → Turns M run run' (reading c) None → (Stops r → ⊥) → Other r → Mild r → Answers W word (M.holds run') r →
       Accounts W psi slack word (said c r ∷ log) (M.holds run') → Clock psi slack (reading c) (said c r ∷ log) (M.holds run') → Invariant W M psi slack word (said c r ∷ log) run'
   goes c r run' t ns ab mi fi a k = record {
     accounts = a;
@@ -149,8 +148,8 @@ module _ (W : World) (M : Machine) (psi slack : ℕ) (Good : Log → W.Word → 
       reported = accounts_report W psi slack word log _ v.accounts (w.one run) (Call.Outcome t e.position e.node o) (reply_after f) i e h s (k.not_overdue i e h s)
           (failure_starts f) (refl, failure_accepts f log (v.clock u.going).unstopped) (λ id p. p.0) cleared (λ j d. (λ p. p, λ p. p))
 
-      clock' : (f' : Failure) → Loads W (M.holds run) (M.holds run') i e.end.0 word later → halt_after f' ≡ Halt.Going → Clock psi slack t.0 (said (Call.Outcome t e.position e.node o) (reply_after f') ∷ log) (M.holds run')
-      clock' Failure.None l p = clock_next _ _ _ log _ (v.clock u.going) (Call.Outcome t e.position e.node o) Reply.Taken _ refl (λ z. z) k
+      clock' : (f' : Option Failure) → Loads W (M.holds run) (M.holds run') i e.end.0 word later → halt_after f' ≡ None → Clock psi slack t.0 (said (Call.Outcome t e.position e.node o) (reply_after f') ∷ log) (M.holds run')
+      clock' None l p = clock_next _ _ _ log _ (v.clock u.going) (Call.Outcome t e.position e.node o) Reply.Taken _ refl (λ z. z) k
           (λ j d y z. ⊎_elim (λ a. inl a.1) (λ n. inr (let b = n.held_back in let m = k.not_overdue i e h s in omega arith)) (l.only j d y)) (λ n z. absurd z)
-      clock' Failure.Full l p = absurd (not_going Stop.Full p)
-      clock' Failure.Beyond l p = absurd (not_going Stop.Beyond p)
+      clock' (Some Failure.Full) l p = absurd (not_going Stop.Full p)
+      clock' (Some Failure.Beyond) l p = absurd (not_going Stop.Beyond p)

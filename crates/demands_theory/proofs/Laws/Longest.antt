@@ -1,11 +1,10 @@
 -- What is loaded is the longest beginning of the word that fits: where loading ends, no longer one does.
-use Rattle.std.specs.Prelude.{◌≡◌, List, [], ◌∷◌, ◌⊎◌, ℕ}
+use Rattle.std.specs.Prelude.{◌≡◌, List, [], ◌∷◌, ◌⊎◌, ℕ, Option, Some}
 use Rattle.std.proofs.Common.{sym, subst, inl, inr, ⊎_elim, arith}
 use Rattle.plan.specs.declared.Plan.{Plan}
 use Rattle.automaton.specs.declared.Next.{Next}
 use Rattle.times_combined.specs.Paths.{Lawful}
 use Rattle.run.specs.declared.Call.{Call}
-use Rattle.run_checks.specs.declared.Halt.{Halt}
 use Rattle.run_checks.specs.declared.Stop.{Stop}
 use Rattle.run_loading.specs.declared.Failure.{Failure}
 use Rattle.run.specs.Inner.Calls.{reply_after, halt_after}
@@ -91,31 +90,31 @@ module _ (p : Plan) (available : ℕ → ℕ) where
       first u Tail.here y = nb (record { at = n.onward.first ∷ us; onward = record { first = n.onward.first; taken = n.onward.taken; silent = stays }; beyond = y })
       first u (Tail.later c) y = w u c y
 
-  pub within_loads : (log : Log) (us vs : List ℕ) (f : Failure) → Loads p available log us vs f → Within p available us → Within p available vs
+  pub within_loads : (log : Log) (us vs : List ℕ) (f : Option Failure) → Loads p available log us vs f → Within p available us → Within p available vs
   within_loads log us vs f (ends e) w = w
   within_loads log us vs f (later {vs = ws} n nb few l) w = within_loads log ws vs f l (within_path log us ws n nb w)
 
-  pub loads_end : (log : Log) (us vs : List ℕ) (f : Failure) → Loads p available log us vs f → EndsAt p available log vs f
+  pub loads_end : (log : Log) (us vs : List ℕ) (f : Option Failure) → Loads p available log us vs f → EndsAt p available log vs f
   loads_end log us vs f (ends e) = e
   loads_end log us vs f (later {vs = ws} n nb few l) = loads_end log ws vs f l
 
 -- ---- where loading ends, by the answer that tells it
 
-full_beyond : {A : Type 0} → Halt.Stopped Stop.Full ≡ Halt.Stopped Stop.Beyond → A
+full_beyond : {A : Type 0} → Some Stop.Full ≡ Some Stop.Beyond → A
 full_beyond e = absurd (let z : ◌≡◌ {A = ℕ} 0 1 = cc in omega arith)
 
 module _ (p : Plan) (available : ℕ → ℕ) (log1 : Log) (us : List ℕ) where
-  pub ends_whole : (c : Call) (log : Log) (f : Failure) → EndsAt p available log1 us f → (FailedIn (said c (reply_after f) ∷ log) → ⊥) → Stuck p log1 us
+  pub ends_whole : (c : Call) (log : Log) (f : Option Failure) → EndsAt p available log1 us f → (FailedIn (said c (reply_after f) ∷ log) → ⊥) → Stuck p log1 us
   ends_whole c log f (whole s) nf = s
   ends_whole c log f (beyond y) nf = absurd (nf (inl tt))
   ends_whole c log f (full y) nf = absurd (nf (inl tt))
 
-  pub ends_beyond : (f : Failure) → EndsAt p available log1 us f → halt_after f ≡ Halt.Stopped Stop.Beyond → PathBeyond p available log1 us
+  pub ends_beyond : (f : Option Failure) → EndsAt p available log1 us f → halt_after f ≡ Some Stop.Beyond → PathBeyond p available log1 us
   ends_beyond f (whole s) e = absurd (not_going Stop.Beyond (sym e))
   ends_beyond f (beyond y) e = y
   ends_beyond f (full y) e = full_beyond e
 
-  pub ends_full : (f : Failure) → EndsAt p available log1 us f → halt_after f ≡ Halt.Stopped Stop.Full → PathFull p available log1 us
+  pub ends_full : (f : Option Failure) → EndsAt p available log1 us f → halt_after f ≡ Some Stop.Full → PathFull p available log1 us
   ends_full f (whole s) e = absurd (not_going Stop.Full (sym e))
   ends_full f (beyond y) e = full_beyond (sym e)
   ends_full f (full y) e = y

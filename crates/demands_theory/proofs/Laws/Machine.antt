@@ -1,10 +1,10 @@
 -- What demand 3 speaks of: the words of a plan with their nodes, times and arrows, and a run with its window that answers
 -- calls. Both are given by what is asked of them, so that the claim rests on nothing else.
-use Rattle.std.specs.Prelude.{◌≡◌, [], ◌∷◌, ℕ}
+use Rattle.std.specs.Prelude.{◌≡◌, [], ◌∷◌, ℕ, Option}
 use Rattle.run_window.specs.declared.Entry.{Entry}
 use Rattle.run.specs.declared.Call.{Call}
 use Rattle.run.specs.declared.Reply.{Reply}
-use Rattle.run_checks.specs.declared.Halt.{Halt}
+use Rattle.run_checks.specs.declared.Stop.{Stop}
 use Rattle.demands_log.specs.Log.{Id, Log, Finishes}
 use Rattle.demands_theory.specs.Nodes.{id_of}
 
@@ -25,7 +25,7 @@ pub record Machine : Type 1 where
   pub reply : Run → Call → Reply
   pub next : Run → Call → Run
   pub last : Run → ℕ
-  pub halt : Run → Halt
+  pub halt : Run → Option Stop
   pub holds : Run → ℕ → Entry → Type 0
 
 -- ---- the window

@@ -1,11 +1,10 @@
 -- What each kind of reply tells, and what it does not: facts by cases for the laws of `Keeping`.
-use Rattle.std.specs.Prelude.{◌≡◌, refl, false, [], ◌∷◌, ◌⊎◌}
+use Rattle.std.specs.Prelude.{◌≡◌, refl, false, [], ◌∷◌, ◌⊎◌, Option, Some, None}
 use Rattle.std.proofs.Common.{sym, ap, subst, inl, inr, ⊎_elim}
 use Rattle.run.specs.declared.Call.{Call}
 use Rattle.run.specs.declared.Reply.{Reply}
 use Rattle.run_checks.specs.declared.Refusal.{Refusal}
 use Rattle.run_checks.specs.declared.Stop.{Stop}
-use Rattle.run_checks.specs.declared.Halt.{Halt}
 use Rattle.run_loading.specs.declared.Failure.{Failure}
 use Rattle.run.specs.Inner.Calls.{reply_after, halt_after}
 use Rattle.demands_log.specs.Log.{Id, Log, said, Starts, Stops, StoppedIn, StoppedBy, Fails, FailedIn, Accepts, Finishes}
@@ -14,11 +13,11 @@ use Rattle.demands_theory.proofs.Laws.Machine.{Waiting}
 use Rattle.demands_theory.proofs.Laws.Way.{Idle}
 use Rattle.demands_theory.proofs.Laws.Invariant.{MildHalt}
 
-abbrev Goes : Halt → Type 0
-Goes Halt.Going = Unit {0}
-Goes (Halt.Stopped s) = ⊥
+abbrev Goes : Option Stop → Type 0
+Goes None = Unit {0}
+Goes (Some s) = ⊥
 
-pub not_going : (s : Stop) → Halt.Stopped s ≡ Halt.Going → ⊥
+pub not_going : (s : Stop) → Some s ≡ None → ⊥
 not_going s e = subst Goes (sym e) tt
 
 pub failed_stopped : (log : Log) → FailedIn log → StoppedIn log
@@ -100,47 +99,47 @@ stop_accepts s log h p = p.1 h
 
 -- ---- what an outcome is answered
 
-pub failure_starts : (f : Failure) (x : Id) → Starts (reply_after f) x → ⊥
-failure_starts Failure.None x p = p
-failure_starts Failure.Full x p = p
-failure_starts Failure.Beyond x p = p
+pub failure_starts : (f : Option Failure) (x : Id) → Starts (reply_after f) x → ⊥
+failure_starts None x p = p
+failure_starts (Some Failure.Full) x p = p
+failure_starts (Some Failure.Beyond) x p = p
 
-pub failure_accepts : (f : Failure) (log : Log) → (StoppedIn log → ⊥) → Accepts (reply_after f) log
-failure_accepts Failure.None log h = tt
-failure_accepts Failure.Full log h = (tt, h)
-failure_accepts Failure.Beyond log h = (tt, h)
+pub failure_accepts : (f : Option Failure) (log : Log) → (StoppedIn log → ⊥) → Accepts (reply_after f) log
+failure_accepts None log h = tt
+failure_accepts (Some Failure.Full) log h = (tt, h)
+failure_accepts (Some Failure.Beyond) log h = (tt, h)
 
-pub failure_unfinished : (f : Failure) → Finishes (reply_after f) → ⊥
-failure_unfinished Failure.None p = p
-failure_unfinished Failure.Full p = p
-failure_unfinished Failure.Beyond p = p
+pub failure_unfinished : (f : Option Failure) → Finishes (reply_after f) → ⊥
+failure_unfinished None p = p
+failure_unfinished (Some Failure.Full) p = p
+failure_unfinished (Some Failure.Beyond) p = p
 
-pub failure_unwaiting : (f : Failure) → Waiting (reply_after f) → ⊥
-failure_unwaiting Failure.None p = p
-failure_unwaiting Failure.Full p = p
-failure_unwaiting Failure.Beyond p = p
+pub failure_unwaiting : (f : Option Failure) → Waiting (reply_after f) → ⊥
+failure_unwaiting None p = p
+failure_unwaiting (Some Failure.Full) p = p
+failure_unwaiting (Some Failure.Beyond) p = p
 
-pub failure_mild : (f : Failure) → Mild (reply_after f)
-failure_mild Failure.None = tt
-failure_mild Failure.Full = tt
-failure_mild Failure.Beyond = tt
+pub failure_mild : (f : Option Failure) → Mild (reply_after f)
+failure_mild None = tt
+failure_mild (Some Failure.Full) = tt
+failure_mild (Some Failure.Beyond) = tt
 
-pub failure_halt : (f : Failure) → MildHalt (halt_after f)
-failure_halt Failure.None = tt
-failure_halt Failure.Full = tt
-failure_halt Failure.Beyond = tt
+pub failure_halt : (f : Option Failure) → MildHalt (halt_after f)
+failure_halt None = tt
+failure_halt (Some Failure.Full) = tt
+failure_halt (Some Failure.Beyond) = tt
 
-pub failure_other : (f : Failure) → Other (reply_after f)
-failure_other Failure.None = tt
-failure_other Failure.Full = tt
-failure_other Failure.Beyond = tt
+pub failure_other : (f : Option Failure) → Other (reply_after f)
+failure_other None = tt
+failure_other (Some Failure.Full) = tt
+failure_other (Some Failure.Beyond) = tt
 
-pub failure_halted : (f : Failure) (c : Call) (log : Log) (s : Stop) → halt_after f ≡ Halt.Stopped s → StoppedIn (said c (reply_after f) ∷ log)
-failure_halted Failure.None c log s e = absurd (not_going s (sym e))
-failure_halted Failure.Full c log s e = inl tt
-failure_halted Failure.Beyond c log s e = inl tt
+pub failure_halted : (f : Option Failure) (c : Call) (log : Log) (s : Stop) → halt_after f ≡ Some s → StoppedIn (said c (reply_after f) ∷ log)
+failure_halted None c log s e = absurd (not_going s (sym e))
+failure_halted (Some Failure.Full) c log s e = inl tt
+failure_halted (Some Failure.Beyond) c log s e = inl tt
 
-pub failure_stopped : (f : Failure) (s : Stop) → reply_after f ≡ Reply.Stopped s → halt_after f ≡ Halt.Stopped s
-failure_stopped Failure.None s e = absurd (not_stop Reply.Taken s (λ p. p) e)
-failure_stopped Failure.Full s e = ap Halt.Stopped (same_stop e)
-failure_stopped Failure.Beyond s e = ap Halt.Stopped (same_stop e)
+pub failure_stopped : (f : Option Failure) (s : Stop) → reply_after f ≡ Reply.Stopped s → halt_after f ≡ Some s
+failure_stopped None s e = absurd (not_stop Reply.Taken s (λ p. p) e)
+failure_stopped (Some Failure.Full) s e = ap Some (same_stop e)
+failure_stopped (Some Failure.Beyond) s e = ap Some (same_stop e)

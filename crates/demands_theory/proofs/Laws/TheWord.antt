@@ -1,12 +1,11 @@
 -- The word of a log is one, and every word that the log takes is a beginning of it, which it extends.
-use Rattle.std.specs.Prelude.{◌≡◌, refl, List, [], ◌∷◌, ◌⊎◌, ℕ}
+use Rattle.std.specs.Prelude.{◌≡◌, refl, List, [], ◌∷◌, ◌⊎◌, ℕ, Some}
 use Rattle.std.proofs.Common.{sym, ap₂, ◌∙◌, subst, inl, inr}
 use Rattle.plan.specs.Plan.{resource_of}
 use Rattle.plan.specs.declared.Plan.{Plan}
 use Rattle.automaton.specs.Next.{chosen_of}
 use Rattle.automaton.specs.Rules.{Leaves}
 use Rattle.automaton.specs.declared.Next.{Next}
-use Rattle.automaton.specs.declared.Chosen.{Chosen}
 use Rattle.automaton.proofs.Laws.Following.{next_leaves, chosen_leaves}
 use Rattle.automaton.proofs.Laws.Cases.{goes_same, waits_same, move_same, goes_waits, ended_goes, ended_waits}
 use Rattle.times_combined.specs.Word.{times}
@@ -53,7 +52,7 @@ told_once (y ∷ log) h x o p (inr a) (inr b) = told_once log h.1 x o p a b
 -- transition t is taken after `is`
 pub data Step (p : Plan) (log : Log) (is : List ℕ) (t : ℕ) : Type 0 where
   silent : next_after p is ≡ Next.Goes t → Step p log is t
-  heard : (e o : ℕ) (x : Id) → next_after p is ≡ Next.Waits e → Oldest p is e x → Told log x o → chosen_of p.automaton (state_after p is) e o ≡ Chosen.Move t → Step p log is t
+  heard : (e o : ℕ) (x : Id) → next_after p is ≡ Next.Waits e → Oldest p is e x → Told log x o → chosen_of p.automaton (state_after p is) e o ≡ Some t → Step p log is t
 
 abbrev Last : Plan → Log → List ℕ → Type 0
 Last p log [] = Unit {0}

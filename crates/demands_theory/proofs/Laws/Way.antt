@@ -1,5 +1,5 @@
 -- How a call goes: the eight ways, and how the window and the word change on them.
-use Rattle.std.specs.Prelude.{◌≡◌, true, false, ◌⊎◌, ◌↔◌, ℕ, ◌+◌, ◌≤◌, ◌<◌}
+use Rattle.std.specs.Prelude.{◌≡◌, true, false, ◌⊎◌, ◌↔◌, ℕ, ◌+◌, ◌≤◌, ◌<◌, Option, Some, None}
 use Rattle.time.specs.declared.Clock.{Clock}
 use Rattle.run_window.specs.Window.{is_started, started_of}
 use Rattle.run_window.specs.declared.Entry.{Entry}
@@ -7,7 +7,6 @@ use Rattle.run.specs.declared.Call.{Call}
 use Rattle.run.specs.declared.Reply.{Reply}
 use Rattle.run_checks.specs.declared.Refusal.{Refusal}
 use Rattle.run_checks.specs.declared.Stop.{Stop}
-use Rattle.run_checks.specs.declared.Halt.{Halt}
 use Rattle.run_loading.specs.declared.Failure.{Failure}
 use Rattle.run.specs.Inner.Calls.{reply_after, halt_after}
 use Rattle.demands_log.specs.Log.{Id, reading, Finishes}
@@ -87,8 +86,8 @@ pub record Clear (psi slack last : ℕ) (ws : Window) (t : ℕ) : Type 0 where
   pub not_late : (i : ℕ) (e : Entry) → ws i e → is_started e.phase ≡ false → t ≤ psi + e.start.0 + slack
 
 -- a run that was going makes the reading t its last one, and then stands as h
-pub record Turns (M : Machine) (run run' : M.Run) (t : ℕ) (h : Halt) : Type 0 where
-  pub going : M.halt run ≡ Halt.Going
+pub record Turns (M : Machine) (run run' : M.Run) (t : ℕ) (h : Option Stop) : Type 0 where
+  pub going : M.halt run ≡ None
   pub last : M.last run' ≡ t
   pub halt : M.halt run' ≡ h
 
@@ -109,23 +108,23 @@ pub record Answers (W : World) (word : W.Word) (ws : Window) (r : Reply) : Type 
 
 -- from `run`, with the word taken so far, to `run'`, with the word that is its index
 pub data Way (W : World) (M : Machine) (psi slack : ℕ) (run run' : M.Run) (word : W.Word) : W.Word → Call → Reply → Type 0 where
-  keeps : {c : Call} {s : Stop} → M.halt run ≡ Halt.Stopped s → run' ≡ run → Way W M psi slack run run' word word c (Reply.Stopped s)
-  refuses : {c : Call} {f : Refusal} → M.halt run ≡ Halt.Going → (f ≡ Refusal.OutOfLimits → ⊥) → run' ≡ run → Way W M psi slack run run' word word c (Reply.Refused f)
-  overdues : {c : Call} (i : ℕ) (e : Entry) → Turns M run run' (reading c) (Halt.Stopped (Stop.Overdue e.position e.node)) → Stays (M.holds run) (M.holds run')
+  keeps : {c : Call} {s : Stop} → M.halt run ≡ Some s → run' ≡ run → Way W M psi slack run run' word word c (Reply.Stopped s)
+  refuses : {c : Call} {f : Refusal} → M.halt run ≡ None → (f ≡ Refusal.OutOfLimits → ⊥) → run' ≡ run → Way W M psi slack run run' word word c (Reply.Refused f)
+  overdues : {c : Call} (i : ℕ) (e : Entry) → Turns M run run' (reading c) (Some (Stop.Overdue e.position e.node)) → Stays (M.holds run) (M.holds run')
       → M.holds run i e → is_started e.phase ≡ true → psi + e.end.0 ≤ reading c
       → Way W M psi slack run run' word word c (Reply.Stopped (Stop.Overdue e.position e.node))
-  lates : {c : Call} (i : ℕ) (e : Entry) → Turns M run run' (reading c) (Halt.Stopped (Stop.Late e.position e.node)) → Stays (M.holds run) (M.holds run')
+  lates : {c : Call} (i : ℕ) (e : Entry) → Turns M run run' (reading c) (Some (Stop.Late e.position e.node)) → Stays (M.holds run) (M.holds run')
       → M.last run ≤ reading c → M.holds run i e → is_started e.phase ≡ false → psi + e.start.0 + slack < reading c
       → Way W M psi slack run run' word word c (Reply.Stopped (Stop.Late e.position e.node))
-  begins : {t : Clock} (i : ℕ) (e : Entry) → Turns M run run' t.0 Halt.Going → Clear psi slack (M.last run) (M.holds run) t.0
+  begins : {t : Clock} (i : ℕ) (e : Entry) → Turns M run run' t.0 None → Clear psi slack (M.last run) (M.holds run) t.0
       → M.holds run i e → is_started e.phase ≡ false → psi + e.start.0 ≤ t.0 → Marks (M.holds run) (M.holds run') i e
       → Way W M psi slack run run' word word (Call.Ask t) (Reply.Start e.position e.activity e.node)
-  idles : {t : Clock} {r : Reply} → Turns M run run' t.0 Halt.Going → Clear psi slack (M.last run) (M.holds run) t.0 → Idle r
+  idles : {t : Clock} {r : Reply} → Turns M run run' t.0 None → Clear psi slack (M.last run) (M.holds run) t.0 → Idle r
       → ((i : ℕ) (e : Entry) → M.holds run i e → is_started e.phase ≡ false → t.0 < psi + e.start.0) → Answers W word (M.holds run) r
       → Stays (M.holds run) (M.holds run') → Way W M psi slack run run' word word (Call.Ask t) r
-  completes : {t : Clock} (i : ℕ) (e : Entry) → Turns M run run' t.0 Halt.Going → Clear psi slack (M.last run) (M.holds run) t.0
+  completes : {t : Clock} (i : ℕ) (e : Entry) → Turns M run run' t.0 None → Clear psi slack (M.last run) (M.holds run) t.0
       → M.holds run i e → is_started e.phase ≡ true → Clears (M.holds run) (M.holds run') i
       → Way W M psi slack run run' word word (Call.Completion t e.position e.node) Reply.Taken
-  learns : {later : W.Word} {t : Clock} {o : ℕ} (i : ℕ) (e : Entry) (f : Failure) → Turns M run run' t.0 (halt_after f) → Clear psi slack (M.last run) (M.holds run) t.0
+  learns : {later : W.Word} {t : Clock} {o : ℕ} (i : ℕ) (e : Entry) (f : Option Failure) → Turns M run run' t.0 (halt_after f) → Clear psi slack (M.last run) (M.holds run) t.0
       → M.holds run i e → is_started e.phase ≡ true → Loads W (M.holds run) (M.holds run') i e.end.0 word later
       → Way W M psi slack run run' word later (Call.Outcome t e.position e.node o) (reply_after f)

@@ -1,11 +1,10 @@
 -- What the run must supply. `Good log word run` is the run's own: what it knows of itself after the calls of the log. It is in
 -- limits and keeps the opening's Ψ, slack and plan; the word is taken by the outcomes that the log reports, as far as it goes
 -- unless a loading has failed; and the run's state of loading is the word's.
-use Rattle.std.specs.Prelude.{◌≡◌, false, [], ◌∷◌, ℕ}
+use Rattle.std.specs.Prelude.{◌≡◌, false, [], ◌∷◌, ℕ, None}
 use Rattle.run_window.specs.Window.{is_started}
 use Rattle.run_window.specs.declared.Entry.{Entry}
 use Rattle.run.specs.declared.Call.{Call}
-use Rattle.run_checks.specs.declared.Halt.{Halt}
 use Rattle.demands_log.specs.Log.{Id, Log, said}
 use Rattle.demands_theory.proofs.Laws.Machine.{World, Machine, Held}
 use Rattle.demands_theory.proofs.Laws.Way.{Outlasts, InOrder, Agrees, Way}
@@ -24,7 +23,7 @@ pub record Works (W : World) (M : Machine) (psi slack : ℕ) (Good : Log → W.W
 -- a run from an accepted opening, with the first path
 pub record Opened (W : World) (M : Machine) (Good : Log → W.Word → M.Run → Type 0) (word : W.Word) (run : M.Run) : Type 0 where
   pub good : Good [] word run
-  pub going : M.halt run ≡ Halt.Going
+  pub going : M.halt run ≡ None
   pub agree : (i : ℕ) (e : Entry) → M.holds run i e → Agrees W word e
   pub unstarted : (i : ℕ) (e : Entry) → M.holds run i e → is_started e.phase ≡ false
   pub distinct : (i j : ℕ) (e f : Entry) → M.holds run i e → M.holds run j f → id_of e ≡ id_of f → i ≡ j

@@ -1,14 +1,32 @@
-use mathlib.Core.Path.{sym, ◌∙◌}
+use mathlib.Core.Path.{◌≡◌, sym, ◌∙◌}
 use native.Mathlib.Omega.{arith}
-use Prim.Native.Nat.{◌-◌}
+use Prim.Native.Nat.{◌+◌, ◌-◌}
+use lib.ListN.{length}
 use Rattle.drive.proofs.Turns.{part_ahead, count_ends, count_goes, count_over}
 use Rattle.drive.proofs.count_from.Goals as goal
 
-pub returns-in-None : goal.returns-in-None
-returns-in-None c = let l = c.loop-left in let a = c.args in omega (arith, l.invariant.2, count_ends a.input.now l.at l.left (l.left - 1) (omega arith) (sym c.part_at-read.ensures ∙ c.in-None.is))
+pub loop-count-init : goal.loop-count-init
+loop-count-init c =
+    let z : length c.args.input.now - 0 ≡ length c.args.input.now = omega arith in
+    rw z (c.requires, omega arith)
 
-pub loop-left-preserved : goal.loop-left-preserved
-loop-left-preserved c = let l = c.loop-left in let a = c.args in let e = sym c.part_at-read.ensures ∙ c.in-Some.is in ((part_ahead a.input.now l.at _ _ e).1, omega arith, omega (arith, l.invariant.2, count_goes a.input.now l.at l.left (l.left - 1) (omega arith) _ _ e))
+pub returns-in_default : goal.returns-in_default
+returns-in_default c =
+    let l = c.loop-count in
+    let a = c.args in
+    let n = length a.input.now in
+    omega (arith, l.invariant.1, count_ends a.input.now l.at (n - l.count) (n - (l.count + 1)) (omega arith) (sym c.part_at.ensures ∙ c.in_default.is))
+
+pub loop-count-preserved : goal.loop-count-preserved
+loop-count-preserved c =
+    let l = c.loop-count in
+    let a = c.args in
+    let n = length a.input.now in
+    let e = sym c.part_at.ensures ∙ c.in-Some.is in
+    ((part_ahead a.input.now l.at _ _ e).1, omega (arith, l.invariant.1, count_goes a.input.now l.at (n - l.count) (n - (l.count + 1)) (omega arith) _ _ e))
 
 pub returns : goal.returns
-returns c = let l = c.loop-left in let a = c.args in omega (arith, l.invariant.2, count_over a.input.now l.at l.left (omega arith))
+returns c =
+    let l = c.loop-count in
+    let a = c.args in
+    omega (arith, l.invariant.1, count_over a.input.now l.at (length a.input.now - l.count) (omega arith))

@@ -10,8 +10,8 @@ count_from-parts-requires c = whole_parts c.args.input.now c.args.head c.require
 pub returns-then-out-parts : goal.returns-then-out-parts
 returns-then-out-parts c = let a = c.args in too_short a.input.now a.out.now a.head c.requires _ c.count_from-parts.ensures c.if-out-parts.true
 
-pub opened_and_called-end-requires : goal.opened_and_called-end-requires
-opened_and_called-end-requires c = let a = c.args in (c.requires, all_parts a.input.now a.out.now a.head c.requires _ c.count_from-parts.ensures, omega (arith, c.if-out-parts.false))
+pub opened_and_called-requires : goal.opened_and_called-requires
+opened_and_called-requires c = let a = c.args in (c.requires, all_parts a.input.now a.out.now a.head c.requires _ c.count_from-parts.ensures, omega (arith, c.if-out-parts.false))
 
 pub returns : goal.returns
-returns c = let a = c.args in all_written a.input.now a.out.now a.head c.requires _ c.count_from-parts.ensures c.if-out-parts.false _ _ c.opened_and_called-end.ensures
+returns c = let a = c.args in all_written a.input.now a.out.now a.head c.requires _ c.count_from-parts.ensures c.if-out-parts.false _ _ c.opened_and_called.ensures

@@ -6,10 +6,14 @@ use borrow.Author.Rules.{rules}
 use Rattle.drive_input.proofs.availabilities.Goals as goal
 
 pub loop-i-init : goal.loop-i-init
-loop-i-init c = let a = c.args in (search rules, search rules, search rules, fills_none a.input.now a.at c.u8_to_usize-n.result [])
+loop-i-init c = (search rules, fills_none c.args.input.now c.args.at c.from-i-end.result [])
 
 pub loop-i-preserved : goal.loop-i-preserved
-loop-i-preserved c = let l = c.loop-i in let a = c.args in (omega arith, omega arith, simp length-set l.invariant.2, fills_more a.input.now a.at c.u8_to_usize-n.result l.times l.i l.off l.invariant.3 _ c.eight.ensures c.loop-i-test.true (omega arith))
+loop-i-preserved c =
+    let l = c.loop-i in
+    (simp length-set l.invariant.0, fills_more c.args.input.now c.args.at _ l.times l.i l.invariant.1 _ c.eight.ensures c.loop-i-test.true (omega arith))
 
 pub returns : goal.returns
-returns c = let l = c.loop-i in let a = c.args in let e = c.u8_to_usize-n.ensures in rw (← e) (fills_all a.input.now a.at c.u8_to_usize-n.result l.times l.i l.off l.invariant.3 (omega arith) (omega arith))
+returns c =
+    let l = c.loop-i in
+    rw (← c.from-i-end.ensures) (fills_all c.args.input.now c.args.at _ l.times l.i l.invariant.1 (omega arith))

@@ -13,16 +13,16 @@ returns-then-size-n c = let a = c.args in head_cut a.input.now (omega (arith, c.
 
 pub overflow_mul-parts : goal.overflow_mul-parts
 overflow_mul-parts c =
-    let few : c.u8_to_usize.result < 256 = omega (arith, c.type_inv.input (c.two-n.result + 18)) in
+    let few : c.from.result < 256 = omega (arith, c.type_inv.input (c.two-n.result + 18)) in
     omega (arith, few)
 
 pub overflow_add-parts-2 : goal.overflow_add-parts-2
 overflow_add-parts-2 c =
-    let few : c.u8_to_usize.result < 256 = omega (arith, c.type_inv.input (c.two-n.result + 18)) in
+    let few : c.from.result < 256 = omega (arith, c.type_inv.input (c.two-n.result + 18)) in
     omega (arith, few)
 
 pub returns-then-size-parts : goal.returns-then-size-parts
-returns-then-size-parts c = let a = c.args in times_cut a.input.now _ _ _ c.two-n.ensures.0 c.u8_to_usize.ensures refl (omega arith)
+returns-then-size-parts c = let a = c.args in times_cut a.input.now _ _ _ c.two-n.ensures.0 c.from.ensures refl (omega arith)
 
 pub returns : goal.returns
-returns c = let a = c.args in let p = ap (λ (k : ℕ). c.two-n.result + 19 + 8 * k) c.u8_to_usize.ensures in head_there a.input.now _ _ _ c.two-n.ensures.0 refl p _ _ c.eight.ensures c.eight-2.ensures (omega arith)
+returns c = let a = c.args in let p = ap (λ (k : ℕ). c.two-n.result + 19 + 8 * k) c.from.ensures in head_there a.input.now _ _ _ c.two-n.ensures.0 refl p _ _ c.eight.ensures c.eight-2.ensures (omega arith)

@@ -7,17 +7,17 @@ use Rattle.drive_input.proofs.part_at.Goals as goal
 pub returns-then-at-input : goal.returns-then-at-input
 returns-then-at-input c = let a = c.args in no_part a.input.now a.at (omega arith)
 
-pub returns-then-kind-eq0 : goal.returns-then-kind-eq0
-returns-then-kind-eq0 c = let a = c.args in c.ask_at.ensures ∙ is_ask a.input.now a.at (omega arith) c.if-kind-eq0.true
+pub returns-in-0 : goal.returns-in-0
+returns-in-0 c = let a = c.args in c.ask_at.ensures ∙ is_ask a.input.now a.at (omega arith) c.in-0.is
 
-pub returns-then-kind-eq1 : goal.returns-then-kind-eq1
-returns-then-kind-eq1 c = let a = c.args in c.completion_at.ensures ∙ is_completion a.input.now a.at (omega arith) c.if-kind-eq1.true
+pub returns-in-1 : goal.returns-in-1
+returns-in-1 c = let a = c.args in c.completion_at.ensures ∙ is_completion a.input.now a.at (omega arith) c.in-1.is
 
-pub returns-then-kind-eq2 : goal.returns-then-kind-eq2
-returns-then-kind-eq2 c = let a = c.args in c.outcome_at.ensures ∙ is_outcome a.input.now a.at (omega arith) c.if-kind-eq2.true
+pub returns-in-2 : goal.returns-in-2
+returns-in-2 c = let a = c.args in c.outcome_at.ensures ∙ is_outcome a.input.now a.at (omega arith) c.in-2.is
 
-pub returns-then-kind-eq3 : goal.returns-then-kind-eq3
-returns-then-kind-eq3 c = let a = c.args in c.place_at.ensures ∙ is_place a.input.now a.at (omega arith) c.if-kind-eq3.true
+pub returns-in-3 : goal.returns-in-3
+returns-in-3 c = let a = c.args in c.place_at.ensures ∙ is_place a.input.now a.at (omega arith) c.in-3.is
 
-pub returns : goal.returns
-returns c = let a = c.args in no_kind a.input.now a.at (omega arith) c.if-kind-eq0.false c.if-kind-eq1.false c.if-kind-eq2.false c.if-kind-eq3.false
+pub returns-in_default : goal.returns-in_default
+returns-in_default c = let a = c.args in no_kind a.input.now a.at (omega arith) (λ e. omega arith) (λ e. omega arith) (λ e. omega arith) (λ e. omega arith)

@@ -1,5 +1,5 @@
 -- The record of each answer to an opening.
-use Rattle.drive_records.specs.Records.{bare, opening_record}
+use Rattle.drive_records.specs.Records.{opening_record}
 use Rattle.drive_records.proofs.opening_record.Goals as goal
 
 pub returns-in-Opened : goal.returns-in-Opened

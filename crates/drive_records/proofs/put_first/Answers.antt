@@ -5,4 +5,4 @@ use Rattle.drive_records.proofs.put_first.Goals as goal
 
 pub returns : goal.returns
 unfolding record_bytes
-returns c = puts_join c.put_byte-a.ensures (puts_join c.put_byte-b.ensures (puts_join c.put_byte-c.ensures (puts_join c.put_byte-d.ensures (puts_join c.put_number-e.ensures c.put_number.ensures))))
+returns c = rw (← c.from.ensures) (puts_join c.put_byte-a.ensures (puts_join c.put_byte-b.ensures (puts_join c.put_byte-c.ensures (puts_join c.put_byte-d.ensures (puts_join c.put_number-e.ensures c.put_number.ensures)))))

@@ -1,18 +1,16 @@
+use mathlib.Core.Path.{sym, ◌∙◌}
 use native.Mathlib.Omega.{arith}
 use Rattle.judge.proofs.Laws.Judge.{read_limits}
 use Rattle.exports.specs.Codes.{activities_code}
 use Rattle.exports.proofs.jidlekuvo_activities.Goals as goal
 
 pub activities_of-requires : goal.activities_of-requires
-activities_of-requires c =
-    read_limits c.args.bytes.now
-    (λ k. omega (arith, c.type_inv.bytes k))
-    c.read-read.result c.read-read.ensures c.in-Accepted.is
+activities_of-requires c = read_limits c.args.bytes.now (λ k. omega (arith, c.type_inv.bytes k)) _ (sym c.read.ensures ∙ c.in-Ok.is)
 
-pub returns-in-Refused : goal.returns-in-Refused
+pub returns-in-Err : goal.returns-in-Err
 unfolding activities_code
-returns-in-Refused c = rw (← c.read-read.ensures, c.in-Refused.is) c.code.ensures
+returns-in-Err c = rw (← c.read.ensures, c.in-Err.is) c.code.ensures
 
-pub returns-in-Accepted : goal.returns-in-Accepted
+pub returns-in-Ok : goal.returns-in-Ok
 unfolding activities_code
-returns-in-Accepted c = rw (← c.read-read.ensures, c.in-Accepted.is) c.activities_of.ensures
+returns-in-Ok c = rw (← c.read.ensures, c.in-Ok.is) c.activities_of.ensures

@@ -1,7 +1,10 @@
-use mathlib.Core.Path.{ap, ◌∙◌}
-use Rattle.plan.specs.declared.PlanRead.{PlanRead}
-use Rattle.numbers.specs.Codes.{code_of}
+use Rattle.exports.specs.Codes.{read_verdict}
 use Rattle.exports.proofs.jidlekuvo_read.Goals as goal
 
-pub returns : goal.returns
-returns c = c.code.ensures ∙ ap (λ (r : PlanRead). code_of r.verdict) c.read-read.ensures
+pub returns-in-Err : goal.returns-in-Err
+unfolding read_verdict
+returns-in-Err c = rw (← c.read.ensures, c.in-Err.is) c.code.ensures
+
+pub returns-in-Ok : goal.returns-in-Ok
+unfolding read_verdict
+returns-in-Ok c = rw (← c.read.ensures, c.in-Ok.is) c.code-in-Ok.ensures

@@ -1,5 +1,5 @@
 -- `run_back`: the numbers of any run are read as that run. `rest_back`: so are all but its plan's, beside any numbers of its plan.
-use Rattle.std.specs.Prelude.{List, [], ◌∷◌, map, ◌≡◌, refl}
+use Rattle.std.specs.Prelude.{List, [], ◌∷◌, map, ◌≡◌, refl, Option, Some, None}
 use Rattle.std.proofs.Common.{◌∙◌, ap}
 use Rattle.plan.specs.declared.Kind.{Kind}
 use Rattle.plan.specs.declared.Node.{Node}
@@ -13,7 +13,6 @@ use Rattle.times.specs.declared.Progress.{Progress}
 use Rattle.run_window.specs.declared.Phase.{Phase}
 use Rattle.run_window.specs.declared.Entry.{Entry}
 use Rattle.run_checks.specs.declared.Stop.{Stop}
-use Rattle.run_checks.specs.declared.Halt.{Halt}
 use Rattle.run.specs.declared.Run.{Run}
 use Rattle.held.specs.declared.HeldPlan.{HeldPlan}
 use Rattle.held.specs.Held.{kind_of, node_of, kind_number, number_in, peripheral_in, held_node, input_of, output_of, move_of, input_number, input_event, input_outcome, output_number, output_activity, held_move, plan_of, held_plan, phase_of, entry_of, phase_number, held_entry, told_by, instance_of, progress_of, told_number, told_outcome, held_instance, held_progress, halt_of, held_halt, run_of, rest_of, held_of}
@@ -43,12 +42,12 @@ told_back : (t : Told) → told_by (told_number t) (told_outcome t) ≡ t
 told_back Told.Nothing = refl
 told_back (Told.Outcome o) = refl
 
-pub halt_back : (h : Halt) → halt_of (held_halt h) ≡ h
-halt_back Halt.Going = refl
-halt_back (Halt.Stopped (Stop.Late p n)) = refl
-halt_back (Halt.Stopped (Stop.Overdue p n)) = refl
-halt_back (Halt.Stopped Stop.Full) = refl
-halt_back (Halt.Stopped Stop.Beyond) = refl
+pub halt_back : (h : Option Stop) → halt_of (held_halt h) ≡ h
+halt_back None = refl
+halt_back (Some (Stop.Late p n)) = refl
+halt_back (Some (Stop.Overdue p n)) = refl
+halt_back (Some Stop.Full) = refl
+halt_back (Some Stop.Beyond) = refl
 
 -- ---- one element, and a list of them
 

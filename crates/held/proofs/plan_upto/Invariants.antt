@@ -1,7 +1,6 @@
 -- `plan_upto` has all but the nodes, and fills in the first of them, one after the other.
 use mathlib.Core.Path.{◌≡◌}
 use mathlib.Core.List.{List}
-use Prim.Native.Nat.{◌≤◌, ◌-◌, ◌*◌}
 use lib.ListN.{replicate}
 use Rattle.plan.specs.Nodes.{zero_node}
 use Rattle.plan.specs.declared.Node.{Node}
@@ -20,7 +19,4 @@ pub none : (h : HeldPlan) (moves : List Transition) (z : Node) → moves ≡ mov
 none h moves z m e = rw (m, e)
 
 abbrev pub invariant-loop-i : goal.invariant-loop-i
-invariant-loop-i l = (l.i ≤ 2048) × (l.i ≤ l.most) × (l.most ≡ 64 * l.h.activities) × (l.plan ≡ having l.h (nodes_upto l.i l.h.nodes))
-
-abbrev pub decreases-loop-i : goal.decreases-loop-i
-decreases-loop-i l = 2048 - l.i
+invariant-loop-i l = l.plan ≡ having l.h (nodes_upto l.i l.h.nodes)

@@ -1,5 +1,5 @@
 -- The checks with the nodes looked at last say what the checks of a run say.
-use Rattle.std.specs.Prelude.{◌≡◌, Bool, ◌&&◌, List, ℕ, ◌≤◌, ◌<◌, leb, length, get_or}
+use Rattle.std.specs.Prelude.{◌≡◌, Bool, ◌&&◌, List, ℕ, ◌≤◌, ◌<◌, leb, length, get_or, Option, Some, None, Result, Ok, Err}
 use Rattle.std.proofs.Math.Path.{refl, ap}
 use Rattle.std.proofs.Common.{sym, ◌∙◌, subst}
 use Rattle.std.proofs.Math.Bool.{true, false}
@@ -15,14 +15,13 @@ use Rattle.run_window.specs.declared.Entry.{Entry}
 use Rattle.run_window.specs.declared.Found.{Found}
 use Rattle.run_window.specs.declared.Seen.{Seen}
 use Rattle.run_window.specs.declared.Sought.{Sought}
-use Rattle.run_window.specs.Window.{vacant, node_place}
+use Rattle.run_window.specs.Window.{vacant, node_place, found_at}
 use Rattle.run_window.specs.Inner.Search.{SoughtInTime, first_of, seen_of}
 use Rattle.run_limits.specs.Progress.{progress_in_limits}
 use Rattle.run_limits.specs.Window.{entry_in_limits, window_in_limits}
 use Rattle.run_limits.proofs.Laws.Places.{tells_window}
 use Rattle.run_checks.specs.declared.Refusal.{Refusal}
 use Rattle.run_checks.specs.declared.Objection.{Objection}
-use Rattle.run_checks.specs.declared.Check.{Check}
 use Rattle.run_checks.specs.Limits.{halt_in_limits, slack_in_limits}
 use Rattle.run_checks.specs.Order.{Timed, timely_by, called_by}
 use Rattle.run_checks.proofs.Laws.Checks.{passed}
@@ -112,7 +111,7 @@ module _ (run : Run) (good : all_but_nodes run ≡ true) where
   all_sought (Call.Completion t p n) = tt
   all_sought (Call.Outcome t p n o) = tt
 
-  held_below : (i : ℕ) (e : Entry) (nodes : List Node) (s : Sought) → first_of nodes s run.window ≡ Found.At i e → node_place e < 2048
+  held_below : (i : ℕ) (e : Entry) (nodes : List Node) (s : Sought) → first_of nodes s run.window ≡ found_at i e → node_place e < 2048
   held_below i e nodes s q =
       let f = found_holds nodes s run.window i e q in
       node_below run.plan.activities run.plan.sizes few small e f.0.held (subst (λ (x : Entry). entry_in_limits run.plan.activities run.plan.sizes x ≡ true) f.0.entry (parts.1.1.0 i f.1))
@@ -128,34 +127,34 @@ seen_checked run t sought false seen q s = rw (sym q)
 seen_checked run t sought true seen q s = rw (sym q, s refl)
 
 module _ (run : Run) (t : Clock) (sought : Sought) where
-  pub found_below : (check : Check) → check ≡ check_nodes_last run t sought → place_of (found_by check) < 2048
-  found_below (Check.Objects o) q = omega arith
-  found_below (Check.Goes Found.Nothing) q = omega arith
-  found_below (Check.Goes (Found.At i e)) q =
-      let h = passed (all_but_nodes run) run.halt (moment_of run t) run.plan.nodes run.window (first_of run.plan.nodes sought run.window) (Found.At i e) (sym q) in
-      held_below run h.limits i e run.plan.nodes sought (sym h.found)
+  pub found_below : (check : Result (Option Found) Objection) → check ≡ check_nodes_last run t sought → place_of (found_by check) < 2048
+  found_below (Err o) q = omega arith
+  found_below (Ok None) q = omega arith
+  found_below (Ok (Some x)) q =
+      let h = passed (all_but_nodes run) run.halt (moment_of run t) run.plan.nodes run.window (first_of run.plan.nodes sought run.window) (Some x) (sym q) in
+      held_below run h.limits x.place x.entry run.plan.nodes sought (sym h.found)
 
   -- a run whose nodes are within the limits, and one whose nodes are not
   nodes_in : nodes_good run.plan ≡ true → check_nodes_last run t sought ≡ check_of run t sought
   unfolding check_of
-  nodes_in g = ap (λ (b : Bool). called_by b run.halt (moment_of run t) run.plan.nodes run.window Check.Objects (Check.Goes (first_of run.plan.nodes sought run.window))) (sym (limits_apart run ∙ ap (λ (b : Bool). all_but_nodes run && b) g ∙ and-true (all_but_nodes run)))
+  nodes_in g = ap (λ (b : Bool). called_by b run.halt (moment_of run t) run.plan.nodes run.window Err (Ok (first_of run.plan.nodes sought run.window))) (sym (limits_apart run ∙ ap (λ (b : Bool). all_but_nodes run && b) g ∙ and-true (all_but_nodes run)))
     where
       and-true : (b : Bool) → b && true ≡ b
       and-true true = refl
       and-true false = refl
 
-  nodes_out : nodes_good run.plan ≡ false → Check.Objects (Objection.Refuses Refusal.OutOfLimits) ≡ check_of run t sought
+  nodes_out : nodes_good run.plan ≡ false → Err (Objection.Refuses Refusal.OutOfLimits) ≡ check_of run t sought
   unfolding check_of
-  nodes_out g = ap (λ (b : Bool). called_by b run.halt (moment_of run t) run.plan.nodes run.window Check.Objects (Check.Goes (first_of run.plan.nodes sought run.window))) (sym (limits_apart run ∙ ap (λ (b : Bool). all_but_nodes run && b) g ∙ and-not (all_but_nodes run)))
+  nodes_out g = ap (λ (b : Bool). called_by b run.halt (moment_of run t) run.plan.nodes run.window Err (Ok (first_of run.plan.nodes sought run.window))) (sym (limits_apart run ∙ ap (λ (b : Bool). all_but_nodes run && b) g ∙ and-not (all_but_nodes run)))
     where
       and-not : (b : Bool) → b && false ≡ false
       and-not true = refl
       and-not false = refl
 
 -- what a call does
-pub effect_read_lem : (run : Run) (t : Clock) (c : Call) (sought : Sought) (check : Check) (good : Bool) (kind : Kind) → check ≡ check_nodes_last run t sought → good ≡ nodes_good run.plan → kind ≡ kind_found run check
+pub effect_read_lem : (run : Run) (t : Clock) (c : Call) (sought : Sought) (check : Result (Option Found) Objection) (good : Bool) (kind : Kind) → check ≡ check_nodes_last run t sought → good ≡ nodes_good run.plan → kind ≡ kind_found run check
     → effect_read c check good kind run.plan.outcomes ≡ effect_of c (checked_of run t sought)
 effect_read_lem run t c sought check true kind q g k =
     ap (λ (x : Kind). effect_by c check x (outcomes_for run.plan.outcomes x)) k
-    ∙ ap (λ (x : Check). effect_by c x (kind_found run x) (outcomes_for run.plan.outcomes (kind_found run x))) (q ∙ nodes_in run t sought (sym g))
-effect_read_lem run t c sought check false kind q g k = ap (λ (x : Check). effect_by c x (kind_found run x) (outcomes_for run.plan.outcomes (kind_found run x))) (nodes_out run t sought (sym g))
+    ∙ ap (λ (x : Result (Option Found) Objection). effect_by c x (kind_found run x) (outcomes_for run.plan.outcomes (kind_found run x))) (q ∙ nodes_in run t sought (sym g))
+effect_read_lem run t c sought check false kind q g k = ap (λ (x : Result (Option Found) Objection). effect_by c x (kind_found run x) (outcomes_for run.plan.outcomes (kind_found run x))) (nodes_out run t sought (sym g))

@@ -7,4 +7,4 @@ use Rattle.held_checks.proofs.all_but_nodes.Goals as goal
 pub returns : goal.returns
 unfolding run_of all_but_nodes progress_in_limits
 returns c =
-    rw (← c.window_in_limits-holds.ensures, ← c.halt_of-halt.ensures, ← c.progress_of-progress.ensures, ← c.progress_within-stands.ensures, ← c.numbers_in_limits-good.ensures) c.run_in_limits.ensures
+    rw (← c.window_in_limits-holds.ensures, ← c.halt_of-halt.ensures, ← c.from-progress.ensures, ← c.progress_within-stands.ensures, ← c.numbers_in_limits-good.ensures) c.run_in_limits.ensures

@@ -1,10 +1,11 @@
 -- The answer to a call and all of the run but its plan after it, before they are stored.
-use Rattle.std.specs.Prelude.{List, map, ℕ, ◌<◌, get_or, set}
+use Rattle.std.specs.Prelude.{List, map, ℕ, ◌<◌, get_or, set, Option, Result, Some, None}
 use Rattle.plan.specs.Plan.{past_node}
 use Rattle.times.specs.declared.Progress.{Progress}
+use Rattle.run_window.specs.declared.Found.{Found}
 use Rattle.run_window.specs.declared.Entry.{Entry}
-use Rattle.run_checks.specs.declared.Check.{Check}
-use Rattle.run_checks.specs.declared.Halt.{Halt}
+use Rattle.run_checks.specs.declared.Objection.{Objection}
+use Rattle.run_checks.specs.declared.Stop.{Stop}
 use Rattle.run_checks.specs.declared.Moment.{Moment}
 use Rattle.run.specs.declared.Reply.{Reply}
 use Rattle.run.specs.declared.Answer.{Answer}
@@ -32,17 +33,17 @@ abbrev pub stepped_of : Answer → Stepped
 stepped_of a = record { rest = rest_of a.run; reply = told_of a.reply }
 
 -- the same by the parts of the run after it; its reading is the last one
-abbrev pub stepped_by : Moment → List Entry → Progress → Halt → Reply → Stepped
+abbrev pub stepped_by : Moment → List Entry → Progress → Option Stop → Reply → Stepped
 stepped_by m window progress halt told = record { rest = rest_by m.psi m.slack m.t window progress halt; reply = told_of told }
 
 -- with the window as it is written
-abbrev pub stepped_with : Moment → List HeldEntry → Progress → Halt → Reply → Stepped
+abbrev pub stepped_with : Moment → List HeldEntry → Progress → Option Stop → Reply → Stepped
 stepped_with m window progress halt told = record { rest = rest_with m.psi m.slack m.t window progress halt; reply = told_of told }
 
 -- ---- what a call does
 
 -- from what the checks say; 50 where a node of the plan lies outside the limits
-abbrev pub effect_in : HeldPlan → Call → Check → Effect
+abbrev pub effect_in : HeldPlan → Call → Result (Option Found) Objection → Effect
 effect_in plan c check =
     effect_read c check (nodes_good (plan_of plan)) (get_or (plan_of plan).nodes (place_of (found_by check)) past_node).kind plan.outcomes
 
@@ -59,11 +60,11 @@ Carries rest (Effect.Learns i x e o) = ⊥
 abbrev pub carried_by : ℕ → HeldRest → Call → Effect → Stepped
 carried_by finals rest c (Effect.Stays told) = record { rest = rest; reply = told_of told }
 carried_by finals rest c (Effect.Stops s) =
-    stepped_by (moment_at rest c) (map entry_of rest.window) (progress_of rest.progress) (Halt.Stopped s) (Reply.Stopped s)
+    stepped_by (moment_at rest c) (map entry_of rest.window) (progress_of rest.progress) (Some s) (Reply.Stopped s)
 carried_by finals rest c Effect.Rests =
-    stepped_by (moment_at rest c) (map entry_of rest.window) (progress_of rest.progress) Halt.Going (rests_as finals rest.progress.state (map entry_of rest.window))
+    stepped_by (moment_at rest c) (map entry_of rest.window) (progress_of rest.progress) None (rests_as finals rest.progress.state (map entry_of rest.window))
 carried_by finals rest c (Effect.Stores i e told) =
-    stepped_by (moment_at rest c) (set (map entry_of rest.window) i e) (progress_of rest.progress) Halt.Going told
+    stepped_by (moment_at rest c) (set (map entry_of rest.window) i e) (progress_of rest.progress) None told
 carried_by finals rest c (Effect.Learns i x e o) = record { rest = rest; reply = told_of Reply.Taken }
 
 -- a call that is no outcome

@@ -2,10 +2,10 @@
 use Rattle.link.specs.Receive.{receive_of}
 use Rattle.link.proofs.receive.Goals as goal
 
-pub returns-in-Call : goal.returns-in-Call
+pub returns-in-Ok : goal.returns-in-Ok
 unfolding receive_of
-returns-in-Call c = rw (← c.read_call-read.ensures, c.in-Call.is) c.call.ensures
+returns-in-Ok c = rw (← c.read_call-read.ensures, c.in-Ok.is) c.call.ensures
 
-pub returns-in-Refused : goal.returns-in-Refused
+pub returns-in-Err : goal.returns-in-Err
 unfolding receive_of
-returns-in-Refused c = rw (← c.read_call-read.ensures, c.in-Refused.is) c.refused.ensures
+returns-in-Err c = rw (← c.read_call-read.ensures, c.in-Err.is) c.refused.ensures

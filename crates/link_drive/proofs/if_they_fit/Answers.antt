@@ -28,8 +28,8 @@ put_at-end-requires c =
     let r = room a.input.now a.head c.requires _ c.count_from-messages.ensures _ c.open-opened.ensures a.out.now _ c.fit.ensures (ap not c.if-not-fit.false) in
     omega (arith, r)
 
-pub answers_from-past-requires : goal.answers_from-past-requires
-answers_from-past-requires c =
+pub answers_from-requires : goal.answers_from-requires
+answers_from-requires c =
     let a = c.args in
     let p = c.put_at-end.ensures in
     let r = room a.input.now a.head c.requires _ c.count_from-messages.ensures _ c.open-opened.ensures a.out.now _ c.fit.ensures (ap not c.if-not-fit.false) in
@@ -38,4 +38,4 @@ answers_from-past-requires c =
 pub returns : goal.returns
 returns c =
     let a = c.args in
-    all_written a.input.now a.head c.requires _ c.count_from-messages.ensures _ c.open-opened.ensures a.out.now _ c.fit.ensures (ap not c.if-not-fit.false) _ c.opening_record-record.ensures c.put_at-end.ensures c.answers_from-past.ensures
+    all_written a.input.now a.head c.requires _ c.count_from-messages.ensures _ c.open-opened.ensures a.out.now _ c.fit.ensures (ap not c.if-not-fit.false) _ c.opening_record-record.ensures c.put_at-end.ensures c.answers_from.ensures

@@ -13,7 +13,7 @@ pub returns-then-not-good : goal.returns-then-not-good
 returns-then-not-good c = let a = c.args in unlisted (message_bytes a.m) a.good a.out.now (not-true a.good (ap not c.if-not-good.true))
 
 pub returns-then-length_of-out : goal.returns-then-length_of-out
-returns-then-length_of-out c = let a = c.args in wrote (message_bytes a.m) a.good a.out.now (not-false a.good (ap not c.if-not-good.false)) _ (c.length_of.ensures ∙ sym (bytes_length a.m)) (omega (arith, c.if-length_of-out.true)) _ _ c.put_message-end.ensures
+returns-then-length_of-out c = let a = c.args in wrote (message_bytes a.m) a.good a.out.now (not-false a.good (ap not c.if-not-good.false)) _ (c.length_of.ensures ∙ sym (bytes_length a.m)) (omega (arith, c.if-length_of-out.true)) _ _ c.put_message.ensures
 
 pub returns : goal.returns
 returns c = let a = c.args in too_short (message_bytes a.m) a.good a.out.now (not-false a.good (ap not c.if-not-good.false)) _ (c.length_of.ensures ∙ sym (bytes_length a.m)) (omega (arith, c.if-length_of-out.false))

@@ -1,28 +1,27 @@
 -- A field of one byte: each answer by the law of fields.
 use native.Mathlib.Omega.{arith}
 use mathlib.Core.Path.{sym, ◌∙◌}
-use Rattle.wire.proofs.Laws.Fields.{short, too_low, too_high, in_range}
-use Rattle.plan_fields.proofs.There.{byte_there, byte_short}
-use Rattle.plan.specs.declared.fields.Field.{Field}
-use Rattle.plan.specs.declared.Fault.{Fault}
+use Rattle.plan_fields.proofs.There.{there, ended, below_low, past_most, good}
 use Rattle.plan.specs.Fields.{byte_at}
+use Rattle.plan_fields.proofs.byte_in.Goals.{then-x-low-via-then-x-low, then-x-low-via-else-x-low+then-from-below}
 use Rattle.plan_fields.proofs.byte_in.Goals as goal
+
+pub returns-in_default : goal.returns-in_default
+unfolding byte_at
+returns-in_default c = rw c.at.ensures (ended 1 c.args.low c.args.below c.args.wrong c.args.bytes.now c.args.at (sym c.byte_at.ensures ∙ c.in_default.is))
 
 pub returns-then-x-low : goal.returns-then-x-low
 unfolding byte_at
-returns-then-x-low c = let p = byte_there c.args.bytes.now c.args.at _ (sym c.byte_at-f.ensures ∙ c.in-Value.is) in too_low Field.Value Field.Refused Fault.Ends 1 c.args.low c.args.below c.args.wrong c.args.bytes.now c.args.at _ p.is p.fits c.if-x-low.true
+returns-then-x-low c =
+    let e = sym c.byte_at.ensures ∙ c.in-Some.is in
+    elim c.then-x-low.branch [
+      | then-x-low-via-then-x-low w ↦ rw c.at-then-x-low.ensures (below_low 1 c.args.low c.args.below c.args.wrong c.args.bytes.now c.args.at _ e w.if-x-low.true)
+      | then-x-low-via-else-x-low+then-from-below w ↦ rw c.at-then-x-low.ensures (past_most 1 c.args.low c.args.below c.args.wrong c.args.bytes.now c.args.at _ e w.if-x-low.false (omega (arith, w.from.ensures, w.if-from-below.true)))
+    ]
 
 pub overflow_add-result : goal.overflow_add-result
-overflow_add-result c = let p = byte_there c.args.bytes.now c.args.at _ (sym c.byte_at-f.ensures ∙ c.in-Value.is) in omega (arith, p.fits)
+overflow_add-result c = let p = there 1 c.args.bytes.now c.args.at _ (sym c.byte_at.ensures ∙ c.in-Some.is) in omega (arith, p.fits)
 
-pub returns-then-u8_to_u16-below : goal.returns-then-u8_to_u16-below
+pub returns : goal.returns
 unfolding byte_at
-returns-then-u8_to_u16-below c = let p = byte_there c.args.bytes.now c.args.at _ (sym c.byte_at-f.ensures ∙ c.in-Value.is) in in_range Field.Value Field.Refused Fault.Ends 1 c.args.low c.args.below c.args.wrong c.args.bytes.now c.args.at _ p.is p.fits (omega arith) (omega arith)
-
-pub returns-in-Ends : goal.returns-in-Ends
-unfolding byte_at
-returns-in-Ends c = short Field.Value Field.Refused Fault.Ends 1 c.args.low c.args.below c.args.wrong c.args.bytes.now c.args.at (byte_short c.args.bytes.now c.args.at (sym c.byte_at-f.ensures ∙ c.in-Ends.is))
-
-pub returns-else-u8_to_u16-below : goal.returns-else-u8_to_u16-below
-unfolding byte_at
-returns-else-u8_to_u16-below c = let p = byte_there c.args.bytes.now c.args.at _ (sym c.byte_at-f.ensures ∙ c.in-Value.is) in too_high Field.Value Field.Refused Fault.Ends 1 c.args.low c.args.below c.args.wrong c.args.bytes.now c.args.at _ p.is p.fits (omega arith) (omega arith)
+returns c = good 1 c.args.low c.args.below c.args.wrong c.args.bytes.now c.args.at _ (sym c.byte_at.ensures ∙ c.in-Some.is) c.if-x-low.false (omega (arith, c.from.ensures, c.if-from-below.false))

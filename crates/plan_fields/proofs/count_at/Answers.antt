@@ -3,4 +3,4 @@ use mathlib.Core.Path.{◌∙◌}
 use Rattle.plan_fields.proofs.count_at.Goals as goal
 
 pub returns : goal.returns
-returns c = c.byte_in.ensures ∙ rw c.u8_to_u16.ensures
+returns c = c.byte_in.ensures ∙ rw c.from.ensures

@@ -8,6 +8,6 @@ pub returns-then-m-eq1 : goal.returns-then-m-eq1
 unfolding duration_at optional
 returns-then-m-eq1 c = rw (eq-eqb _ _ c.if-m-eq1.true) c.duration_in.ensures
 
-pub returns : goal.returns
+pub returns-else-m-eq1 : goal.returns-else-m-eq1
 unfolding duration_at optional
-returns c = rw (ne_eqb _ _ c.if-m-eq1.false)
+returns-else-m-eq1 c = rw (ne_eqb _ _ c.if-m-eq1.false)

@@ -1,23 +1,24 @@
 -- A duration that is present: each answer by the law of fields.
 use native.Mathlib.Omega.{arith}
 use mathlib.Core.Path.{sym, ◌∙◌}
-use Rattle.wire.proofs.Laws.Fields.{short, too_low, too_high, in_range}
-use Rattle.plan_fields.proofs.There.{long_there, long_short}
-use Rattle.plan.specs.declared.fields.DurationField.{DurationField}
+use Rattle.plan_fields.proofs.There.{there, ended, below_low, past_most, good}
 use Rattle.plan.specs.declared.Fault.{Fault}
+use Rattle.plan_fields.proofs.duration_in.Goals.{then-x-lt1-via-then-x-lt1, then-x-lt1-via-else-x-lt1+then-x-gt60000000}
 use Rattle.plan_fields.proofs.duration_in.Goals as goal
 
+pub returns-in_default : goal.returns-in_default
+returns-in_default c = rw c.at.ensures (ended 4 1 60000001 Fault.Duration c.args.bytes.now c.args.at (sym c.long_at.ensures ∙ c.in_default.is))
+
 pub returns-then-x-lt1 : goal.returns-then-x-lt1
-returns-then-x-lt1 c = let p = long_there c.args.bytes.now c.args.at _ (sym c.long_at-f.ensures ∙ c.in-Value.is) in too_low DurationField.Value DurationField.Refused Fault.Ends 4 1 60000001 Fault.Duration c.args.bytes.now c.args.at _ p.is p.fits (omega arith)
+returns-then-x-lt1 c =
+    let e = sym c.long_at.ensures ∙ c.in-Some.is in
+    elim c.then-x-lt1.branch [
+      | then-x-lt1-via-then-x-lt1 w ↦ rw c.at-then-x-lt1.ensures (below_low 4 1 60000001 Fault.Duration c.args.bytes.now c.args.at _ e (omega (arith, w.if-x-lt1.true)))
+      | then-x-lt1-via-else-x-lt1+then-x-gt60000000 w ↦ rw c.at-then-x-lt1.ensures (past_most 4 1 60000001 Fault.Duration c.args.bytes.now c.args.at _ e (omega (arith, w.if-x-lt1.false)) (omega (arith, w.if-x-gt60000000.true)))
+    ]
 
 pub overflow_add-result : goal.overflow_add-result
-overflow_add-result c = let p = long_there c.args.bytes.now c.args.at _ (sym c.long_at-f.ensures ∙ c.in-Value.is) in omega (arith, p.fits)
+overflow_add-result c = let p = there 4 c.args.bytes.now c.args.at _ (sym c.long_at.ensures ∙ c.in-Some.is) in omega (arith, p.fits)
 
-pub returns-then-x-le60000000 : goal.returns-then-x-le60000000
-returns-then-x-le60000000 c = let p = long_there c.args.bytes.now c.args.at _ (sym c.long_at-f.ensures ∙ c.in-Value.is) in in_range DurationField.Value DurationField.Refused Fault.Ends 4 1 60000001 Fault.Duration c.args.bytes.now c.args.at _ p.is p.fits (omega arith) (omega arith)
-
-pub returns-in-Ends : goal.returns-in-Ends
-returns-in-Ends c = short DurationField.Value DurationField.Refused Fault.Ends 4 1 60000001 Fault.Duration c.args.bytes.now c.args.at (long_short c.args.bytes.now c.args.at (sym c.long_at-f.ensures ∙ c.in-Ends.is))
-
-pub returns-else-x-le60000000 : goal.returns-else-x-le60000000
-returns-else-x-le60000000 c = let p = long_there c.args.bytes.now c.args.at _ (sym c.long_at-f.ensures ∙ c.in-Value.is) in too_high DurationField.Value DurationField.Refused Fault.Ends 4 1 60000001 Fault.Duration c.args.bytes.now c.args.at _ p.is p.fits (omega arith) (omega arith)
+pub returns : goal.returns
+returns c = good 4 1 60000001 Fault.Duration c.args.bytes.now c.args.at _ (sym c.long_at.ensures ∙ c.in-Some.is) (omega arith) (omega arith)

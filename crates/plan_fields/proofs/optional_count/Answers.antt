@@ -7,6 +7,6 @@ pub returns-then-stands : goal.returns-then-stands
 unfolding optional_count optional byte_at
 returns-then-stands c = rw c.if-stands.true c.count_at.ensures
 
-pub returns : goal.returns
+pub returns-else-stands : goal.returns-else-stands
 unfolding optional_count optional
-returns c = rw c.if-stands.false
+returns-else-stands c = rw c.if-stands.false

@@ -1,5 +1,5 @@
 -- The reader of crate plan gives the answers of the description: the plan, or its fault's number and place.
-use Rattle.std.specs.Prelude.{◌≡◌, Bool, cond, not, set, leb, ltb}
+use Rattle.std.specs.Prelude.{◌≡◌, Bool, cond, not, None, Result, Ok, Err, set, leb, ltb}
 use Rattle.std.proofs.Math.Path.{refl, ap}
 use Rattle.std.proofs.Common.{◌∙◌, add-one}
 use Rattle.std.proofs.Math.Bool.{true, false}
@@ -12,23 +12,25 @@ use Rattle.std.proofs.lemmas.List.Edits.{sets}
 use borrow.Author.Tests.{le-leb, lt-leb, le-ltb, lt-ltb}
 use Rattle.wire.specs.Number.{little}
 use Rattle.wire.specs.Number as wire
-use Rattle.format.specs.Format.{Rule, ◌when◌, Format, done, field, number, ◌>>=◌, part_of, optional, each, Found, good, fault, first, Answer, refused, on_found, parse}
+use Rattle.format.specs.Format.{Rule, ◌when◌, Format, done, field, number, ◌>>=◌, part_of, optional, each, Found, good, fault, first, Answer, read, refused, on_found, parse}
 use Rattle.format.specs.Writing.{Bytes}
 use Rattle.format.proofs.Laws.Format.{parse_assoc}
 use Rattle.format.proofs.Laws.Writing.{little_below}
 use Rattle.plan.specs.declared.Fault.{Fault}
 use Rattle.plan.specs.declared.Kind.{Kind}
 use Rattle.plan.specs.declared.Node.{Node}
-use Rattle.plan.specs.declared.fields.Field.{Field}
-use Rattle.plan.specs.declared.fields.Step.{Step}
-use Rattle.plan.specs.declared.fields.Asks.{Asks}
-use Rattle.plan.specs.declared.fields.KindRead.{KindRead}
-use Rattle.plan.specs.declared.fields.PredsRead.{PredsRead}
+use Rattle.plan.specs.declared.FaultAt.{FaultAt}
+use Rattle.plan.specs.declared.fields.Preds.{Preds}
 use Rattle.plan.specs.Fault.{number_of}
-use Rattle.plan.specs.Fields.{on_field, byte_at, any_at, name_at, count_at, optional_count, numbers_then}
-use Rattle.plan.specs.Nodes.{asks_by, kind_by, no_preds, preds_loop}
+use Rattle.plan.specs.Fields.{Read, found, faulty, and_then, byte_at, any_at, name_at, count_at, optional_count, numbers_then}
+use Rattle.plan.specs.Nodes.{asks_by, kind_by, preds_loop}
 use Rattle.plan_file.proofs.Laws.Basis.{three, four}
 use Rattle.plan_file.specs.PlanFile.{pred_rules, fault_order, outside, count, name, kind_stands, rising, kind}
+
+-- the answer of the description for what the reader answers
+abbrev pub told : {A : Type 0} → Read A → Answer A
+told (Ok x) = read x.0 x.1
+told (Err e) = refused (number_of e.fault) e.place
 
 -- `W` is what becomes of the answer at last: nothing for a part, the test for bytes left over for the whole
 module _ (b : List ℕ) (bytes : Bytes b) {A B : Type 0} (W : Answer A → Answer B) (still : (n p : ℕ) → W (refused n p) ≡ refused n p) where
@@ -85,27 +87,27 @@ module _ (b : List ℕ) (bytes : Bytes b) {A B : Type 0} (W : Answer A → Answe
     on_optional true at some fine = on_number at (λ x h. fine x (at + w) h)
     on_optional false at some fine = fine 0 at some
 
-  module _ (T : Field → Answer B) (bad : (f : Fault) (p : ℕ) → refused (number_of f) p ≡ T (Field.Refused f p)) {S : Type 0} where
+  module _ (T : Read ℕ → Answer B) (bad : (f : Fault) (p : ℕ) → refused (number_of f) p ≡ T (faulty f p)) {S : Type 0} where
     -- "a number that names nothing"
-    pub on_name : (many : ℕ) (get : S → ℕ) (rest : ℕ → Format S A) (at : ℕ) → ((x : ℕ) → x < many → at_place (rest x) (at + 1) ≡ T (Field.Value x (at + 1)))
+    pub on_name : (many : ℕ) (get : S → ℕ) (rest : ℕ → Format S A) (at : ℕ) → ((x : ℕ) → x < many → at_place (rest x) (at + 1) ≡ T (found x (at + 1)))
         → at_place (name many get >>= rest) at ≡ T (name_at many b at)
     unfolding byte_at
-    on_name many get rest at fine = on_number Field.Value Field.Refused T bad 4 Fault.Names refl four 1 0 many get rest at fine
+    on_name many get rest at fine = on_number found faulty T bad 4 Fault.Names refl four 1 0 many get rest at fine
 
     -- "a count outside its limits"
-    pub on_count_lem : (most : ℕ) (get : S → ℕ) (rest : ℕ → Format S A) (at : ℕ) → ((x : ℕ) → x < most + 1 → at_place (rest x) (at + 1) ≡ T (Field.Value x (at + 1)))
+    pub on_count_lem : (most : ℕ) (get : S → ℕ) (rest : ℕ → Format S A) (at : ℕ) → ((x : ℕ) → x < most + 1 → at_place (rest x) (at + 1) ≡ T (found x (at + 1)))
         → at_place (count most get >>= rest) at ≡ T (count_at most b at)
     unfolding byte_at
-    on_count_lem most get rest at fine = on_number Field.Value Field.Refused T bad 3 Fault.Count refl three 1 1 (most + 1) get rest at fine
+    on_count_lem most get rest at fine = on_number found faulty T bad 3 Fault.Count refl three 1 1 (most + 1) get rest at fine
 
-    pub on_optional_count : (most : ℕ) (get : S → ℕ) (rest : ℕ → Format S A) (stands : Bool) (at : ℕ) → ((x next : ℕ) → x < most + 1 → at_place (rest x) next ≡ T (Field.Value x next))
+    pub on_optional_count : (most : ℕ) (get : S → ℕ) (rest : ℕ → Format S A) (stands : Bool) (at : ℕ) → ((x next : ℕ) → x < most + 1 → at_place (rest x) next ≡ T (found x next))
         → at_place (optional stands 0 (count most get) >>= rest) at ≡ T (optional_count most stands b at)
     unfolding optional_count
-    on_optional_count most get rest stands at fine = on_optional Field.Value Field.Refused T bad 3 Fault.Count refl three 1 1 (most + 1) get rest stands at (omega arith) fine
+    on_optional_count most get rest stands at fine = on_optional found faulty T bad 3 Fault.Count refl three 1 1 (most + 1) get rest stands at (omega arith) fine
 
     -- any byte
     pub on_any : (get : S → ℕ) (rules : ℕ → List Rule) (rest : ℕ → Format S A) (at : ℕ)
-        → ((x : ℕ) → on_found (first fault_order (rules x)) (at_place (rest x) (at + 1)) (λ n. refused n at) ≡ T (Field.Value x (at + 1)))
+        → ((x : ℕ) → on_found (first fault_order (rules x)) (at_place (rest x) (at + 1)) (λ n. refused n at) ≡ T (found x (at + 1)))
         → at_place (field 1 get rules rest) at ≡ T (any_at b at)
     unfolding byte_at wire.number
     on_any get rules rest at fine =
@@ -116,40 +118,40 @@ module _ (b : List ℕ) (bytes : Bytes b) {A B : Type 0} (W : Answer A → Answe
         rw (le-leb (at + 1) (length b) h, le-leb 0 x (omega arith), lt-ltb x 256 (omega (arith, little_below b bytes 1 at))) (fine x))
 
   -- numbers in a row
-  module _ {S X : Type 0} (T : X → Answer B) (wrongly : Fault → ℕ → X) (bad : (f : Fault) (p : ℕ) → refused (number_of f) p ≡ T (wrongly f p))
+  module _ {S X : Type 0} (T : Result X FaultAt → Answer B) (bad : (f : Fault) (p : ℕ) → refused (number_of f) p ≡ T (faulty f p))
       (n : ℕ) (wrong : Fault) (is : n ≡ number_of wrong) (told : (t : Bool) → first fault_order (n when t) ≡ cond t (fault n) good)
-      (low below : ℕ) (get : ℕ → S → ℕ) (follow : ℕ → List ℕ → X) where
+      (low below : ℕ) (get : ℕ → S → ℕ) (follow : ℕ → List ℕ → Result X FaultAt) where
     pub on_numbers : (k at i : ℕ) (values : List ℕ) (rest : List ℕ → Format S A)
         → ((xs : List ℕ) (next : ℕ) → length xs ≡ k → at_place (rest xs) next ≡ T (follow next (sets values i xs)))
-        → at_place (each (λ j. number 1 (get j) (λ x. n when outside low below x)) i k >>= rest) at ≡ T (numbers_then wrongly low below wrong b follow k at i values)
+        → at_place (each (λ j. number 1 (get j) (λ x. n when outside low below x)) i k >>= rest) at ≡ T (numbers_then low below wrong b follow k at i values)
     unfolding numbers_then byte_at
     on_numbers zero at i values rest fine = fine [] at refl
     on_numbers (suc k) at i values rest fine =
-        on_number Field.Value Field.Refused (λ r. T (on_field r (λ x next. numbers_then wrongly low below wrong b follow k next (i + 1) (set values i x)) wrongly)) bad n wrong is told 1 low below
+        on_number found faulty (λ r. T (and_then r (λ x next. numbers_then low below wrong b follow k next (i + 1) (set values i x)))) bad n wrong is told 1 low below
         (get i) (λ x. (each (λ j. number 1 (get j) (λ x. n when outside low below x)) (i + 1) k >>= λ more. done (x ∷ more)) >>= rest) at
         (λ x h.
         ap W (parse_assoc 1 fault_order b (each (λ j. number 1 (get j) (λ x. n when outside low below x)) (i + 1) k) (λ more. done (x ∷ more)) rest (at + 1))
         ∙ on_numbers k (at + 1) (i + 1) (set values i x) (λ more. rest (x ∷ more)) (λ xs next e. rw (add-one i) (fine (x ∷ xs) next (ap suc e))))
 
   -- a kind, by bits 0 to 4 of the map and whether it is below 64
-  module _ (peripherals resources events : ℕ) (after : Kind → Format Node A) (T : KindRead → Answer B)
-      (bad : (f : Fault) (p : ℕ) → refused (number_of f) p ≡ T (KindRead.Refused f p)) (fine : (k : Kind) (end : ℕ) → at_place (after k) end ≡ T (KindRead.Value k end)) where
+  module _ (peripherals resources events : ℕ) (after : Kind → Format Node A) (T : Read Kind → Answer B)
+      (bad : (f : Fault) (p : ℕ) → refused (number_of f) p ≡ T (faulty f p)) (fine : (k : Kind) (end : ℕ) → at_place (after k) end ≡ T (found k end)) where
     pub on_kind_lem : (small action claim release event long : Bool) (at next : ℕ)
         → on_found (first fault_order (2 when not (cond small (kind_stands action claim release event long) false)))
         (at_place (part_of (λ n. n.kind) (kind peripherals resources events action claim release) >>= after) next) (λ n. refused n at)
-        ≡ T (kind_by (cond small (asks_by action claim release event long) Asks.Nothing) peripherals resources events b at next)
+        ≡ T (kind_by (cond small (asks_by action claim release event long) None) peripherals resources events b at next)
     unfolding kind_by
     on_kind_lem false s t u v w at next = bad Fault.Map at
     on_kind_lem true true false false false w at next =
-        on_any (λ r. T (on_field r (λ a mid. on_field (name_at peripherals b mid) (λ x end. KindRead.Value (Kind.Action a x) end) KindRead.Refused) KindRead.Refused))
+        on_any (λ r. T (and_then r (λ a mid. and_then (name_at peripherals b mid) (λ x end. found (Kind.Action a x) end))))
         bad _ _ _ next
-        (λ a. on_name (λ r. T (on_field r (λ x end. KindRead.Value (Kind.Action a x) end) KindRead.Refused)) bad peripherals _ _ (next + 1) (λ x h. fine (Kind.Action a x) (next + 1 + 1)))
+        (λ a. on_name (λ r. T (and_then r (λ x end. found (Kind.Action a x) end))) bad peripherals _ _ (next + 1) (λ x h. fine (Kind.Action a x) (next + 1 + 1)))
     on_kind_lem true false false false true w at next =
-        on_name (λ r. T (on_field r (λ e end. KindRead.Value (Kind.Event e) end) KindRead.Refused)) bad events _ _ next (λ e h. fine (Kind.Event e) (next + 1))
+        on_name (λ r. T (and_then r (λ e end. found (Kind.Event e) end))) bad events _ _ next (λ e h. fine (Kind.Event e) (next + 1))
     on_kind_lem true false true false false false at next =
-        on_name (λ r. T (on_field r (λ e end. KindRead.Value (Kind.Claim e) end) KindRead.Refused)) bad resources _ _ next (λ e h. fine (Kind.Claim e) (next + 1))
+        on_name (λ r. T (and_then r (λ e end. found (Kind.Claim e) end))) bad resources _ _ next (λ e h. fine (Kind.Claim e) (next + 1))
     on_kind_lem true false false true false false at next =
-        on_name (λ r. T (on_field r (λ e end. KindRead.Value (Kind.Release e) end) KindRead.Refused)) bad resources _ _ next (λ e h. fine (Kind.Release e) (next + 1))
+        on_name (λ r. T (and_then r (λ e end. found (Kind.Release e) end))) bad resources _ _ next (λ e h. fine (Kind.Release e) (next + 1))
     on_kind_lem true false false false false w at next = bad Fault.Map at
     on_kind_lem true false true false false true at next = bad Fault.Map at
     on_kind_lem true false false true false true at next = bad Fault.Map at
@@ -161,9 +163,9 @@ module _ (b : List ℕ) (bytes : Bytes b) {A B : Type 0} (W : Answer A → Answe
     on_kind_lem true true true u v w at next = bad Fault.Map at
 
   -- the predecessors
-  pub on_rising : (size c : ℕ) (T : PredsRead → Answer B) → ((f : Fault) (p : ℕ) → refused (number_of f) p ≡ T (no_preds f p))
+  pub on_rising : (size c : ℕ) (T : Read Preds → Answer B) → ((f : Fault) (p : ℕ) → refused (number_of f) p ≡ T (faulty f p))
       → (k i low : ℕ) (before : List ℕ) (rest : List ℕ → Format Node A) (at : ℕ)
-      → ((xs : List ℕ) (next : ℕ) → at_place (rest xs) next ≡ T (record { step = Step.Read next; count = c; preds = sets before i xs }))
+      → ((xs : List ℕ) (next : ℕ) → at_place (rest xs) next ≡ T (found (record { count = c; preds = sets before i xs }) next))
       → at_place (rising size i low k >>= rest) at ≡ T (preds_loop size b c k at i low before)
   unfolding preds_loop byte_at wire.number
   on_rising size c T bad zero i low before rest at fine = fine [] at

@@ -5,6 +5,7 @@ use Prim.Native.Nat.{ℕ, ◌<◌}
 use mathlib.Core.Bool.{Bool, true, false}
 use Rattle.plan_nodes.proofs.Below.{either, or, all, all-at}
 use Rattle.plan.specs.declared.fields.Asks.{Asks}
+use Rattle.std.specs.Prelude.{Option, Some, None}
 use mathlib.Core.Logic.{◌⊎◌, ⊎_elim}
 use borrow.Author.Tests.{le-ltb, eqb-true}
 use Rattle.plan.specs.Nodes.{asks_of}
@@ -16,19 +17,19 @@ Key m =
     ((m ≡ 1) ⊎ ((m ≡ 17) ⊎ ((m ≡ 33) ⊎ (m ≡ 49))))
     ⊎ (((m ≡ 2) ⊎ (m ≡ 34)) ⊎ (((m ≡ 4) ⊎ (m ≡ 36)) ⊎ ((m ≡ 8) ⊎ ((m ≡ 24) ⊎ ((m ≡ 40) ⊎ (m ≡ 56))))))
 
-abbrev nothing : Asks → Bool
-nothing Asks.Action = false
-nothing Asks.Claim = false
-nothing Asks.Release = false
-nothing Asks.Event = false
-nothing Asks.Nothing = true
+abbrev nothing : Option Asks → Bool
+nothing (Some Asks.Action) = false
+nothing (Some Asks.Claim) = false
+nothing (Some Asks.Release) = false
+nothing (Some Asks.Event) = false
+nothing None = true
 
-nothing_is : (a : Asks) → nothing a ≡ true → a ≡ Asks.Nothing
-nothing_is Asks.Action t = cc
-nothing_is Asks.Claim t = cc
-nothing_is Asks.Release t = cc
-nothing_is Asks.Event t = cc
-nothing_is Asks.Nothing t = refl
+nothing_is : (a : Option Asks) → nothing a ≡ true → a ≡ None
+nothing_is (Some Asks.Action) t = cc
+nothing_is (Some Asks.Claim) t = cc
+nothing_is (Some Asks.Release) t = cc
+nothing_is (Some Asks.Event) t = cc
+nothing_is None t = refl
 
 key : ℕ → Bool
 key m =
@@ -50,7 +51,7 @@ checked : all right 64 ≡ true
 unfolding right key asks_of
 checked = refl
 
-rest : (m : ℕ) → m < 64 → (Key m → ⊥) → asks_of m ≡ Asks.Nothing
+rest : (m : ℕ) → m < 64 → (Key m → ⊥) → asks_of m ≡ None
 unfolding right
 rest m h no_key =
     ⊎_elim (λ k. absurd (no_key k)) (λ e. e)
@@ -74,8 +75,8 @@ returns-in-8 c = ⊎_elim (λ e. rw e) (⊎_elim (λ e. rw e) (⊎_elim (λ e. r
 
 pub returns-in_default : goal.returns-in_default
 returns-in_default c = let r = c.in_default.in_default-own.rest in
-    sym (rest c.args.m c.in_default.if-map-lt64-own.true (⊎_elim r.0.0.0.1 (⊎_elim r.0.0.1 (⊎_elim r.0.1 r.1))))
+    sym (rest c.args.m c.in_default.if-m-lt64-own.true (⊎_elim r.0.0.0.1 (⊎_elim r.0.0.1 (⊎_elim r.0.1 r.1))))
 
 pub returns-in-64-to-255 : goal.returns-in-64-to-255
 unfolding asks_of
-returns-in-64-to-255 c = rw (le-ltb _ _ c.in-64-to-255.if-map-lt64-own.false)
+returns-in-64-to-255 c = rw (le-ltb _ _ c.in-64-to-255.if-m-lt64-own.false)

@@ -6,8 +6,5 @@ use Rattle.plan.specs.Nodes.{preds_loop}
 use Rattle.plan_nodes.proofs.preds_loop.Given as goal
 
 abbrev pub invariant-loop-i : goal.invariant-loop-i
-invariant-loop-i l = (l.i ≤ l.n) × (l.n ≡ l.count) × (l.count ≤ 8) × (length l.preds ≡ 8)
+invariant-loop-i l = (l.i ≤ l.count) × (l.count ≤ 8) × (length l.preds ≡ 8)
     × (preds_loop l.size l.bytes l.count l.count l.at 0 0 (replicate 8 0) ≡ preds_loop l.size l.bytes l.count (l.count - l.i) l.off l.i l.low l.preds)
-
-abbrev pub decreases-loop-i : goal.decreases-loop-i
-decreases-loop-i l = l.n - l.i

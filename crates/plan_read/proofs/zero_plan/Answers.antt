@@ -2,4 +2,4 @@
 use Rattle.plan_read.proofs.zero_plan.Goals as goal
 
 pub returns : goal.returns
-returns c = rw (c.zero_node-z.ensures, c.zero_automaton-automaton.ensures)
+returns c = rw c.zero_automaton.ensures

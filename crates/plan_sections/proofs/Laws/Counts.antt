@@ -1,38 +1,41 @@
 -- No answer of the section of events counts more than 16 of them.
-use Rattle.std.specs.Prelude.{◌≡◌, refl, List, set, replicate}
+use Rattle.std.specs.Prelude.{◌≡◌, refl, List, Result, Ok, Err, set, replicate}
 use Prim.Native.Nat.{ℕ, zero, suc, ◌+◌, ◌≤◌}
-use Rattle.std.proofs.Common.{arith}
+use Rattle.std.proofs.Common.{subst}
 use Rattle.wire.specs.Map.{bit}
-use Rattle.plan.specs.Fields.{on_field, byte_at, optional_count, numbers_then}
-use Rattle.plan.specs.Sections.{no_events, outcomes_at, events_at}
+use Rattle.plan.specs.Fields.{Read, found, and_then, byte_at, optional_count, numbers_then}
+use Rattle.plan.specs.Sections.{outcomes_at, events_at}
 use Rattle.plan.specs.declared.Fault.{Fault}
-use Rattle.plan.specs.declared.fields.Field.{Field}
-use Rattle.plan.specs.declared.fields.Step.{Step}
-use Rattle.plan.specs.declared.fields.EventsRead.{EventsRead}
+use Rattle.plan.specs.declared.FaultAt.{FaultAt}
+use Rattle.plan.specs.declared.fields.Events.{Events}
 use Rattle.plan_fields.proofs.Laws.Read.{count_most}
 
 -- what holds of each answer holds of the loop over numbers of one byte
-module _ {A : Type 0} (P : A → Type 0) (refused : Fault → ℕ → A) (low below : ℕ) (wrong : Fault) (b : List ℕ) (follow : ℕ → List ℕ → A) (good : (at : ℕ) (values : List ℕ) → P (follow at values)) (bad : (f : Fault) (p : ℕ) → P (refused f p)) where
-  on_one : (r : Field) (g : ℕ → ℕ → A) → ((x next : ℕ) → P (g x next)) → P (on_field r g refused)
-  on_one (Field.Value x next) g h = h x next
-  on_one (Field.Refused f p) g h = bad f p
+module _ {A : Type 0} (P : Result A FaultAt → Type 0) (low below : ℕ) (wrong : Fault) (b : List ℕ) (follow : ℕ → List ℕ → Result A FaultAt) (good : (at : ℕ) (values : List ℕ) → P (follow at values)) (bad : (e : FaultAt) → P (Err e)) where
+  on_one : (r : Read ℕ) (g : ℕ → ℕ → Result A FaultAt) → ((x next : ℕ) → P (g x next)) → P (and_then r g)
+  on_one (Ok x) g h = h x.0 x.1
+  on_one (Err e) g h = bad e
 
-  pub on_numbers : (k at i : ℕ) (values : List ℕ) → P (numbers_then refused low below wrong b follow k at i values)
+  pub on_numbers : (k at i : ℕ) (values : List ℕ) → P (numbers_then low below wrong b follow k at i values)
   unfolding numbers_then
   on_numbers zero at i values = good at values
   on_numbers (suc k) at i values =
-      on_one (byte_at low below wrong b at) (λ x next. numbers_then refused low below wrong b follow k next (i + 1) (set values i x))
+      on_one (byte_at low below wrong b at) (λ x next. numbers_then low below wrong b follow k next (i + 1) (set values i x))
       (λ x next. on_numbers k next (i + 1) (set values i x))
 
-abbrev Few : EventsRead → Type 0
-Few r = r.count ≤ 16
+abbrev Few : Read Events → Type 0
+Few (Ok x) = x.0.count ≤ 16
+Few (Err e) = Unit {0}
 
-pub events_most : (m : ℕ) (b : List ℕ) (at : ℕ) → (events_at m b at).count ≤ 16
+few : (m : ℕ) (b : List ℕ) (at : ℕ) → Few (events_at m b at)
 unfolding events_at outcomes_at
-events_most m b at = go (optional_count 16 (bit 2 m) b at) refl
+few m b at = go (optional_count 16 (bit 2 m) b at) refl
   where
-    go : (r : Field) → optional_count 16 (bit 2 m) b at ≡ r → (on_field r (λ count next. outcomes_at count b next) no_events).count ≤ 16
-    go (Field.Value count next) e =
-        let h = count_most 16 (bit 2 m) b at count next e in
-        on_numbers Few no_events 1 9 Fault.Count b (λ after outcomes. record { step = Step.Read after; count = count; outcomes = outcomes }) (λ k l. h) (λ f p. omega arith) count next 0 (replicate 16 0)
-    go (Field.Refused f p) e = omega arith
+    go : (r : Read ℕ) → optional_count 16 (bit 2 m) b at ≡ r → Few (and_then r (λ count next. outcomes_at count b next))
+    go (Ok x) e =
+        let h = count_most 16 (bit 2 m) b at x.0 x.1 e in
+        on_numbers Few 1 9 Fault.Count b (λ after outcomes. found (record { count = x.0; outcomes = outcomes }) after) (λ k l. h) (λ e. tt) x.0 x.1 0 (replicate 16 0)
+    go (Err e) is = tt
+
+pub events_most : (m : ℕ) (b : List ℕ) (at : ℕ) (x : Events) (next : ℕ) → events_at m b at ≡ Ok (x, next) → x.count ≤ 16
+events_most m b at x next e = subst Few e (few m b at)

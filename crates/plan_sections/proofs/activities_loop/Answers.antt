@@ -1,58 +1,50 @@
+-- Each turn answers as the definition does of what is left.
 use native.Mathlib.Omega.{arith}
-use mathlib.Core.Path.{sym, ◌∙◌}
-use lib.ListN.{length-set}
 use native.Mathlib.Nat.{sub-zero}
-use Rattle.plan_sections.proofs.Loops.{turned}
-use Rattle.plan.specs.Sections.{nodes_then}
+use mathlib.Core.Path.{sym, ap, ◌∙◌}
+use Prim.Native.Nat.{ℕ}
+use Rattle.plan.specs.Fields.{found}
+use Rattle.plan.specs.declared.fields.Activities.{Activities}
+use lib.ListN.{length-set}
+use Rattle.std.proofs.lemmas.Result.{err_from_is_err_and}
+use Rattle.plan_fields.proofs.Laws.Read.{byte_most}
+use Rattle.plan_sections.proofs.Loops.{activities_done, activities_refused, activities_stopped, activities_next}
 use borrow.Author.Rules.{rules}
 use Rattle.plan_sections.proofs.activities_loop.Goals as goal
 
-pub loop-f-init : goal.loop-f-init
-unfolding nodes_then
-loop-f-init c = (search rules, search rules, search rules, search rules, search rules, search rules, rw (c.zero_node-z.ensures, sub-zero))
+pub loop-a-init : goal.loop-a-init
+loop-a-init c = (search rules, search rules, search rules, search rules, search rules, rw sub-zero)
 
-pub returns-in-Refused : goal.returns-in-Refused
-returns-in-Refused c = c.no_activities.ensures ∙ turned c.args.peripherals c.args.resources c.args.events c.args.bytes.now c.args.count c.loop-f.a c.loop-f.sizes c.loop-f.size c.loop-f.left c.loop-f.off c.loop-f.i c.loop-f.all _ c.part_at-r.ensures _ c.in-Refused.is ∙ sym c.loop-f.invariant.6
+pub returns-in_err-size : goal.returns-in_err-size
+returns-in_err-size c =
+    let p = err_from_is_err_and c.from_residual.result c.from_residual.ensures.1 in
+    let n = c.args.named in
+    rw (p.1, p.2) (activities_refused n.peripherals n.resources n.events c.args.bytes.now c.args.count c.loop-a.a c.loop-a.off c.loop-a.read.sizes c.loop-a.read.nodes (omega arith) _ (sym c.count_at.ensures ∙ c.in_err-size.was) ∙ sym c.loop-a.invariant.5)
 
-pub returns-in-End : goal.returns-in-End
-returns-in-End c = c.all_activities.ensures ∙ turned c.args.peripherals c.args.resources c.args.events c.args.bytes.now c.args.count c.loop-f.a c.loop-f.sizes c.loop-f.size c.loop-f.left c.loop-f.off c.loop-f.i c.loop-f.all _ c.part_at-r.ensures _ c.in-End.is ∙ sym c.loop-f.invariant.6
+pub nodes_from-requires : goal.nodes_from-requires
+nodes_from-requires c = let m = byte_most 1 65 _ _ _ _ _ (sym c.count_at.ensures ∙ c.in_ok-size.was) in (omega arith, search rules)
 
-pub bounds-all-i : goal.bounds-all-i
-bounds-all-i c = let t = (turned c.args.peripherals c.args.resources c.args.events c.args.bytes.now c.args.count c.loop-f.a c.loop-f.sizes c.loop-f.size c.loop-f.left c.loop-f.off c.loop-f.i c.loop-f.all _ c.part_at-r.ensures _ c.in-Node.is).0 in omega arith
+pub returns-in_err-off : goal.returns-in_err-off
+returns-in_err-off c =
+    let p = err_from_is_err_and c.from_residual-in_err-off.result c.from_residual-in_err-off.ensures.1 in
+    let n = c.args.named in
+    rw (p.1, p.2) (activities_stopped n.peripherals n.resources n.events c.args.bytes.now c.args.count c.loop-a.a c.loop-a.off c.loop-a.read.sizes c.loop-a.read.nodes (omega arith) _ _ (sym c.count_at.ensures ∙ c.in_ok-size.was) _ _ c.nodes_from.ensures.0 _ c.in_err-off.was ∙ sym c.loop-a.invariant.5)
 
-pub overflow_sub-left : goal.overflow_sub-left
-overflow_sub-left c = let t = (turned c.args.peripherals c.args.resources c.args.events c.args.bytes.now c.args.count c.loop-f.a c.loop-f.sizes c.loop-f.size c.loop-f.left c.loop-f.off c.loop-f.i c.loop-f.all _ c.part_at-r.ensures _ c.in-Node.is).0 in omega arith
+pub loop-a-preserved : goal.loop-a-preserved
+loop-a-preserved c =
+    let n = c.args.named in (
+      omega arith,
+      search rules,
+      search rules,
+      simp length-set c.loop-a.invariant.3,
+      c.nodes_from.ensures.1,
+      c.loop-a.invariant.5 ∙ activities_next n.peripherals n.resources n.events c.args.bytes.now c.args.count c.loop-a.a c.loop-a.off c.loop-a.read.sizes c.loop-a.read.nodes (omega arith) _ _ (sym c.count_at.ensures ∙ c.in_ok-size.was) _ _ c.nodes_from.ensures.0 _ c.in_ok-off.was,
+    )
 
-pub loop-f-smaller-in-Node : goal.loop-f-smaller-in-Node
-loop-f-smaller-in-Node c = let t = (turned c.args.peripherals c.args.resources c.args.events c.args.bytes.now c.args.count c.loop-f.a c.loop-f.sizes c.loop-f.size c.loop-f.left c.loop-f.off c.loop-f.i c.loop-f.all _ c.part_at-r.ensures _ c.in-Node.is).0 in omega arith
-
-pub loop-f-preserved-in-Node : goal.loop-f-preserved-in-Node
-loop-f-preserved-in-Node c = let t = turned c.args.peripherals c.args.resources c.args.events c.args.bytes.now c.args.count c.loop-f.a c.loop-f.sizes c.loop-f.size c.loop-f.left c.loop-f.off c.loop-f.i c.loop-f.all _ c.part_at-r.ensures _ c.in-Node.is in (
-  search rules,
-  search rules,
-  omega arith,
-  omega (arith, t.0),
-  search rules,
-  simp length-set c.loop-f.invariant.5,
-  c.loop-f.invariant.6 ∙ t.1,
-)
-
-pub bounds-sizes-w : goal.bounds-sizes-w
-bounds-sizes-w c = let t = turned c.args.peripherals c.args.resources c.args.events c.args.bytes.now c.args.count c.loop-f.a c.loop-f.sizes c.loop-f.size c.loop-f.left c.loop-f.off c.loop-f.i c.loop-f.all _ c.part_at-r.ensures _ c.in-Activity.is in omega (arith, t.0, t.1, t.2)
-
-pub overflow_add-a : goal.overflow_add-a
-overflow_add-a c = let t = turned c.args.peripherals c.args.resources c.args.events c.args.bytes.now c.args.count c.loop-f.a c.loop-f.sizes c.loop-f.size c.loop-f.left c.loop-f.off c.loop-f.i c.loop-f.all _ c.part_at-r.ensures _ c.in-Activity.is in omega (arith, t.0, t.1, t.2)
-
-pub loop-f-smaller : goal.loop-f-smaller
-loop-f-smaller c = let t = turned c.args.peripherals c.args.resources c.args.events c.args.bytes.now c.args.count c.loop-f.a c.loop-f.sizes c.loop-f.size c.loop-f.left c.loop-f.off c.loop-f.i c.loop-f.all _ c.part_at-r.ensures _ c.in-Activity.is in omega (arith, t.0, t.1, t.2)
-
-pub loop-f-preserved : goal.loop-f-preserved
-loop-f-preserved c = let t = turned c.args.peripherals c.args.resources c.args.events c.args.bytes.now c.args.count c.loop-f.a c.loop-f.sizes c.loop-f.size c.loop-f.left c.loop-f.off c.loop-f.i c.loop-f.all _ c.part_at-r.ensures _ c.in-Activity.is in (
-  omega (arith, t.1),
-  search rules,
-  omega (arith, t.2),
-  omega (arith, t.2),
-  simp length-set c.loop-f.invariant.4,
-  search rules,
-  c.loop-f.invariant.6 ∙ t.3,
-)
+pub returns : goal.returns
+returns c =
+    let n = c.args.named in
+    let r = c.loop-a.read in
+    ap (λ (k : ℕ). found {A = Activities} (record { count = k; sizes = r.sizes; nodes = r.nodes }) c.loop-a.off) c.loop-a.invariant.2
+    ∙ activities_done n.peripherals n.resources n.events c.args.bytes.now c.args.count c.loop-a.a c.loop-a.off r.sizes r.nodes (omega arith)
+    ∙ sym c.loop-a.invariant.5

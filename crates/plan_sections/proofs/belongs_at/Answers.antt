@@ -1,29 +1,15 @@
-use native.Mathlib.Omega.{arith}
+-- The numbers, each a resource.
+use lib.ListN.{replicate}
 use mathlib.Core.Path.{sym, ◌∙◌}
+use Rattle.plan.specs.Fields.{found}
+use Rattle.plan.specs.Sections.{belongs_at}
 use Rattle.plan.specs.declared.Fault.{Fault}
-use Rattle.plan.specs.declared.fields.Step.{Step}
-use lib.ListN.{length-set}
-use native.Mathlib.Nat.{sub-zero}
-use Rattle.plan_sections.proofs.Loops.{numbers_done, numbers_refused, numbers_next}
-use Rattle.plan.specs.Sections.{belongs_at, no_peripherals}
-use borrow.Author.Rules.{rules}
+use Rattle.plan.specs.declared.fields.Peripherals.{Peripherals}
+use Rattle.plan_sections.proofs.Loops.{numbers_named}
 use Rattle.plan_sections.proofs.belongs_at.Goals as goal
 
-pub loop-i-init : goal.loop-i-init
-unfolding belongs_at
-loop-i-init c = (search rules, search rules, search rules, search rules, rw sub-zero)
-
-pub returns-in-Refused : goal.returns-in-Refused
-returns-in-Refused c = c.no_peripherals.ensures ∙ numbers_refused no_peripherals 0 c.args.resources Fault.Names c.args.bytes.now _ c.args.count c.loop-i.i c.loop-i.off c.loop-i.belongs (omega arith) _ _ (sym c.name_at-f.ensures ∙ c.in-Refused.is) ∙ sym c.loop-i.invariant.4
-
-pub loop-i-preserved : goal.loop-i-preserved
-loop-i-preserved c = (
-  omega arith,
-  search rules,
-  search rules,
-  simp length-set c.loop-i.invariant.3,
-  c.loop-i.invariant.4 ∙ numbers_next no_peripherals 0 c.args.resources Fault.Names c.args.bytes.now _ c.args.count c.loop-i.i c.loop-i.off c.loop-i.belongs (omega arith) _ _ (sym c.name_at-f.ensures ∙ c.in-Value.is),
-)
-
 pub returns : goal.returns
-returns c = numbers_done no_peripherals 0 c.args.resources Fault.Names c.args.bytes.now (λ next belongs. record { step = Step.Read next; count = c.args.count; belongs = belongs }) c.args.count c.loop-i.i c.loop-i.off c.loop-i.belongs (omega arith) ∙ sym c.loop-i.invariant.4
+unfolding belongs_at
+returns c =
+    let e = sym c.numbers.ensures ∙ c.in_ok-belongs.was in
+    rw (numbers_named 0 c.args.resources Fault.Names c.args.bytes.now (λ next belongs. found {A = Peripherals} (record { count = c.args.count; belongs = belongs }) next) c.args.count c.args.at 0 (replicate 64 0), ← c.from.ensures, e)

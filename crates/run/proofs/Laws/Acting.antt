@@ -1,5 +1,5 @@
 -- What a call does to a run gives the answer that is defined; the places, the event and the outcome that it names are the run's.
-use Rattle.std.specs.Prelude.{◌≡◌, refl, Bool, true, false, cond, List, ℕ, ◌<◌, ltb, length, set}
+use Rattle.std.specs.Prelude.{◌≡◌, refl, Bool, true, false, cond, List, ℕ, ◌<◌, ltb, length, set, Option, Some, None, Result, Ok, Err}
 use Rattle.std.proofs.Common.{sym, ◌∙◌, subst, arith, ltb-true}
 use Rattle.std.proofs.Math.Path.{ap}
 use Rattle.basis.proofs.Laws.Bools.{by_test}
@@ -11,15 +11,13 @@ use Rattle.plan.specs.declared.Node.{Node}
 use Rattle.run_window.specs.declared.Entry.{Entry}
 use Rattle.run_window.specs.declared.Found.{Found}
 use Rattle.run_window.specs.declared.Sought.{Sought}
-use Rattle.run_window.specs.Window.{vacant, is_started, started_of, on_found}
+use Rattle.run_window.specs.Window.{vacant, is_started, started_of, on_found, found_at}
 use Rattle.run_window.specs.Places.{Holds}
 use Rattle.run_window.specs.Inner.Search.{is_sought, sooner, first_of, SoughtInTime}
 use Rattle.run_window.proofs.Laws.Sought.{sought_held, sought_order}
 use Rattle.run_window.proofs.Laws.Firsts.{first_found}
-use Rattle.run_checks.specs.declared.Halt.{Halt}
 use Rattle.run_checks.specs.declared.Refusal.{Refusal}
 use Rattle.run_checks.specs.declared.Objection.{Objection}
-use Rattle.run_checks.specs.declared.Check.{Check}
 use Rattle.run_checks.specs.Order.{reported_by}
 use Rattle.run.specs.declared.Run.{Run}
 use Rattle.run.specs.declared.Reply.{Reply}
@@ -44,18 +42,18 @@ module _ (run : Run) (t : Clock) where
   acted_objection (Objection.Keeps s) = refl
   acted_objection (Objection.Stops s) = refl
 
-  acted_ask : (found : Found)
+  acted_ask : (found : Option Found)
       → acted run t (starts_by found)
-      ≡ on_found found (λ i e. answer (Reply.Start e.position e.activity e.node) (heard run t Halt.Going run.progress (set run.window i (started_of e))))
-      (answer (cond (is_done run) Reply.Done Reply.Wait) (heard run t Halt.Going run.progress run.window))
-  acted_ask Found.Nothing = refl
-  acted_ask (Found.At i e) = refl
+      ≡ on_found found (λ i e. answer (Reply.Start e.position e.activity e.node) (heard run t None run.progress (set run.window i (started_of e))))
+      (answer (cond (is_done run) Reply.Done Reply.Wait) (heard run t None run.progress run.window))
+  acted_ask None = refl
+  acted_ask (Some x) = refl
 
   -- a report, where what it does to the node that it names is known
   module _ (f : ℕ → Entry → Effect) (g : ℕ → Entry → Answer) where
-    acted_report : (found : Found) → ((i : ℕ) (e : Entry) → found ≡ Found.At i e → acted run t (f i e) ≡ g i e) → acted run t (reported_by found f refusing) ≡ reported_by found g (refuse run)
-    acted_report Found.Nothing h = refl
-    acted_report (Found.At i e) h = acted_cond (is_started e.phase) (f i e) (refusing Refusal.NotStarted) ∙ ap (λ (a : Answer). cond (is_started e.phase) a (refuse run Refusal.NotStarted)) (h i e refl)
+    acted_report : (found : Option Found) → ((i : ℕ) (e : Entry) → found ≡ found_at i e → acted run t (f i e) ≡ g i e) → acted run t (reported_by found f refusing) ≡ reported_by found g (refuse run)
+    acted_report None h = refl
+    acted_report (Some x) h = acted_cond (is_started x.entry.phase) (f x.place x.entry) (refusing Refusal.NotStarted) ∙ ap (λ (a : Answer). cond (is_started x.entry.phase) a (refuse run Refusal.NotStarted)) (h x.place x.entry refl)
 
   acted_completes : (i : ℕ) (k : Kind) → acted run t (completes_by i k) ≡ completed_by run t i k
   acted_completes i (Kind.Action a x) = refl
@@ -88,50 +86,50 @@ call_checked run (Call.Completion t p n) = refl
 call_checked run (Call.Outcome t p n o) = refl
 
 module _ (run : Run) where
-  abbrev kind_at : Found → Kind
-  kind_at found = kind_found run (Check.Goes found)
+  abbrev kind_at : Option Found → Kind
+  kind_at found = kind_found run (Ok found)
 
-  acted_call : (c : Call) (found : Found) → found ≡ first_of run.plan.nodes (sought_by run.psi c) run.window
+  acted_call : (c : Call) (found : Option Found) → found ≡ first_of run.plan.nodes (sought_by run.psi c) run.window
       → acted run (reading_of c) (effect_on c found (kind_at found) (outcomes_for run.plan.outcomes (kind_at found))) ≡ answer_of run c
   unfolding asked completed learns
   acted_call (Call.Ask t) found q =
       acted_ask run t found
-      ∙ ap (λ (f : Found). on_found f (λ i e. answer (Reply.Start e.position e.activity e.node) (heard run t Halt.Going run.progress (set run.window i (started_of e)))) (answer (cond (is_done run) Reply.Done Reply.Wait) (heard run t Halt.Going run.progress run.window))) q
+      ∙ ap (λ (f : Option Found). on_found f (λ i e. answer (Reply.Start e.position e.activity e.node) (heard run t None run.progress (set run.window i (started_of e)))) (answer (cond (is_done run) Reply.Done Reply.Wait) (heard run t None run.progress run.window))) q
   acted_call (Call.Completion t p n) found q =
       acted_report run t (λ i e. completes_by i (kind_at found)) (λ i e. completed_by run t i (kind_of run e)) found
-      (λ i e s. acted_completes run t i (kind_at found) ∙ ap (λ (f : Found). completed_by run t i (kind_at f)) s)
-      ∙ ap (λ (f : Found). reported_by f (λ i e. completed_by run t i (kind_of run e)) (refuse run)) q
+      (λ i e s. acted_completes run t i (kind_at found) ∙ ap (λ (f : Option Found). completed_by run t i (kind_at f)) s)
+      ∙ ap (λ (f : Option Found). reported_by f (λ i e. completed_by run t i (kind_of run e)) (refuse run)) q
   acted_call (Call.Outcome t p n o) found q =
       acted_report run t (λ i e. learns_as i e o (outcomes_for run.plan.outcomes (kind_at found)) (kind_at found)) (λ i e. learns_by run t i e o (kind_of run e)) found
-      (λ i e s. acted_learns run t i e o (kind_at found) ∙ ap (λ (f : Found). learns_by run t i e o (kind_at f)) s)
-      ∙ ap (λ (f : Found). reported_by f (λ i e. learns_by run t i e o (kind_of run e)) (refuse run)) q
+      (λ i e s. acted_learns run t i e o (kind_at found) ∙ ap (λ (f : Option Found). learns_by run t i e o (kind_at f)) s)
+      ∙ ap (λ (f : Option Found). reported_by f (λ i e. learns_by run t i e o (kind_of run e)) (refuse run)) q
 
-  acted_check : (c : Call) (check : Check) → check ≡ check_of run (reading_of c) (sought_by run.psi c)
+  acted_check : (c : Call) (check : Result (Option Found) Objection) → check ≡ check_of run (reading_of c) (sought_by run.psi c)
       → acted run (reading_of c) (effect_by c check (kind_found run check) (outcomes_for run.plan.outcomes (kind_found run check))) ≡ call_of run c
-  acted_check c (Check.Goes found) q =
-      let h = goes run (reading_of c) (sought_by run.psi c) (Check.Goes found) q found refl in
+  acted_check c (Ok found) q =
+      let h = goes run (reading_of c) (sought_by run.psi c) (Ok found) q found refl in
       acted_call c found h.found
-      ∙ (sym (answer_goes run (reading_of c) (sought_by run.psi c) (Check.Goes found) q (answer_of run c) found refl) ∙ sym (call_checked run c))
-  acted_check c (Check.Objects o) q =
+      ∙ (sym (answer_goes run (reading_of c) (sought_by run.psi c) (Ok found) q (answer_of run c) found refl) ∙ sym (call_checked run c))
+  acted_check c (Err o) q =
       acted_objection run (reading_of c) o
-      ∙ (sym (answer_objects run (reading_of c) (sought_by run.psi c) (Check.Objects o) q (answer_of run c) o refl) ∙ sym (call_checked run c))
+      ∙ (sym (answer_objects run (reading_of c) (sought_by run.psi c) (Err o) q (answer_of run c) o refl) ∙ sym (call_checked run c))
 
 -- ---- what an effect names
 
 -- neither 50 nor a kept stop
 abbrev Passes : Run → Type 0
-Passes run = (run_in_limits run ≡ true) × (run.halt ≡ Halt.Going)
+Passes run = (run_in_limits run ≡ true) × (run.halt ≡ None)
 
 -- what is found stands in the window
-pub found_holds : (nodes : List Node) (s : Sought) (w : List Entry) (i : ℕ) (e : Entry) → first_of nodes s w ≡ Found.At i e → Holds w i e × (i < length w)
+pub found_holds : (nodes : List Node) (s : Sought) (w : List Entry) (i : ℕ) (e : Entry) → first_of nodes s w ≡ found_at i e → Holds w i e × (i < length w)
 found_holds nodes s w i e q = let f = first_found (is_sought s) (sooner nodes s) (sought_order nodes s) w i e q in (record { entry = f.stands; held = sought_held s e f.passes }, f.within)
 
 module _ (run : Run) (long : length run.window ≡ 512) where
   -- of a report of a started node
-  module _ (f : Found → ℕ → Entry → Effect) where
-    named_report : (found : Found) → ((i : ℕ) (e : Entry) → found ≡ Found.At i e → Named run (f found i e)) → Named run (reported_by found (f found) refusing)
-    named_report Found.Nothing h = tt
-    named_report (Found.At i e) h = by_test (Named run) (is_started e.phase) _ _ (λ s. h i e refl) (λ s. tt)
+  module _ (f : Option Found → ℕ → Entry → Effect) where
+    named_report : (found : Option Found) → ((i : ℕ) (e : Entry) → found ≡ found_at i e → Named run (f found i e)) → Named run (reported_by found (f found) refusing)
+    named_report None h = tt
+    named_report (Some x) h = by_test (Named run) (is_started x.entry.phase) _ _ (λ s. h x.place x.entry refl) (λ s. tt)
 
   named_completes : (i : ℕ) (k : Kind) → i < 512 → Passes run → Named run (completes_by i k)
   named_completes i (Kind.Action a x) l p = (l, tt, p.1)
@@ -149,10 +147,10 @@ module _ (run : Run) (long : length run.window ≡ 512) where
       (λ b. tt)
 
   module _ (p : Passes run) where
-    named_call : (c : Call) (found : Found) → found ≡ first_of run.plan.nodes (sought_by run.psi c) run.window
+    named_call : (c : Call) (found : Option Found) → found ≡ first_of run.plan.nodes (sought_by run.psi c) run.window
         → Named run (effect_on c found (kind_at run found) (outcomes_for run.plan.outcomes (kind_at run found)))
-    named_call (Call.Ask t) Found.Nothing q = (state_below run p.0, p.1)
-    named_call (Call.Ask t) (Found.At i e) q = ((named_held run p.0 long i e (found_holds run.plan.nodes (Sought.Due run.psi t) run.window i e (sym q))).0, tt, p.1)
+    named_call (Call.Ask t) None q = (state_below run p.0, p.1)
+    named_call (Call.Ask t) (Some x) q = ((named_held run p.0 long x.place x.entry (found_holds run.plan.nodes (Sought.Due run.psi t) run.window x.place x.entry (sym q))).0, tt, p.1)
     named_call (Call.Completion t m n) found q =
         named_report (λ f i e. completes_by i (kind_at run f)) found
         (λ i e s. named_completes i (kind_at run found) (named_held run p.0 long i e (found_holds run.plan.nodes (Sought.Node m n) run.window i e (sym q ∙ s))).0 p)
@@ -160,16 +158,16 @@ module _ (run : Run) (long : length run.window ≡ 512) where
         named_report (λ f i e. learns_as i e o (outcomes_for run.plan.outcomes (kind_at run f)) (kind_at run f)) found
         (λ i e s.
         let k = named_held run p.0 long i e (found_holds run.plan.nodes (Sought.Node m n) run.window i e (sym q ∙ s)) in
-        named_learns i e o (kind_at run found) k.0 (subst (λ (f : Found). KindNames run.plan (kind_at run f)) (sym s) k.2) p)
+        named_learns i e o (kind_at run found) k.0 (subst (λ (f : Option Found). KindNames run.plan (kind_at run f)) (sym s) k.2) p)
 
-  named_check : (c : Call) (check : Check) → check ≡ check_of run (reading_of c) (sought_by run.psi c)
+  named_check : (c : Call) (check : Result (Option Found) Objection) → check ≡ check_of run (reading_of c) (sought_by run.psi c)
       → Named run (effect_by c check (kind_found run check) (outcomes_for run.plan.outcomes (kind_found run check)))
-  named_check c (Check.Goes found) q =
-      let h = goes run (reading_of c) (sought_by run.psi c) (Check.Goes found) q found refl in
+  named_check c (Ok found) q =
+      let h = goes run (reading_of c) (sought_by run.psi c) (Ok found) q found refl in
       named_call (h.limits, h.going) c found h.found
-  named_check c (Check.Objects (Objection.Refuses f)) q = tt
-  named_check c (Check.Objects (Objection.Keeps s)) q = objected_halt run (reading_of c) (sought_by run.psi c) (Check.Objects (Objection.Keeps s)) q
-  named_check c (Check.Objects (Objection.Stops s)) q = objected_halt run (reading_of c) (sought_by run.psi c) (Check.Objects (Objection.Stops s)) q
+  named_check c (Err (Objection.Refuses f)) q = tt
+  named_check c (Err (Objection.Keeps s)) q = objected_halt run (reading_of c) (sought_by run.psi c) (Err (Objection.Keeps s)) q
+  named_check c (Err (Objection.Stops s)) q = objected_halt run (reading_of c) (sought_by run.psi c) (Err (Objection.Stops s)) q
 
 -- ---- a call, by the effect that the code works out
 
@@ -189,18 +187,18 @@ module _ (run : Run) (c : Call) (t : Clock) (effect : Effect) (q : t ≡ reading
   call_named long x r = subst (Named run) (sym worked_out ∙ r) (named_check run long c _ refl)
 
 -- where the node that the checks found stands
-pub place_below : (run : Run) → length run.window ≡ 512 → (t : Clock) (sought : Sought) (check : Check) → check ≡ check_of run t sought → place_of (found_by check) < 2048
-place_below run long t sought (Check.Objects o) q = omega arith
-place_below run long t sought (Check.Goes Found.Nothing) q = omega arith
-place_below run long t sought (Check.Goes (Found.At i e)) q =
-    let h = goes run t sought (Check.Goes (Found.At i e)) q (Found.At i e) refl in
-    (named_held run h.limits long i e (found_holds run.plan.nodes sought run.window i e (sym h.found))).1
+pub place_below : (run : Run) → length run.window ≡ 512 → (t : Clock) (sought : Sought) (check : Result (Option Found) Objection) → check ≡ check_of run t sought → place_of (found_by check) < 2048
+place_below run long t sought (Err o) q = omega arith
+place_below run long t sought (Ok None) q = omega arith
+place_below run long t sought (Ok (Some x)) q =
+    let h = goes run t sought (Ok (Some x)) q (Some x) refl in
+    (named_held run h.limits long x.place x.entry (found_holds run.plan.nodes sought run.window x.place x.entry (sym h.found))).1
 
 -- the run with its reading, and with a place stored
-pub rests_acted : (run : Run) (t : Clock) (r : Reply) → run.halt ≡ Halt.Going → r ≡ cond (is_done run) Reply.Done Reply.Wait
+pub rests_acted : (run : Run) (t : Clock) (r : Reply) → run.halt ≡ None → r ≡ cond (is_done run) Reply.Done Reply.Wait
     → answer r (record { plan = run.plan; psi = run.psi; slack = run.slack; progress = run.progress; window = run.window; last = t; halt = run.halt }) ≡ acted run t Effect.Rests
 rests_acted run t r h q = rw (h, q)
 
-pub stores_acted : (run : Run) (t : Clock) (i : ℕ) (e : Entry) (r : Reply) → run.halt ≡ Halt.Going
+pub stores_acted : (run : Run) (t : Clock) (i : ℕ) (e : Entry) (r : Reply) → run.halt ≡ None
     → answer r (record { plan = run.plan; psi = run.psi; slack = run.slack; progress = run.progress; window = set run.window i e; last = t; halt = run.halt }) ≡ acted run t (Effect.Stores i e r)
 stores_acted run t i e r h = rw h

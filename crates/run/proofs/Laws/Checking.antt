@@ -1,6 +1,6 @@
 -- The checks at a call: the answer to a call is what they object to, or what is left once they object to nothing; a run that
 -- passes them is in limits, so that every sum with Ψ fits and every number of a found entry names something.
-use Rattle.std.specs.Prelude.{◌≡◌, refl, Bool, true, false, List, [], ◌∷◌, ℕ, zero, suc, ◌≤◌, ◌<◌, length, get_or}
+use Rattle.std.specs.Prelude.{◌≡◌, refl, Bool, true, false, List, [], ◌∷◌, ℕ, zero, suc, ◌≤◌, ◌<◌, length, get_or, Option, Some, None, Result, Ok, Err}
 use Rattle.std.proofs.Common.{sym, ◌∙◌, subst, true≢false, ⊎_elim, arith}
 use Rattle.basis.specs.Inner.Tells.{Tells, holds, fails}
 use Rattle.basis.proofs.Laws.Tells.{told_true, tells_and, tells_or, tells_ltb, tells_leb}
@@ -21,10 +21,9 @@ use Rattle.run_window.specs.Window.{vacant, is_free, is_held, node_place}
 use Rattle.run_window.specs.Inner.Search.{first_of}
 use Rattle.run_window.proofs.Laws.Tests.{held_unfree}
 use Rattle.run_window.specs.Places.{Holds}
-use Rattle.run_checks.specs.declared.Halt.{Halt}
+use Rattle.run_checks.specs.declared.Stop.{Stop}
 use Rattle.run_checks.specs.declared.Moment.{Moment}
 use Rattle.run_checks.specs.declared.Objection.{Objection}
-use Rattle.run_checks.specs.declared.Check.{Check}
 use Rattle.run_checks.specs.Order.{Timed, reading_then, is_below, first_overdue, first_late, timely_by, called_by}
 use Rattle.run_checks.proofs.Laws.Checks.{Passed, passed, called_goes, called_objects}
 use Rattle.run.specs.declared.Run.{Run}
@@ -37,40 +36,40 @@ use Rattle.run.specs.Inner.Loads.{Loads}
 -- ---- the answer by the checks
 
 -- a stop that is kept is the run's, and a run that is stopped kept none
-abbrev pub Objected : Halt → Check → Type 0
-Objected halt (Check.Goes k) = Unit {0}
-Objected halt (Check.Objects (Objection.Refuses f)) = Unit {0}
-Objected halt (Check.Objects (Objection.Keeps s)) = halt ≡ Halt.Stopped s
-Objected halt (Check.Objects (Objection.Stops s)) = halt ≡ Halt.Going
+abbrev pub Objected : Option Stop → Result (Option Found) Objection → Type 0
+Objected halt (Ok k) = Unit {0}
+Objected halt (Err (Objection.Refuses f)) = Unit {0}
+Objected halt (Err (Objection.Keeps s)) = halt ≡ Some s
+Objected halt (Err (Objection.Stops s)) = halt ≡ None
 
-by_reading : (below : Bool) (overdue late found : Found) → Objected Halt.Going (reading_then below overdue late Check.Objects (Check.Goes found))
+by_reading : (below : Bool) (overdue late found : Option Found) → Objected None (reading_then below overdue late Err (Ok found))
 by_reading true overdue late found = tt
-by_reading false (Found.At i e) late found = refl
-by_reading false Found.Nothing (Found.At i e) found = refl
-by_reading false Found.Nothing Found.Nothing found = tt
+by_reading false (Some x) late found = refl
+by_reading false None (Some x) found = refl
+by_reading false None None found = tt
 
-by_called : (limits : Bool) (halt : Halt) (m : Moment) (nodes : List Node) (w : List Entry) (found : Found) → Objected halt (called_by limits halt m nodes w Check.Objects (Check.Goes found))
+by_called : (limits : Bool) (halt : Option Stop) (m : Moment) (nodes : List Node) (w : List Entry) (found : Option Found) → Objected halt (called_by limits halt m nodes w Err (Ok found))
 unfolding timely_by
 by_called false halt m nodes w found = tt
-by_called true (Halt.Stopped s) m nodes w found = refl
-by_called true Halt.Going m nodes w found = by_reading (is_below m) (first_overdue m w) (first_late m nodes w) found
+by_called true (Some s) m nodes w found = refl
+by_called true None m nodes w found = by_reading (is_below m) (first_overdue m w) (first_late m nodes w) found
 
-module _ (run : Run) (t : Clock) (sought : Sought) (check : Check) (q : check ≡ check_of run t sought) where
-  said : check ≡ called_by (run_in_limits run) run.halt (moment_of run t) run.plan.nodes run.window Check.Objects (Check.Goes (first_of run.plan.nodes sought run.window))
+module _ (run : Run) (t : Clock) (sought : Sought) (check : Result (Option Found) Objection) (q : check ≡ check_of run t sought) where
+  said : check ≡ called_by (run_in_limits run) run.halt (moment_of run t) run.plan.nodes run.window Err (Ok (first_of run.plan.nodes sought run.window))
   unfolding check_of
   said = q
 
   pub objected_halt : Objected run.halt check
   objected_halt = subst (Objected run.halt) (sym said) (by_called (run_in_limits run) run.halt (moment_of run t) run.plan.nodes run.window (first_of run.plan.nodes sought run.window))
 
-  pub goes : (k : Found) → check ≡ Check.Goes k → Passed (run_in_limits run) run.halt (first_of run.plan.nodes sought run.window) k
+  pub goes : (k : Option Found) → check ≡ Ok k → Passed (run_in_limits run) run.halt (first_of run.plan.nodes sought run.window) k
   goes k g = passed (run_in_limits run) run.halt (moment_of run t) run.plan.nodes run.window (first_of run.plan.nodes sought run.window) k (sym said ∙ g)
 
   module _ (go : Answer) where
-    pub answer_goes : (k : Found) → check ≡ Check.Goes k → called run t go ≡ go
+    pub answer_goes : (k : Option Found) → check ≡ Ok k → called run t go ≡ go
     answer_goes k g = called_goes (run_in_limits run) run.halt (moment_of run t) run.plan.nodes run.window (first_of run.plan.nodes sought run.window) check said (objected run t) go k g
 
-    pub answer_objects : (o : Objection) → check ≡ Check.Objects o → called run t go ≡ objected run t o
+    pub answer_objects : (o : Objection) → check ≡ Err o → called run t go ≡ objected run t o
     answer_objects o g = called_objects (run_in_limits run) run.halt (moment_of run t) run.plan.nodes run.window (first_of run.plan.nodes sought run.window) check said (objected run t) go o g
 
 -- ---- a run in limits

@@ -1,5 +1,5 @@
 -- Loading of a run is loading of its plan, its progress and its window.
-use Rattle.std.specs.Prelude.{◌≡◌, Bool, true, false, ℕ, zero, suc, ltb, length}
+use Rattle.std.specs.Prelude.{◌≡◌, Bool, true, false, ℕ, zero, suc, ltb, length, Option, Some, None}
 use Rattle.std.proofs.Math.Path.{refl}
 use Rattle.std.proofs.Common.{sym, ◌∙◌, ap}
 use Rattle.time.specs.declared.Clock.{Clock}
@@ -15,7 +15,7 @@ use Rattle.run_loading.specs.declared.Failure.{Failure}
 use Rattle.run.specs.declared.Run.{Run}
 use Rattle.run.specs.declared.Answer.{Answer}
 use Rattle.run.specs.declared.Reply.{Reply}
-use Rattle.run_checks.specs.declared.Halt.{Halt}
+use Rattle.run_checks.specs.declared.Stop.{Stop}
 use Rattle.run.specs.Calls.{answer, heard, stops, cleared, after_loading, learnt}
 use Rattle.run.specs.Loading.{Loading, loading, load_path, load, on_way, on_loading, further, most_pending}
 use Rattle.run.specs.Inner.Calls.{reply_after, halt_after}
@@ -40,12 +40,12 @@ unfolding further parts.further
 further_parts zero run = refl
 further_parts (suc k) run = by_way (further_parts k) (way_on run.plan.automaton run.progress (next_of run.plan.automaton run.progress.state))
   where
-    then_on : ((r : Run) → further k r ≡ within r (parts.further r.plan k r.progress r.window)) → (l : declared.Loading) (f : Failure) → l.failure ≡ f → on_loading (within run l) (further k) ≡ within run (parts.on_loading l (parts.further run.plan k))
-    then_on later l Failure.None e = rw e (later (within run l).run)
-    then_on later l Failure.Full e = rw e
-    then_on later l Failure.Beyond e = rw e
+    then_on : ((r : Run) → further k r ≡ within r (parts.further r.plan k r.progress r.window)) → (l : declared.Loading) (f : Option Failure) → l.failure ≡ f → on_loading (within run l) (further k) ≡ within run (parts.on_loading l (parts.further run.plan k))
+    then_on later l None e = rw e (later (within run l).run)
+    then_on later l (Some Failure.Full) e = rw e
+    then_on later l (Some Failure.Beyond) e = rw e
 
-    by_way : ((r : Run) → further k r ≡ within r (parts.further r.plan k r.progress r.window)) → (n : Next) → on_way n (λ t. on_loading (load run (Next.Goes t)) (further k)) (loading Failure.None run) ≡ within run (on_way n (λ t. parts.on_loading (parts.load run.plan (Next.Goes t) run.progress run.window) (parts.further run.plan k)) (parts.loading Failure.None run.progress run.window))
+    by_way : ((r : Run) → further k r ≡ within r (parts.further r.plan k r.progress r.window)) → (n : Next) → on_way n (λ t. on_loading (load run (Next.Goes t)) (further k)) (loading None run) ≡ within run (on_way n (λ t. parts.on_loading (parts.load run.plan (Next.Goes t) run.progress run.window) (parts.further run.plan k)) (parts.loading None run.progress run.window))
     by_way later Next.Ended = refl
     by_way later (Next.Waits e) = refl
     by_way later (Next.Goes t) =
@@ -55,31 +55,31 @@ further_parts (suc k) run = by_way (further_parts k) (way_on run.plan.automaton 
 -- ---- the answer to an outcome
 
 -- it is taken, or the run keeps a stop
-abbrev pub answer_by : Clock → Halt → Run → Answer
-answer_by t Halt.Going next = answer Reply.Taken next
-answer_by t (Halt.Stopped s) next = stops next t s
+abbrev pub answer_by : Clock → Option Stop → Run → Answer
+answer_by t None next = answer Reply.Taken next
+answer_by t (Some s) next = stops next t s
 
 -- the run with what was loaded
 abbrev pub storing : Run → Clock → declared.Loading → Run
 storing run t l = heard run t run.halt l.progress l.window
 
-module _ (run : Run) (going : run.halt ≡ Halt.Going) (t : Clock) (i : ℕ) (g : Progress) where
-  by_failure : (l : declared.Loading) (f : Failure) → answer_by t (halt_after f) (storing run t l) ≡ after_loading f (heard run t (cleared run t i g).halt l.progress l.window)
-  by_failure l Failure.None = rw going
-  by_failure l Failure.Full = refl
-  by_failure l Failure.Beyond = refl
+module _ (run : Run) (going : run.halt ≡ None) (t : Clock) (i : ℕ) (g : Progress) where
+  by_failure : (l : declared.Loading) (f : Option Failure) → answer_by t (halt_after f) (storing run t l) ≡ after_loading f (heard run t (cleared run t i g).halt l.progress l.window)
+  by_failure l None = rw going
+  by_failure l (Some Failure.Full) = refl
+  by_failure l (Some Failure.Beyond) = refl
 
-  pub learnt_parts : (l : declared.Loading) → l ≡ parts.further run.plan most_pending g (cleared run t i g).window → (x : Halt) → x ≡ halt_after l.failure → answer_by t x (storing run t l) ≡ learnt (cleared run t i g)
+  pub learnt_parts : (l : declared.Loading) → l ≡ parts.further run.plan most_pending g (cleared run t i g).window → (x : Option Stop) → x ≡ halt_after l.failure → answer_by t x (storing run t l) ≡ learnt (cleared run t i g)
   learnt_parts l e x q =
-      ap (λ (y : Halt). answer_by t y (storing run t l)) q
+      ap (λ (y : Option Stop). answer_by t y (storing run t l)) q
       ∙ by_failure l l.failure
       ∙ ap (λ (y : declared.Loading). after_loading y.failure (heard run t (cleared run t i g).halt y.progress y.window)) e
       ∙ sym (ap (λ (y : Loading). after_loading y.failure y.run) (further_parts most_pending (cleared run t i g)))
 
-  by_halt : (l : declared.Loading) (f : Failure) → answer_by t (halt_after f) (storing run t l) ≡ answer (reply_after f) (heard run t (halt_after f) l.progress l.window)
-  by_halt l Failure.None = rw going
-  by_halt l Failure.Full = refl
-  by_halt l Failure.Beyond = refl
+  by_halt : (l : declared.Loading) (f : Option Failure) → answer_by t (halt_after f) (storing run t l) ≡ answer (reply_after f) (heard run t (halt_after f) l.progress l.window)
+  by_halt l None = rw going
+  by_halt l (Some Failure.Full) = refl
+  by_halt l (Some Failure.Beyond) = refl
 
   pub loaded_as_lem : (l : declared.Loading) → l ≡ parts.further run.plan most_pending g (cleared run t i g).window → learnt (cleared run t i g) ≡ loaded_as run t l
   loaded_as_lem l e = sym (learnt_parts l e (halt_after l.failure) refl) ∙ by_halt l l.failure

@@ -1,10 +1,9 @@
 -- What the inner functions of an opening and of an outcome answer.
-use Rattle.std.specs.Prelude.{List, ℕ}
+use Rattle.std.specs.Prelude.{List, ℕ, Option, Some, None}
 use Rattle.time.specs.declared.Clock.{Clock}
 use Rattle.plan.specs.declared.Plan.{Plan}
 use Rattle.run_window.specs.declared.Entry.{Entry}
 use Rattle.run_checks.specs.declared.Stop.{Stop}
-use Rattle.run_checks.specs.declared.Halt.{Halt}
 use Rattle.run.specs.declared.Run.{Run}
 use Rattle.run.specs.declared.Reply.{Reply}
 use Rattle.run.specs.declared.Unopened.{Unopened}
@@ -27,13 +26,13 @@ abbrev pub told_run : Run → Clock → ℕ → Entry → ℕ → ℕ → Run
 told_run run t i x e o = cleared run t i (told_of run.progress e x o)
 
 -- "An accepted report is taken; if loading after it fails the answer is stopped"
-abbrev pub reply_after : Failure → Reply
-reply_after Failure.None = Reply.Taken
-reply_after Failure.Full = Reply.Stopped Stop.Full
-reply_after Failure.Beyond = Reply.Stopped Stop.Beyond
+abbrev pub reply_after : Option Failure → Reply
+reply_after None = Reply.Taken
+reply_after (Some Failure.Full) = Reply.Stopped Stop.Full
+reply_after (Some Failure.Beyond) = Reply.Stopped Stop.Beyond
 
 -- whether the run keeps a stop after it
-abbrev pub halt_after : Failure → Halt
-halt_after Failure.None = Halt.Going
-halt_after Failure.Full = Halt.Stopped Stop.Full
-halt_after Failure.Beyond = Halt.Stopped Stop.Beyond
+abbrev pub halt_after : Option Failure → Option Stop
+halt_after None = None
+halt_after (Some Failure.Full) = Some Stop.Full
+halt_after (Some Failure.Beyond) = Some Stop.Beyond

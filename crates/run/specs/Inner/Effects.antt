@@ -1,5 +1,5 @@
 -- What a call does to a run, and the answer that it then gets.
-use Rattle.std.specs.Prelude.{◌≡◌, cond, ◌&&◌, List, ℕ, ◌<◌, ltb, eqb, get_or, set}
+use Rattle.std.specs.Prelude.{◌≡◌, cond, ◌&&◌, List, ℕ, ◌<◌, ltb, eqb, get_or, set, Option, Some, None, Result, Ok, Err}
 use Rattle.time.specs.declared.Clock.{Clock}
 use Rattle.plan.specs.Plan.{past_node, outcomes_of, final_bit}
 use Rattle.plan.specs.declared.Kind.{Kind}
@@ -9,10 +9,9 @@ use Rattle.run_window.specs.declared.Entry.{Entry}
 use Rattle.run_window.specs.declared.Found.{Found}
 use Rattle.run_window.specs.declared.Sought.{Sought}
 use Rattle.run_window.specs.Window.{vacant, started_of, node_place, on_found, is_empty}
-use Rattle.run_checks.specs.declared.Halt.{Halt}
+use Rattle.run_checks.specs.declared.Stop.{Stop}
 use Rattle.run_checks.specs.declared.Refusal.{Refusal}
 use Rattle.run_checks.specs.declared.Objection.{Objection}
-use Rattle.run_checks.specs.declared.Check.{Check}
 use Rattle.run_checks.specs.declared.Moment.{Moment}
 use Rattle.run_checks.specs.Order.{reported_by}
 use Rattle.run_loading.specs.declared.Loading.{Loading}
@@ -35,14 +34,14 @@ sought_by psi (Call.Ask t) = Sought.Due psi t
 sought_by psi (Call.Completion t p n) = Sought.Node p n
 sought_by psi (Call.Outcome t p n o) = Sought.Node p n
 
-abbrev pub found_by : Check → Found
-found_by (Check.Goes found) = found
-found_by (Check.Objects o) = Found.Nothing
+abbrev pub found_by : Result (Option Found) Objection → Option Found
+found_by (Ok found) = found
+found_by (Err o) = None
 
 -- where its node stands among the nodes of the plan
-abbrev pub place_of : Found → ℕ
-place_of Found.Nothing = 0
-place_of (Found.At i e) = node_place e
+abbrev pub place_of : Option Found → ℕ
+place_of None = 0
+place_of (Some x) = node_place x.entry
 
 -- how many outcomes the event of a node has
 abbrev pub outcomes_for : List ℕ → Kind → ℕ
@@ -52,7 +51,7 @@ outcomes_for outcomes (Kind.Release r) = 0
 outcomes_for outcomes (Kind.Event e) = get_or outcomes e 0
 
 -- what the checks say, the kind of the node that they found, and how many outcomes it has
-abbrev pub kind_found : Run → Check → Kind
+abbrev pub kind_found : Run → Result (Option Found) Objection → Kind
 kind_found run check = (get_or run.plan.nodes (place_of (found_by check)) past_node).kind
 
 abbrev pub checked_of : Run → Clock → Sought → Checked
@@ -86,11 +85,11 @@ learns_as i x o most (Kind.Release r) = refusing Refusal.OtherKind
 learns_as i x o most (Kind.Event e) = cond (ltb o most) (hears_as i x e o most) (refusing Refusal.OutcomeLacking)
 
 -- the due node is started, or nothing is due
-abbrev pub starts_by : Found → Effect
+abbrev pub starts_by : Option Found → Effect
 starts_by found = on_found found (λ i e. Effect.Stores i (started_of e) (Reply.Start e.position e.activity e.node)) Effect.Rests
 
 -- of a call that passes its checks, by what it found, the kind of its node and how many outcomes that has
-abbrev pub effect_on : Call → Found → Kind → ℕ → Effect
+abbrev pub effect_on : Call → Option Found → Kind → ℕ → Effect
 effect_on (Call.Ask t) found kind most = starts_by found
 effect_on (Call.Completion t p n) found kind most = reported_by found (λ i e. completes_by i kind) refusing
 effect_on (Call.Outcome t p n o) found kind most = reported_by found (λ i e. learns_as i e o most kind) refusing
@@ -100,9 +99,9 @@ effect_for (Objection.Refuses f) = refusing f
 effect_for (Objection.Keeps s) = Effect.Stays (Reply.Stopped s)
 effect_for (Objection.Stops s) = Effect.Stops s
 
-abbrev pub effect_by : Call → Check → Kind → ℕ → Effect
-effect_by c (Check.Goes found) kind most = effect_on c found kind most
-effect_by c (Check.Objects o) kind most = effect_for o
+abbrev pub effect_by : Call → Result (Option Found) Objection → Kind → ℕ → Effect
+effect_by c (Ok found) kind most = effect_on c found kind most
+effect_by c (Err o) kind most = effect_for o
 
 abbrev pub effect_of : Call → Checked → Effect
 effect_of c checked = effect_by c checked.check checked.kind checked.most
@@ -116,8 +115,8 @@ rests_as finals s w = cond (final_bit finals s && is_empty w) Reply.Done Reply.W
 abbrev pub acted : Run → Clock → Effect → Answer
 acted run t (Effect.Stays reply) = answer reply run
 acted run t (Effect.Stops s) = stops run t s
-acted run t Effect.Rests = answer (cond (is_done run) Reply.Done Reply.Wait) (heard run t Halt.Going run.progress run.window)
-acted run t (Effect.Stores i e reply) = answer reply (heard run t Halt.Going run.progress (set run.window i e))
+acted run t Effect.Rests = answer (cond (is_done run) Reply.Done Reply.Wait) (heard run t None run.progress run.window)
+acted run t (Effect.Stores i e reply) = answer reply (heard run t None run.progress (set run.window i e))
 acted run t (Effect.Learns i x e o) = learnt (told_run run t i x e o)
 
 -- an outcome, from what was loaded after it
@@ -125,13 +124,13 @@ abbrev pub loaded_as : Run → Clock → Loading → Answer
 loaded_as run t l = answer (reply_after l.failure) (heard run t (halt_after l.failure) l.progress l.window)
 
 -- a reply that leaves the run: a refusal, or the stop that the run keeps
-abbrev pub Leaves : Halt → Reply → Type 0
+abbrev pub Leaves : Option Stop → Reply → Type 0
 Leaves halt (Reply.Start p a n) = ⊥
 Leaves halt Reply.Wait = ⊥
 Leaves halt Reply.Done = ⊥
 Leaves halt Reply.Taken = ⊥
 Leaves halt (Reply.Refused f) = Unit {0}
-Leaves halt (Reply.Stopped s) = halt ≡ Halt.Stopped s
+Leaves halt (Reply.Stopped s) = halt ≡ Some s
 
 -- a reply that is no refusal
 abbrev pub Accepts : Reply → Type 0
@@ -145,11 +144,11 @@ Accepts (Reply.Stopped s) = Unit {0}
 -- what is known of an effect: a run that it changes keeps no stop, and the state, the place, the event and the outcome are the plan's
 abbrev pub Named : Run → Effect → Type 0
 Named run (Effect.Stays reply) = Leaves run.halt reply
-Named run (Effect.Stops s) = run.halt ≡ Halt.Going
-Named run Effect.Rests = (run.progress.state < 64) × (run.halt ≡ Halt.Going)
-Named run (Effect.Stores i e reply) = (i < 512) × Accepts reply × (run.halt ≡ Halt.Going)
-Named run (Effect.Learns i x e o) = (i < 512) × (e < run.plan.events) × (o < outcomes_of run.plan e) × Loads run × (run.halt ≡ Halt.Going)
+Named run (Effect.Stops s) = run.halt ≡ None
+Named run Effect.Rests = (run.progress.state < 64) × (run.halt ≡ None)
+Named run (Effect.Stores i e reply) = (i < 512) × Accepts reply × (run.halt ≡ None)
+Named run (Effect.Learns i x e o) = (i < 512) × (e < run.plan.events) × (o < outcomes_of run.plan e) × Loads run × (run.halt ≡ None)
 
 -- the run with these parts; of the moment, its times
-abbrev pub run_at : Plan → Progress → List Entry → Moment → Halt → Run
+abbrev pub run_at : Plan → Progress → List Entry → Moment → Option Stop → Run
 run_at plan progress window m halt = record { plan = plan; psi = m.psi; slack = m.slack; progress = progress; window = window; last = m.last; halt = halt }

@@ -9,9 +9,6 @@ pub returns-then-m : goal.returns-then-m
 unfolding timely_by
 returns-then-m c = rw (lt-ltb _ _ c.if-m.true)
 
-pub look-seen-requires : goal.look-seen-requires
-look-seen-requires c = let p = c.requires in (p.0.0, p.0.1, p.1, p.0.2, p.0.3)
-
 pub returns : goal.returns
 unfolding timely_by
 returns c = let q = c.look-seen.ensures in rw (le-ltb _ _ c.if-m.false, ap (λ (s : Seen). s.overdue) (sym q), ap (λ (s : Seen). s.late) (sym q), ap (λ (s : Seen). s.sought) (sym q)) c.check_seen.ensures

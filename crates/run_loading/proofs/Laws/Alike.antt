@@ -1,6 +1,6 @@
 -- Plans that load alike: what the limits ask of a plan with other nodes and transitions in its arrays, a path by its first transition,
 -- and further paths of two plans that load each path alike and have the same ways on.
-use Rattle.std.specs.Prelude.{◌≡◌, true, cond, List, []}
+use Rattle.std.specs.Prelude.{◌≡◌, true, cond, List, [], Option, Some, None}
 use Rattle.std.proofs.Math.Path.{refl, ap}
 use Rattle.std.proofs.Common.{◌∙◌}
 use Prim.Native.Nat.{ℕ, zero, suc, ◌<◌}
@@ -89,15 +89,14 @@ module _ (p q : Plan) (loads : (t : ℕ) → t < p.automaton.count → (g : Prog
     on_alike : (l : Loading) → on_loading l f ≡ on_loading l h
     on_alike l = by l.failure
       where
-        by : (x : Failure) → on_failure x l (f l.progress l.window) ≡ on_failure x l (h l.progress l.window)
-        by Failure.None = e l.progress l.window
-        by Failure.Full = refl
-        by Failure.Beyond = refl
+        by : (x : Option Failure) → on_failure x l (f l.progress l.window) ≡ on_failure x l (h l.progress l.window)
+        by None = e l.progress l.window
+        by (Some z) = refl
 
     -- what follows the way on
     way_alike : (g : Progress) (w : List Entry) (n : Next)
         → Leads p.automaton.count n
-        → on_way n (λ t. on_loading (load q (Next.Goes t) g w) f) (loading Failure.None g w) ≡ on_way n (λ t. on_loading (load p (Next.Goes t) g w) h) (loading Failure.None g w)
+        → on_way n (λ t. on_loading (load q (Next.Goes t) g w) f) (loading None g w) ≡ on_way n (λ t. on_loading (load p (Next.Goes t) g w) h) (loading None g w)
     way_alike g w Next.Ended l = refl
     way_alike g w (Next.Waits x) l = refl
     way_alike g w (Next.Goes t) l = ap (λ (m : Loading). on_loading m f) (loads t l g w) ∙ on_alike (load p (Next.Goes t) g w)
@@ -106,5 +105,5 @@ module _ (p q : Plan) (loads : (t : ℕ) → t < p.automaton.count → (g : Prog
   unfolding further
   further_alike zero g w = refl
   further_alike (suc k) g w =
-      ap (λ (n : Next). on_way n (λ t. on_loading (load q (Next.Goes t) g w) (further q k)) (loading Failure.None g w)) (ways g)
+      ap (λ (n : Next). on_way n (λ t. on_loading (load q (Next.Goes t) g w) (further q k)) (loading None g w)) (ways g)
       ∙ way_alike (further q k) (further p k) (further_alike k) g w (way_from p g) (way_leads p.automaton g (next_of p.automaton g.state))

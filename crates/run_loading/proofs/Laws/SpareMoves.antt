@@ -1,5 +1,5 @@
 -- Loading reads of a plan's transitions only those that it has: with others in the spare room it loads the same.
-use Rattle.std.specs.Prelude.{◌≡◌, List, get_or}
+use Rattle.std.specs.Prelude.{◌≡◌, List, get_or, Option}
 use Rattle.std.proofs.Math.Path.{refl, ap}
 use Rattle.std.proofs.Common.{sym, ◌∙◌, subst}
 use Prim.Native.Nat.{ℕ, zero, suc, ◌*◌, ◌<◌}
@@ -12,7 +12,6 @@ use Rattle.plan.specs.declared.Plan.{Plan}
 use Rattle.automaton.specs.Next.{next_of}
 use Rattle.automaton.proofs.Laws.Spare.{next_same, chosen_same}
 use Rattle.automaton.specs.declared.Next.{Next}
-use Rattle.automaton.specs.declared.Chosen.{Chosen}
 use Rattle.times.specs.declared.Told.{Told}
 use Rattle.times.specs.declared.Progress.{Progress}
 use Rattle.run_window.specs.declared.Entry.{Entry}
@@ -82,7 +81,7 @@ module _ (p : Plan) (ms : List Transition) (same : (i : ℕ) → i < p.automaton
   -- the way on by what was reported, and by what the state does next
   told_same : (s e : ℕ) (t : Told) → by_told (with_moves p ms).automaton s e t ≡ by_told p.automaton s e t
   told_same s e Told.Nothing = refl
-  told_same s e (Told.Outcome o) = ap (λ (c : Chosen). by_choice c e) (chosen_same p.automaton ms same s e o)
+  told_same s e (Told.Outcome o) = ap (λ (c : Option ℕ). by_choice c e) (chosen_same p.automaton ms same s e o)
 
   on_same : (g : Progress) (n : Next) → way_on (with_moves p ms).automaton g n ≡ way_on p.automaton g n
   unfolding way_on

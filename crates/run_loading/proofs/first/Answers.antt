@@ -19,13 +19,13 @@ path-found-requires c =
     let able : Loadable c.args.plan c.args.progress c.next_of-next.result = record { loads = c.requires; leads = subst (Leads c.args.plan.automaton.count) (sym c.next_of-next.ensures) (next_leads c.args.plan.automaton c.args.plan.automaton.initial) } in
     let k = able in record { in_limits = k.loads.plan; leads = k.leads; progress_in = k.loads.progress }
 
-pub returns-then-has_failed : goal.returns-then-has_failed
-returns-then-has_failed c =
+pub returns-then-is_some : goal.returns-then-is_some
+returns-then-is_some c =
     let able : Loadable c.args.plan c.args.progress c.next_of-next.result = record { loads = c.requires; leads = subst (Leads c.args.plan.automaton.count) (sym c.next_of-next.ensures) (next_leads c.args.plan.automaton c.args.plan.automaton.initial) } in
     let f = c.failure_of-failure in
     c.ended.ensures
-    ∙ ap (λ (x : Entry). loading f.result c.args.progress (replicate 512 x)) c.vacant-free.ensures
-    ∙ first_failed c.args.plan c.next_of-next.result c.args.progress (able) _ c.path-found.ensures f.result f.ensures (sym c.has_failed.ensures ∙ c.if-has_failed.true)
+    ∙ ap (λ (x : Entry). loading f.result c.args.progress (replicate 512 x)) c.vacant.ensures
+    ∙ first_failed c.args.plan c.next_of-next.result c.args.progress (able) _ c.path-found.ensures f.result f.ensures (sym c.is_some.ensures ∙ c.if-is_some.true)
     ∙ ap (λ (x : Next). load c.args.plan x c.args.progress (replicate 512 vacant)) c.next_of-next.ensures
 
 pub returns : goal.returns
@@ -33,5 +33,5 @@ returns c =
     let able : Loadable c.args.plan c.args.progress c.next_of-next.result = record { loads = c.requires; leads = subst (Leads c.args.plan.automaton.count) (sym c.next_of-next.ensures) (next_leads c.args.plan.automaton c.args.plan.automaton.initial) } in
     let f = c.failure_of-failure in
     c.ended-2.ensures
-    ∙ first_placed c.args.plan c.next_of-next.result c.args.progress (able) _ c.path-found.ensures f.result f.ensures (sym c.has_failed.ensures ∙ c.if-has_failed.false)
+    ∙ first_placed c.args.plan c.next_of-next.result c.args.progress (able) _ c.path-found.ensures f.result f.ensures (sym c.is_some.ensures ∙ c.if-is_some.false)
     ∙ ap (λ (x : Next). load c.args.plan x c.args.progress (replicate 512 vacant)) c.next_of-next.ensures

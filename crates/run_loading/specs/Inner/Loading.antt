@@ -1,5 +1,5 @@
 -- What loading asks, and what its inner functions answer.
-use Rattle.std.specs.Prelude.{Bool, true, false, cond, ℕ, ltb}
+use Rattle.std.specs.Prelude.{Bool, cond, ℕ, ltb, Option, Some, None}
 use Rattle.plan.specs.Limits.{InLimits}
 use Rattle.plan.specs.declared.Plan.{Plan}
 use Rattle.automaton.specs.declared.Next.{Next}
@@ -17,11 +17,6 @@ pub record Loadable (p : Plan) (g : Progress) (next : Next) : Type 0 where
   pub loads : Loads p g
   pub leads : Leads p.automaton.count next
 
-abbrev pub has_failed : Failure → Bool
-has_failed Failure.None = false
-has_failed Failure.Full = true
-has_failed Failure.Beyond = true
-
 -- "44 ..; then 43 the window would pass 512", of a path with so many entries where so many places are free
-unfoldable pub failure_by : Bool → ℕ → ℕ → Failure
-failure_by beyond count free = cond beyond Failure.Beyond (cond (ltb free count) Failure.Full Failure.None)
+unfoldable pub failure_by : Bool → ℕ → ℕ → Option Failure
+failure_by beyond count free = cond beyond (Some Failure.Beyond) (cond (ltb free count) (Some Failure.Full) None)

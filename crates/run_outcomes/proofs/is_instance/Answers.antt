@@ -6,6 +6,6 @@ pub returns-then-x-position : goal.returns-then-x-position
 unfolding is_instance
 returns-then-x-position c = rw (eq-eqb _ _ c.if-x-position.true)
 
-pub returns : goal.returns
+pub returns-else-x-position : goal.returns-else-x-position
 unfolding is_instance
-returns c = rw (ne_eqb _ _ c.if-x-position.false)
+returns-else-x-position c = rw (ne_eqb _ _ c.if-x-position.false)

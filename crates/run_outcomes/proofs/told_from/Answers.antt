@@ -1,26 +1,23 @@
 use mathlib.Core.Path.{sym, ◌∙◌, ap}
+use native.Mathlib.Omega.{arith}
 use lib.ListN.{set}
 use Rattle.run_outcomes.proofs.Telling.{told_starts, told_here, told_past, told_none}
-use borrow.Author.Rules.{rules}
 use Rattle.run_outcomes.proofs.told_from.Goals as goal
 
 pub loop-i-init : goal.loop-i-init
-loop-i-init c = (search rules, search rules, told_starts c.args.position c.args.node c.args.o c.args.from c.args.count c.args.pending)
+loop-i-init c = told_starts c.args.position c.args.node c.args.o c.args.from c.args.count c.args.pending
 
 pub returns-then-is_instance : goal.returns-then-is_instance
 returns-then-is_instance c =
     let l = c.loop-i in
-    ap (λ x. set c.args.pending l.i x) c.tell.ensures ∙ sym (l.invariant.2 ∙ told_here c.args.position c.args.node c.args.o _ l.i c.args.pending (search rules) (sym c.is_instance.ensures ∙ c.if-is_instance.true))
+    ap (λ x. set l.pending l.i x) c.tell.ensures ∙ sym (l.invariant ∙ told_here c.args.position c.args.node c.args.o _ l.i l.pending (omega arith) (sym c.is_instance.ensures ∙ c.if-is_instance.true))
 
 pub loop-i-preserved : goal.loop-i-preserved
 loop-i-preserved c =
-    let l = c.loop-i in (
-      search rules,
-      search rules,
-      l.invariant.2 ∙ told_past c.args.position c.args.node c.args.o _ l.i c.args.pending (search rules) (sym c.is_instance.ensures ∙ c.if-is_instance.false),
-    )
+    let l = c.loop-i in
+    l.invariant ∙ told_past c.args.position c.args.node c.args.o _ l.i l.pending (omega arith) (sym c.is_instance.ensures ∙ c.if-is_instance.false)
 
 pub returns : goal.returns
 returns c =
     let l = c.loop-i in
-    sym (l.invariant.2 ∙ told_none c.args.position c.args.node c.args.o _ l.i c.args.pending (search rules))
+    sym (l.invariant ∙ told_none c.args.position c.args.node c.args.o _ l.i l.pending (omega arith))

@@ -7,7 +7,7 @@ use Rattle.run_path.proofs.emitted.Goals as goal
 
 pub returns-in-Empty : goal.returns-in-Empty
 unfolding emitted_of
-returns-in-Empty c = rw c.empty_node-empty.ensures (sym (ap (emitted_of c.args.plan) c.in-Empty.is))
+returns-in-Empty c = sym (ap (emitted_of c.args.plan) c.in-Empty.is)
 
 pub activity_of-requires : goal.activity_of-requires
 activity_of-requires c =

@@ -5,7 +5,8 @@ use Rattle.plan.specs.declared.Node.{Node}
 use Rattle.plan.specs.declared.Output.{Output}
 use Rattle.plan.specs.declared.Activity.{Activity}
 use Rattle.plan.specs.declared.Plan.{Plan}
-use Rattle.activity.specs.Inner.Copied.{empty_node, copied}
+use Rattle.activity.specs.Inner.Copied.{copied}
+use Rattle.plan.specs.Nodes.{zero_node}
 use Rattle.times.specs.declared.Progress.{Progress}
 use Rattle.run_window.specs.Window.{vacant}
 use Rattle.run_window.specs.declared.Phase.{Phase}
@@ -15,7 +16,7 @@ use Rattle.run_path.specs.Path.{Path, is_work, taken_by, entries_by}
 
 -- the activity that a transition emits, copied out of the plan
 unfoldable pub emitted_of : Plan → Output → Activity
-emitted_of p Output.Empty = record { count = 0; nodes = replicate 64 empty_node }
+emitted_of p Output.Empty = record { count = 0; nodes = replicate 64 zero_node }
 emitted_of p (Output.Activity a) = copied p a
 
 -- how many nodes a transition emits whose activity has so many

@@ -1,5 +1,5 @@
 -- Two windows that hold the same nodes at other places: as many places are free, and a store, a search and new nodes respect it.
-use Rattle.std.specs.Prelude.{◌≡◌, refl, Bool, true, false, List, [], ◌∷◌, ℕ, suc, ◌-◌, ◌≤◌, ◌<◌, length, get_or, set}
+use Rattle.std.specs.Prelude.{◌≡◌, refl, Bool, true, false, List, [], ◌∷◌, ℕ, suc, ◌-◌, ◌≤◌, ◌<◌, length, get_or, set, Option, Some, None}
 use Rattle.std.proofs.Common.{sym, ◌∙◌, ap, subst, true≢false, ⊎_elim, arith, length-set}
 use Rattle.basis.specs.Inner.Tells.{Tells}
 use Rattle.basis.proofs.Laws.Tells.{tells, tells_iff, tells_same}
@@ -155,17 +155,17 @@ module _ (numbers : Entry → List ℕ) (telling : Telling numbers) (p : Entry �
       both : (i j : ℕ) (e x : Entry) → First p goes w i e → First p goes v j x → x ≡ e → P (f i e) (g j x)
       both i j e x a b q = rw q (one i j e a.passes (first_holds w i e a) (subst (Holds v j) q (first_holds v j x b)))
 
-      go : (r s : Found) → first p goes 0 w ≡ r → first p goes 0 v ≡ s → P (on_found r f y) (on_found s g z)
-      go Found.Nothing Found.Nothing a b = none
-      go Found.Nothing (Found.At j x) a b =
-          let m = first_found p goes order v j x b in
-          let s = back j x (first_holds v j x m) in
-          none_passing w s.0 x (first_nothing p goes order w a) s.1 m.passes
-      go (Found.At i e) Found.Nothing a b =
-          let m = first_found p goes order w i e a in
-          let t = there i e (first_holds w i e m) in
-          none_passing v t.0 e (first_nothing p goes order v b) t.1 m.passes
-      go (Found.At i e) (Found.At j x) a b =
-          let m = first_found p goes order w i e a in
-          let n = first_found p goes order v j x b in
-          both i j e x m n (same i j e x m n)
+      go : (r s : Option Found) → first p goes 0 w ≡ r → first p goes 0 v ≡ s → P (on_found r f y) (on_found s g z)
+      go None None a b = none
+      go None (Some y) a b =
+          let m = first_found p goes order v y.place y.entry b in
+          let s = back y.place y.entry (first_holds v y.place y.entry m) in
+          none_passing w s.0 y.entry (first_nothing p goes order w a) s.1 m.passes
+      go (Some x) None a b =
+          let m = first_found p goes order w x.place x.entry a in
+          let t = there x.place x.entry (first_holds w x.place x.entry m) in
+          none_passing v t.0 x.entry (first_nothing p goes order v b) t.1 m.passes
+      go (Some y) (Some z) a b =
+          let m = first_found p goes order w y.place y.entry a in
+          let n = first_found p goes order v z.place z.entry b in
+          both y.place z.place y.entry z.entry m n (same y.place z.place y.entry z.entry m n)

@@ -1,7 +1,9 @@
 -- One turn of a loop over the window: what the loop has worked out of the places behind, and of the place that it comes to.
-use Rattle.std.specs.Prelude.{◌≡◌, refl, Bool, true, false, cond, ◌&&◌, List, eqb, length, get_or, drop}
-use Rattle.std.proofs.Common.{sym, ◌∙◌, ap, subst, true≢false, arith, add-one, sub-one, drop_of_length-le}
+use Rattle.std.specs.Prelude.{◌≡◌, refl, Bool, true, false, cond, ◌&&◌, List, eqb, length, get_or, drop, Option, Some, None}
+use Rattle.std.proofs.Common.{sym, ◌∙◌, ap, subst, true≢false, arith, add-one, sub-one, one-add, drop_of_length-le}
 use Prim.Native.Nat.{ℕ, zero, suc, ◌+◌, ◌-◌, ◌≤◌, ◌<◌}
+use Rattle.std.specs.List.{count_by}
+use Rattle.std.proofs.lemmas.List.Recursion.{is_count_by}
 use Rattle.std.proofs.Math.Seq.{drop-cons}
 use Rattle.time.specs.declared.Clock.{Clock}
 use Rattle.plan.specs.declared.Node.{Node}
@@ -9,14 +11,14 @@ use Rattle.run_window.specs.declared.Entry.{Entry}
 use Rattle.run_window.specs.declared.Found.{Found}
 use Rattle.run_window.specs.declared.Ranked.{Ranked}
 use Rattle.run_window.specs.declared.Sought.{Sought}
-use Rattle.run_window.specs.Window.{is_free, is_node, precedes, rank_at, on_found, better, first, is_empty, vacancies}
+use Rattle.run_window.specs.Window.{is_free, is_node, precedes, rank_at, on_found, better, first, is_empty, vacancies, found_at}
 use Rattle.run_window.specs.Inner.Search.{is_sought, goes_by, sooner, ranked, ranked_of, better_by, kept_by, is_tied}
 use Rattle.run_window.specs.Where.{place_of}
 
 -- ---- the first of those that pass a test, from the back
 
 module _ (p : Entry → Bool) (goes : Entry → Entry → Bool) (w : List Entry) where
-  first-none : (i : ℕ) → length w ≤ i → Found.Nothing ≡ first p goes i (drop i w)
+  first-none : (i : ℕ) → length w ≤ i → None ≡ first p goes i (drop i w)
   unfolding first
   first-none i h = rw (drop_of_length-le w h)
 
@@ -33,24 +35,24 @@ module _ (p : Entry → Bool) (goes : Entry → Entry → Bool) (w : List Entry)
 -- ---- the same with its rank
 
 module _ (nodes : List Node) (s : Sought) where
-  kept_better : (i : ℕ) (e : Entry) (found : Found) → kept_by s i e (rank_at nodes e) (ranked_of nodes found) ≡ ranked_of nodes (cond (is_sought s e) (better (sooner nodes s) i e found) found)
+  kept_better : (i : ℕ) (e : Entry) (found : Option Found) → kept_by s i e (rank_at nodes e) (ranked_of nodes found) ≡ ranked_of nodes (cond (is_sought s e) (better (sooner nodes s) i e found) found)
   kept_better i e found = go (is_sought s e) found
     where
-      chosen : (b : Bool) (j : ℕ) (f : Entry) → cond b (ranked (Found.At j f) (rank_at nodes f)) (ranked (Found.At i e) (rank_at nodes e)) ≡ ranked_of nodes (cond b (Found.At j f) (Found.At i e))
+      chosen : (b : Bool) (j : ℕ) (f : Entry) → cond b (ranked (found_at j f) (rank_at nodes f)) (ranked (found_at i e) (rank_at nodes e)) ≡ ranked_of nodes (cond b (found_at j f) (found_at i e))
       chosen true j f = refl
       chosen false j f = refl
 
-      go : (b : Bool) (found : Found) → cond b (better_by s i e (rank_at nodes e) (ranked_of nodes found)) (ranked_of nodes found) ≡ ranked_of nodes (cond b (better (sooner nodes s) i e found) found)
+      go : (b : Bool) (found : Option Found) → cond b (better_by s i e (rank_at nodes e) (ranked_of nodes found)) (ranked_of nodes found) ≡ ranked_of nodes (cond b (better (sooner nodes s) i e found) found)
       go false found = refl
-      go true Found.Nothing = refl
-      go true (Found.At j f) = chosen (sooner nodes s f e) j f
+      go true None = refl
+      go true (Some x) = chosen (sooner nodes s x.entry e) x.place x.entry
 
   module _ (w : List Entry) where
     -- of the places from i on
     abbrev pub ranked_from : ℕ → Ranked
     ranked_from i = ranked_of nodes (first (is_sought s) (sooner nodes s) i (drop i w))
 
-    pub ranked_none : (i : ℕ) → length w ≤ i → ranked Found.Nothing 0 ≡ ranked_from i
+    pub ranked_none : (i : ℕ) → length w ≤ i → ranked None 0 ≡ ranked_from i
     ranked_none i h = ap (ranked_of nodes) (first-none (is_sought s) (sooner nodes s) w i h)
 
     pub ranked_turn : (d : Entry) (i : ℕ) → 0 < i → i ≤ length w → {r : ℕ} → r ≡ rank_at nodes (get_or w (i - 1) d) → {rest : Ranked} → rest ≡ ranked_from i
@@ -60,9 +62,9 @@ module _ (nodes : List Node) (s : Sought) where
     pub ranked_passed : (d : Entry) (i : ℕ) → 0 < i → i ≤ length w → is_sought s (get_or w (i - 1) d) ≡ false → ranked_from i ≡ ranked_from (i - 1)
     ranked_passed d i z h fails = ap (ranked_of nodes) (first_passed (is_sought s) (sooner nodes s) w d i z h fails)
 
-pub ranked_found : (nodes : List Node) (found : Found) → (ranked_of nodes found).found ≡ found
-ranked_found nodes Found.Nothing = refl
-ranked_found nodes (Found.At i e) = refl
+pub ranked_found : (nodes : List Node) (found : Option Found) → (ranked_of nodes found).found ≡ found
+ranked_found nodes None = refl
+ranked_found nodes (Some x) = refl
 
 -- ---- where no start ties, whatever the nodes are
 
@@ -76,7 +78,7 @@ ranks_apart (Sought.Node position node) x y u v f e h = refl
 
 -- entry e, where it is sought, goes by rank 0 as it goes by the ranks of the nodes
 abbrev pub Agrees : Sought → Entry → Ranked → Type 0
-Agrees s e r = (nodes : List Node) (j : ℕ) (f : Entry) → r.found ≡ Found.At j f → is_sought s e ≡ true → goes_by s r.rank 0 f e ≡ sooner nodes s f e
+Agrees s e r = (nodes : List Node) (j : ℕ) (f : Entry) → r.found ≡ found_at j f → is_sought s e ≡ true → goes_by s r.rank 0 f e ≡ sooner nodes s f e
 
 pub overdue_agrees : (psi t : Clock) (e : Entry) (r : Ranked) → Agrees (Sought.Overdue psi t) e r
 overdue_agrees psi t e r nodes j f p q = refl
@@ -84,7 +86,7 @@ overdue_agrees psi t e r nodes j f p q = refl
 pub untied_agrees : (s : Sought) (e : Entry) (r : Ranked) → is_tied s e r ≡ false → Agrees s e r
 untied_agrees s e r n nodes j f p q =
     ranks_apart s r.rank 0 (rank_at nodes f) (rank_at nodes e) f e
-    (apart (eqb f.start.0 e.start.0) (subst (λ (x : Found). on_found x (λ k g. cond (eqb g.start.0 e.start.0) (is_sought s e) false) false ≡ false) p n))
+    (apart (eqb f.start.0 e.start.0) (subst (λ (x : Option Found). on_found x (λ k g. cond (eqb g.start.0 e.start.0) (is_sought s e) false) false ≡ false) p n))
   where
     apart : (b : Bool) → cond b (is_sought s e) false ≡ false → b ≡ false
     apart true h = absurd (true≢false (sym q ∙ h))
@@ -94,22 +96,22 @@ module _ (s : Sought) (i : ℕ) (e : Entry) (r : Ranked) (agrees : Agrees s e r)
   kept_found : (nodes : List Node) → (kept_by s i e 0 r).found ≡ cond (is_sought s e) (better (sooner nodes s) i e r.found) r.found
   kept_found nodes = go (is_sought s e) refl r.found refl
     where
-      chosen : (b : Bool) (j : ℕ) (f : Entry) → r.found ≡ Found.At j f → (cond b r (ranked (Found.At i e) 0)).found ≡ cond b (Found.At j f) (Found.At i e)
+      chosen : (b : Bool) (j : ℕ) (f : Entry) → r.found ≡ found_at j f → (cond b r (ranked (found_at i e) 0)).found ≡ cond b (found_at j f) (found_at i e)
       chosen true j f q = q
       chosen false j f q = refl
 
-      go : (b : Bool) → is_sought s e ≡ b → (found : Found) → r.found ≡ found
-          → (cond b (on_found found (λ j f. cond (goes_by s r.rank 0 f e) r (ranked (Found.At i e) 0)) (ranked (Found.At i e) 0)) r).found ≡ cond b (better (sooner nodes s) i e found) found
+      go : (b : Bool) → is_sought s e ≡ b → (found : Option Found) → r.found ≡ found
+          → (cond b (on_found found (λ j f. cond (goes_by s r.rank 0 f e) r (ranked (found_at i e) 0)) (ranked (found_at i e) 0)) r).found ≡ cond b (better (sooner nodes s) i e found) found
       go false q found p = p
-      go true q Found.Nothing p = refl
-      go true q (Found.At j f) p = chosen (goes_by s r.rank 0 f e) j f p ∙ ap (λ (b : Bool). cond b (Found.At j f) (Found.At i e)) (agrees nodes j f p q)
+      go true q None p = refl
+      go true q (Some x) p = chosen (goes_by s r.rank 0 x.entry e) x.place x.entry p ∙ ap (λ (b : Bool). cond b (Some x) (found_at i e)) (agrees nodes x.place x.entry p q)
 
 module _ (s : Sought) (w : List Entry) where
   -- what was found of the places from i on
   abbrev pub FirstFrom : ℕ → Ranked → Type 0
   FirstFrom i r = (nodes : List Node) → r.found ≡ first (is_sought s) (sooner nodes s) i (drop i w)
 
-  pub scan_none : (i : ℕ) → length w ≤ i → FirstFrom i (ranked Found.Nothing 0)
+  pub scan_none : (i : ℕ) → length w ≤ i → FirstFrom i (ranked None 0)
   scan_none i h nodes = first-none (is_sought s) (sooner nodes s) w i h
 
   pub scan_passed : (d : Entry) (i : ℕ) → 0 < i → i ≤ length w → is_sought s (get_or w (i - 1) d) ≡ false → (r : Ranked) → FirstFrom i r → FirstFrom (i - 1) r
@@ -135,6 +137,12 @@ pub empty_all : (w : List Entry) (i : ℕ) → length w ≤ i → is_empty w ≡
 unfolding is_empty
 empty_all w i h inv = sym (inv ∙ rw (drop_of_length-le w h))
 
+-- ---- how many places are free
+
+pub vacancies_is : (w : List Entry) → vacancies w ≡ count_by (λ (e : Entry). is_free e.phase) w
+unfolding vacancies
+vacancies_is = is_count_by vacancies (λ (e : Entry). is_free e.phase) refl (λ e es. rw (one-add (vacancies es)))
+
 -- ---- where a node stands, from the front
 
 module _ (position node : ℕ) (w : List Entry) where
@@ -156,23 +164,3 @@ module _ (position node : ℕ) (w : List Entry) where
   pub where_nowhere : (i : ℕ) → length w ≤ i → FromOn i → i ≡ place_of position node w
   unfolding place_of
   where_nowhere i h inv = let s : place_of position node (drop i w) ≡ 0 = rw (drop_of_length-le w h) in omega (arith, inv)
-
--- ---- how many places are free, from the back
-
-pub vacancies_none : (w : List Entry) (i : ℕ) → length w ≤ i → 0 ≡ vacancies (drop i w)
-unfolding vacancies
-vacancies_none w i h = rw (drop_of_length-le w h)
-
-vacancies_split : (w : List Entry) (d : Entry) (i : ℕ) → 0 < i → i ≤ length w
-    → vacancies (drop (i - 1) w) ≡ cond (is_free (get_or w (i - 1) d).phase) (suc (vacancies (drop i w))) (vacancies (drop i w))
-unfolding vacancies
-vacancies_split w d zero z h = absurd (omega arith)
-vacancies_split w d (suc j) z h = rw (sub-one, drop-cons w j d)
-
-pub vacancies_here : (w : List Entry) (d : Entry) (i : ℕ) → 0 < i → i ≤ length w → {b : Bool} → b ≡ is_free (get_or w (i - 1) d).phase → b ≡ true
-    → vacancies (drop i w) + 1 ≡ vacancies (drop (i - 1) w)
-vacancies_here w d i z h e t = add-one (vacancies (drop i w)) ∙ sym (vacancies_split w d i z h ∙ rw (sym e ∙ t))
-
-pub vacancies_past : (w : List Entry) (d : Entry) (i : ℕ) → 0 < i → i ≤ length w → {b : Bool} → b ≡ is_free (get_or w (i - 1) d).phase → b ≡ false
-    → vacancies (drop i w) ≡ vacancies (drop (i - 1) w)
-vacancies_past w d i z h e t = sym (vacancies_split w d i z h ∙ rw (sym e ∙ t))

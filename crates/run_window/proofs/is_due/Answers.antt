@@ -1,19 +1,11 @@
--- `is_due` tells whether a node is loaded and its start on the clock has come.
-use mathlib.Core.Path.{ap}
-use Rattle.run_window.specs.Window.{is_held, is_due}
+use Rattle.std.proofs.Common.{rules}
+use Rattle.run_window.specs.Window.{is_due}
 use Rattle.run_window.proofs.is_due.Goals as goal
 
-pub to_clock-start-requires : goal.to_clock-start-requires
-to_clock-start-requires c = (c.requires.0, (c.requires.1 (ap is_held c.in-Loaded.is)).0)
-
-pub returns-in-Loaded : goal.returns-in-Loaded
+pub returns-then-eq : goal.returns-then-eq
 unfolding is_due
-returns-in-Loaded c = simp (c.in-Loaded.is, c.to_clock-start.ensures)
+returns-then-eq c = search rules
 
-pub returns-in-Started : goal.returns-in-Started
+pub returns-else-eq : goal.returns-else-eq
 unfolding is_due
-returns-in-Started c = simp c.in-Started.is
-
-pub returns-in-Free : goal.returns-in-Free
-unfolding is_due
-returns-in-Free c = simp c.in-Free.is
+returns-else-eq c = search rules

@@ -1,6 +1,5 @@
 -- `is_node` tells whether a place holds the node with an identity.
-use mathlib.Core.Path.{sym, ◌∙◌}
-use borrow.Author.Tests.{eq-eqb, ne_eqb}
+use Rattle.std.proofs.Common.{sym, ◌∙◌, eq-eqb, ne_eqb}
 use Rattle.run_window.specs.Window.{is_node}
 use Rattle.run_window.proofs.Laws.Tests.{free_unheld, unfree_held}
 use Rattle.run_window.proofs.is_node.Goals as goal
@@ -11,8 +10,8 @@ returns-then-is_free c = simp (free_unheld c.args.e.phase (sym c.is_free.ensures
 
 pub returns-then-e-position : goal.returns-then-e-position
 unfolding is_node
-returns-then-e-position c = simp (unfree_held c.args.e.phase (sym c.is_free.ensures ∙ c.if-is_free.false), eq-eqb _ _ c.if-e-position.true)
+returns-then-e-position c = rw (unfree_held c.args.e.phase (sym c.is_free.ensures ∙ c.if-is_free.false), eq-eqb _ _ c.if-e-position.true)
 
-pub returns : goal.returns
+pub returns-else-e-position : goal.returns-else-e-position
 unfolding is_node
-returns c = simp (unfree_held c.args.e.phase (sym c.is_free.ensures ∙ c.if-is_free.false), ne_eqb _ _ c.if-e-position.false)
+returns-else-e-position c = rw (unfree_held c.args.e.phase (sym c.is_free.ensures ∙ c.if-is_free.false), ne_eqb _ _ c.if-e-position.false)

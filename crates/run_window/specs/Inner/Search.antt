@@ -1,5 +1,5 @@
 -- What a call looks for in the window, and the first place that holds it: one definition for all of them.
-use Rattle.std.specs.Prelude.{◌≡◌, Bool, false, cond, ◌||◌, List, ℕ, ◌≤◌, eqb}
+use Rattle.std.specs.Prelude.{◌≡◌, Bool, false, cond, ◌||◌, List, ℕ, ◌≤◌, eqb, Option, Some, None}
 use Rattle.plan.specs.declared.Node.{Node}
 use Rattle.time.specs.Time.{horizon}
 use Rattle.time.specs.declared.Clock.{Clock}
@@ -9,7 +9,7 @@ use Rattle.run_window.specs.declared.Sought.{Sought}
 use Rattle.run_window.specs.declared.Seen.{Seen}
 use Rattle.run_window.specs.declared.Ranked.{Ranked}
 use Rattle.run_window.specs.declared.Scan.{Scan}
-use Rattle.run_window.specs.Window.{is_overdue, is_late, is_due, is_node, served, rank_at, ends_before, by_start, on_found, first}
+use Rattle.run_window.specs.Window.{is_overdue, is_late, is_due, is_node, served, rank_at, ends_before, by_start, on_found, first, found_at}
 
 abbrev pub is_sought : Sought → Entry → Bool
 is_sought (Sought.Overdue psi t) = is_overdue psi t
@@ -28,22 +28,22 @@ abbrev pub sooner : List Node → Sought → Entry → Entry → Bool
 sooner nodes sought a b = goes_by sought (rank_at nodes a) (rank_at nodes b) a b
 
 -- of the places that hold what is sought, the first in the order of ties
-abbrev pub first_of : List Node → Sought → List Entry → Found
+abbrev pub first_of : List Node → Sought → List Entry → Option Found
 first_of nodes sought w = first (is_sought sought) (sooner nodes sought) 0 w
 
 -- ---- with its rank, so that the node of each place is read once
 
-abbrev pub ranked : Found → ℕ → Ranked
+abbrev pub ranked : Option Found → ℕ → Ranked
 ranked found r = record { found = found; rank = r }
 
 -- what was found; 0 where nothing was
-abbrev pub ranked_of : List Node → Found → Ranked
-ranked_of nodes Found.Nothing = ranked Found.Nothing 0
-ranked_of nodes (Found.At i e) = ranked (Found.At i e) (rank_at nodes e)
+abbrev pub ranked_of : List Node → Option Found → Ranked
+ranked_of nodes None = ranked None 0
+ranked_of nodes (Some x) = ranked (Some x) (rank_at nodes x.entry)
 
 -- entry e of rank r at place i, unless what was found behind it goes before it
 abbrev pub better_by : Sought → ℕ → Entry → ℕ → Ranked → Ranked
-better_by sought i e r rest = on_found rest.found (λ j f. cond (goes_by sought rest.rank r f e) rest (ranked (Found.At i e) r)) (ranked (Found.At i e) r)
+better_by sought i e r rest = on_found rest.found (λ j f. cond (goes_by sought rest.rank r f e) rest (ranked (found_at i e) r)) (ranked (found_at i e) r)
 
 -- of place i with entry e and of what was found behind it
 abbrev pub kept_by : Sought → ℕ → Entry → ℕ → Ranked → Ranked

@@ -1,7 +1,8 @@
 -- One turn, and the end, of each loop whose definition goes down what is left: k of n from place i on. Assumes nothing.
-use Rattle.std.specs.Prelude.{◌≡◌, Bool, true, false, cond, List, ℕ, ◌+◌, ◌-◌, ◌≤◌, ◌<◌, max, get_or, set, ltb}
-use Rattle.std.proofs.Math.Path.{ap}
-use Rattle.std.proofs.Common.{◌∙◌}
+use Rattle.std.specs.Prelude.{◌≡◌, refl, Bool, true, false, cond, ◌||◌, List, [], ◌∷◌, ℕ, zero, suc, ◌+◌, ◌-◌, ◌≤◌, ◌<◌, max, take, get_or, set, ltb}
+use Rattle.std.specs.List.{list_any}
+use Rattle.std.proofs.Math.Path.{ap, ap₂}
+use Rattle.std.proofs.Common.{sym, ◌∙◌, arith}
 use Rattle.basis.specs.Parts.{part}
 use Rattle.basis.proofs.Laws.Parts.{fewer, none, part_step, part_end}
 use Rattle.basis.specs.Tests.{flag}
@@ -42,20 +43,31 @@ module _ (end : List Specified) (ms : List ℕ) (j n : ℕ) where
 
 -- ---- a time above 10^15
 
-module _ (ts : List Specified) (i n : ℕ) where
-  above_step : i < n → above_of ts i (n - i) ≡ cond (ltb horizon (at ts i)) true (above_of ts (i + 1) (n - (i + 1)))
-  unfolding above_of
-  above_step h = ap (above_of ts i) (fewer i n h)
+above_next : (t : Specified) (ts : List Specified) (k i j : ℕ) → j ≡ suc i → above_of (t ∷ ts) j k ≡ above_of ts i k
+unfolding above_of
+above_next t ts zero i j e = refl
+above_next t ts (suc k) i j e = ap₂ (λ (n : ℕ) (b : Bool). cond (ltb horizon n) true b) (ap (at (t ∷ ts)) e) (above_next t ts k (i + 1) (j + 1) (omega arith))
 
-  pub above_here : i < n → ltb horizon (at ts i) ≡ true → above_of ts i (n - i) ≡ true
-  above_here h e = above_step h ∙ ap (λ (b : Bool). cond b true (above_of ts (i + 1) (n - (i + 1)))) e
+above_first : (t : Specified) (ts : List Specified) (k : ℕ) → above_of (t ∷ ts) 0 (suc k) ≡ cond (ltb horizon t.0) true (above_of ts 0 k)
+unfolding above_of
+above_first t ts k = ap (λ (b : Bool). cond (ltb horizon t.0) true b) (above_next t ts k 0 (0 + 1) (omega arith))
 
-  pub above_on : i < n → ltb horizon (at ts i) ≡ false → above_of ts i (n - i) ≡ above_of ts (i + 1) (n - (i + 1))
-  above_on h e = above_step h ∙ ap (λ (b : Bool). cond b true (above_of ts (i + 1) (n - (i + 1)))) e
+-- of no times
+above_nowhere : (k i : ℕ) → above_of [] i k ≡ false
+unfolding above_of
+above_nowhere zero i = refl
+above_nowhere (suc k) i = above_nowhere k (i + 1)
 
-  pub above_end : n ≤ i → above_of ts i (n - i) ≡ false
-  unfolding above_of
-  above_end h = ap (above_of ts i) (none i n h)
+-- of the first n times
+pub above_any : (n : ℕ) (ts : List Specified) → list_any (λ (t : Specified). ltb horizon t.0) (take n ts) ≡ above_of ts 0 n
+unfolding above_of
+above_any zero ts = refl
+above_any (suc n) [] = sym (above_nowhere n (0 + 1))
+above_any (suc n) (t ∷ ts) = go (ltb horizon t.0) (above_any n ts) ∙ sym (above_first t ts n)
+  where
+    go : (b : Bool) {c d : Bool} → c ≡ d → (b || c) ≡ cond b true d
+    go true e = refl
+    go false e = e
 
 -- ---- availabilities raised
 

@@ -1,5 +1,5 @@
 -- Rounds in one loop: a node's turn, the end of a round, and a round that changes nothing. Assumes nothing.
-use Rattle.std.specs.Prelude.{◌≡◌, Bool, ◌⊎◌, ℕ, zero, suc, ◌+◌, ◌-◌, ◌≤◌, ◌<◌, get_or, set}
+use Rattle.std.specs.Prelude.{◌≡◌, Bool, ◌⊎◌, ℕ, ◌+◌, ◌-◌, ◌≤◌, ◌<◌, get_or}
 use Rattle.std.proofs.Math.Path.{refl, sym, ap}
 use Rattle.std.proofs.Common.{◌∙◌, subst}
 use Rattle.std.proofs.Math.Bool.{true, false}
@@ -15,48 +15,17 @@ use Rattle.plan.specs.declared.Kind.{Kind}
 use Rattle.plan.specs.declared.Node.{Node}
 use Rattle.plan.specs.declared.Activity.{Activity}
 use Rattle.times.specs.declared.Schedule.{Schedule}
-use Rattle.times.specs.Times.{at, ready_of, largest_of, start_by, start_of, placed_of, visit_of, round_of, rounds_of, unscheduled, schedule_of}
-use Rattle.times.specs.Limits.{KindFits}
-use Rattle.times.specs.Inner.Times.{Sound, numbers, claim_of, event_of, start_on, Rounding}
+use Rattle.times.specs.Times.{ready_of, largest_of, start_by, start_of, placed_of, visit_of, round_of, rounds_of, unscheduled, schedule_of}
+use Rattle.times.specs.Inner.Times.{Sound, Rounding}
 use Rattle.times.proofs.Laws.Rounds.{turn, round_end, visit_done, visit_waits, visit_placed, rounds_stop, rounds_on, schedule_begins, unscheduled_sound}
 
 -- ---- what a start looks up
 
-pub start_on_lem : (available latest : List Specified) (m : ℕ) (k : Kind) → start_by available latest m k ≡ start_on k m (at available (claim_of k)) (at latest (event_of k))
-start_on_lem available latest m (Kind.Action a p) = refl
-start_on_lem available latest m (Kind.Claim r) = refl
-start_on_lem available latest m (Kind.Release r) = refl
-start_on_lem available latest m (Kind.Event e) = refl
-
 pub start_found :
-    (available latest end : List Specified) (x : Node) {m c e : ℕ} → m ≡ largest_of end (predecessors x) → c ≡ claim_of x.kind → e ≡ event_of x.kind
-    → start_on x.kind m (at available c) (at latest e) ≡ start_of available latest end x
+    (available latest end : List Specified) (x : Node) {m : ℕ} {k : Kind} → x.kind ≡ k → m ≡ largest_of end (predecessors x)
+    → start_by available latest m k ≡ start_of available latest end x
 unfolding start_of
-start_found available latest end x p q r = rw (p, q, r) (sym (start_on_lem available latest (largest_of end (predecessors x)) x.kind))
-
-pub claim_low : (k : Kind) → KindFits 16 16 k → claim_of k < 16
-claim_low (Kind.Action a p) h = omega arith
-claim_low (Kind.Claim r) h = h
-claim_low (Kind.Release r) h = omega arith
-claim_low (Kind.Event e) h = omega arith
-
-pub event_low : (k : Kind) → KindFits 16 16 k → event_of k < 16
-event_low (Kind.Action a p) h = omega arith
-event_low (Kind.Claim r) h = omega arith
-event_low (Kind.Release r) h = omega arith
-event_low (Kind.Event e) h = h
-
--- ---- times as numbers
-
-pub number_at : (ts : List Specified) (i : ℕ) → get_or (numbers ts) i 0 ≡ at ts i
-number_at [] i = refl
-number_at (t ∷ ts) zero = refl
-number_at (t ∷ ts) (suc i) = number_at ts i
-
-pub number_set : (ts : List Specified) (i : ℕ) (t : Specified) → set (numbers ts) i t.0 ≡ numbers (set ts i t)
-number_set [] i t = refl
-number_set (x ∷ ts) zero t = refl
-number_set (x ∷ ts) (suc i) t = ap (λ l. x.0 ∷ l) (number_set ts i t)
+start_found available latest end x p q = rw (q, sym p)
 
 -- ---- a round that changes nothing
 
@@ -94,12 +63,12 @@ module _ (available latest : List Specified) where
 -- ---- the loop
 
 module _ (a : Activity) (available latest : List Specified) where
-  pub rounding_starts : (t : Schedule) → t ≡ unscheduled → Rounding a available latest a.count 0 0 t
+  pub rounding_starts : (t : Schedule) → t ≡ unscheduled → Rounding a available latest (a.count - 0) t.count 0 t
   rounding_starts t e = record {
     start = t;
-    all = schedule_begins available latest a t e;
+    all = schedule_begins available latest a t e ∙ ap (λ (k : ℕ). rounds_of available latest (nodes_of a) k t) (sym (sub-zero a.count));
     here = ap (λ (k : ℕ). round_of available latest 0 (part past_node a.nodes 0 k) t) (sym (sub-zero a.count));
-    same = ap (λ (z : Schedule). z.count) e;
+    same = refl;
     fresh = λ z. refl;
     sound = subst (Sound a.count) (sym e) (unscheduled_sound a.count);
   }

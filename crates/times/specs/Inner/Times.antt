@@ -1,12 +1,11 @@
 -- What the functions inside this crate ask of the numbers that they are given. No promise to a caller rests on it.
-use Rattle.std.specs.Prelude.{◌≡◌, List, map, ℕ, ◌+◌, ◌-◌, ◌*◌, ◌≤◌, ◌<◌, max, length, get_or}
+use Rattle.std.specs.Prelude.{◌≡◌, List, ℕ, ◌+◌, ◌-◌, ◌*◌, ◌≤◌, ◌<◌, length, get_or}
 use Rattle.basis.specs.Tests.{falses}
 use Rattle.time.specs.Time.{horizon}
 use Rattle.time.specs.declared.Specified.{Specified}
 use Rattle.plan.specs.Limits.{longest}
 use Rattle.basis.specs.Parts.{part}
 use Rattle.plan.specs.Plan.{past_node, nodes_of}
-use Rattle.plan.specs.declared.Kind.{Kind}
 use Rattle.plan.specs.declared.Node.{Node}
 use Rattle.plan.specs.declared.Activity.{Activity}
 use Rattle.times.specs.declared.Instance.{Instance}
@@ -48,32 +47,7 @@ pub record Leaving (a : Activity) (t : Schedule) : Type 0 where
   pub done : t.count ≤ 64
   pub within : (j : ℕ) → j < t.count → get_or t.order j 0 < a.count
 
--- ---- one node's turn
-
--- times as numbers
-abbrev pub numbers : List Specified → List ℕ
-numbers ts = map (λ (t : Specified). t.0) ts
-
--- the resource of a claim, 0 for another node
-abbrev pub claim_of : Kind → ℕ
-claim_of (Kind.Action a p) = 0
-claim_of (Kind.Claim r) = r
-claim_of (Kind.Release r) = 0
-claim_of (Kind.Event e) = 0
-
--- the event of an event's node, 0 for another node
-abbrev pub event_of : Kind → ℕ
-event_of (Kind.Action a p) = 0
-event_of (Kind.Claim r) = 0
-event_of (Kind.Release r) = 0
-event_of (Kind.Event e) = e
-
--- `start_by` with the one availability and the one last completion that it looks up
-abbrev pub start_on : Kind → ℕ → ℕ → ℕ → ℕ
-start_on (Kind.Action a p) m free last = m
-start_on (Kind.Claim r) m free last = free
-start_on (Kind.Release r) m free last = m
-start_on (Kind.Event e) m free last = max m last
+-- ---- the rounds
 
 -- in a round, which `from` done nodes began and of which the nodes from n on are left, with `left` rounds to go, this one
 -- included

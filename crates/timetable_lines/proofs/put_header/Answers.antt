@@ -4,4 +4,4 @@ use Rattle.timetable_lines.proofs.put_header.Goals as goal
 
 pub returns : goal.returns
 unfolding line
-returns c = c.put_list.ensures
+returns c = c.put_bytes.ensures

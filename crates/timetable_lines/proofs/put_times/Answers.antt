@@ -5,28 +5,23 @@ use lib.ListN.{get_or}
 use mathlib.Core.Path.{refl, ◌∙◌}
 use native.Mathlib.Nat.{sub-zero}
 use native.Mathlib.Omega.{arith}
-use borrow.Author.Rules.{rules}
 use Rattle.timetable_lines.proofs.put_times.Goals as goal
 
 pub loop-i-init : goal.loop-i-init
-loop-i-init c = (search rules, search rules, search rules, search rules, omega arith, refl, remains_all _ _ _ _ (rw sub-zero))
+loop-i-init c = (omega arith, refl, remains_all _ _ _ _ (rw sub-zero))
 
 pub put_after_space-off-requires : goal.put_after_space-off-requires
 put_after_space-off-requires c = omega arith
 
 pub loop-i-preserved : goal.loop-i-preserved
 loop-i-preserved c = (
-  omega arith,
-  search rules,
-  search rules,
-  search rules,
   omega (arith, c.put_after_space-off.ensures.past, decimal_length (get_or c.args.times c.loop-i.i (specified 0)).0),
-  c.put_after_space-off.auto.out ∙ c.loop-i.invariant.5,
-  remains_less _ _ _ _ _ _ _ _ _ _ (spaced_turn c.args.times c.args.count c.loop-i.i (omega arith)) c.loop-i.invariant.6 c.put_after_space-off.ensures,
+  c.put_after_space-off.auto.out ∙ c.loop-i.invariant.1,
+  remains_less _ _ _ _ _ _ _ _ _ _ (spaced_turn c.args.times c.args.count c.loop-i.i (omega arith)) c.loop-i.invariant.2 c.put_after_space-off.ensures,
 )
 
 pub put_newline-requires : goal.put_newline-requires
 put_newline-requires c = omega arith
 
 pub returns : goal.returns
-returns c = c.loop-i.invariant.6 _ _ (rw (spaced_end c.args.times c.args.count c.loop-i.i (omega arith)) c.put_newline.ensures)
+returns c = c.loop-i.invariant.2 _ _ (rw (spaced_end c.args.times c.args.count c.loop-i.i (omega arith)) c.put_newline.ensures)

@@ -1,8 +1,8 @@
 -- The text of each turn joins the text so far.
-use Rattle.std.specs.Prelude.{◌≡◌, false, ℕ, get_or}
+use Rattle.std.specs.Prelude.{◌≡◌, false, ℕ, get_or, None}
 use Rattle.std.proofs.Common.{ap, ◌∙◌, arith}
-use Rattle.timetable_steps.specs.declared.Heard.{Heard}
-use Rattle.timetable_steps.specs.Inner.Steps.{place_of, past_way}
+use Rattle.timetable_steps.specs.declared.Step.{Step}
+use Rattle.timetable_steps.specs.Inner.Steps.{place_of}
 use Rattle.timetable_streams.specs.Inner.Asking.{asks}
 use Rattle.timetable_turns.specs.Inner.Turn.{waits_of}
 use Rattle.timetable_turns.proofs.Laws.Stepping.{turn_parts, step_fitting}
@@ -65,7 +65,7 @@ loop-left-preserved g c =
     let keeps = c.keep-kept.ensures.keeps in
     let went = c.keep-kept.ensures.went in
     let turn = goes p asked heard _ _ c.put_step-drafted.result drafted l.invariant.size stood more _ _ _ keeps.hands (record { onward = went.onward; bytes = went.bytes }) keeps.room _ c.counted-taken.ensures _ keeps.left in
-    let unheard = ap (λ (i : ℕ). (get_or c.steps_of-steps.result i past_way).step) c.index_of-i.ensures.value ∙ c.steps_of-steps.ensures.looked l.progress.state Heard.Nothing within.progress.state in
+    let unheard = ap (λ (i : ℕ). get_or c.steps_of-steps.result i Step.Ends) c.index_of-i.ensures.value ∙ c.steps_of-steps.ensures.looked l.progress.state None within.progress.state in
     let unasked = λ (w : waits_of p l.progress ≡ false). c.ask-asked.ensures.asks.unasked (ap asks unheard ∙ step_asks p l.progress ∙ w) in
     record {
       size = c.put_step-drafted.auto.out ∙ l.invariant.size;

@@ -4,7 +4,6 @@ use Rattle.std.specs.Io.KnownBytes.{Appends, Consumes}
 use Rattle.plan.specs.declared.Plan.{Plan}
 use Rattle.timetable_turns.specs.Inner.Turn.{turn_of, turns_from, read_after, most_turns, Open}
 use Rattle.timetable_turns.specs.Timetable.{text_of_plan}
-use Rattle.timetable_steps.specs.declared.Heard.{Heard}
 use Rattle.timetable_streams.specs.declared.Output.{Output}
 use Rattle.timetable_streams.specs.Inner.Gathering.{Gathers}
 use Rattle.timetable_output.specs.declared.Between.{Between}
@@ -25,7 +24,7 @@ abbrev pub Went : Option (List ℕ) → Option (List ℕ) → List ℕ → Outpu
 Went start written text o = Appends start written (take o.handed text)
 
 -- one turn of the table, handed an outcome byte or none; after output that failed there is no other
-pub record Goes (p : Plan) (b : Between) (heard : Heard) (before after : List ℕ) (written writes : Option (List ℕ)) (r : Between) : Type 0 where
+pub record Goes (p : Plan) (b : Between) (heard : Option ℕ) (before after : List ℕ) (written writes : Option (List ℕ)) (r : Between) : Type 0 where
   pub stands : Stands p r
   pub gathers : (text : List ℕ) → Gathers text before b.output → Gathers (text ++ (turn_of p b.progress b.taken heard).text) after r.output
   pub progress : r.progress ≡ (turn_of p b.progress b.taken heard).progress

@@ -6,8 +6,8 @@ use Rattle.timetable_steps.specs.Inner.Steps.{chosen_step}
 use Rattle.timetable_steps.proofs.Laws.Steps.{below, heard_had, heard_lacked}
 use Rattle.timetable_steps.proofs.heard_step.Goals as goal
 
-pub returns-in-Nothing : goal.returns-in-Nothing
-returns-in-Nothing c = simp c.in-Nothing.is
+pub returns-in-None : goal.returns-in-None
+returns-in-None c = simp c.in-None.is
 
 pub chosen_step-requires : goal.chosen_step-requires
 chosen_step-requires c = below c.args.a c.requires.0 c.args.s c.args.e _ _ c.chosen_of-chosen.ensures
@@ -15,8 +15,8 @@ chosen_step-requires c = below c.args.a c.requires.0 c.args.s c.args.e _ _ c.cho
 pub returns-then-o-outcomes : goal.returns-then-o-outcomes
 returns-then-o-outcomes c =
     c.chosen_step.ensures ∙ ap (chosen_step c.args.a c.args.e) c.chosen_of-chosen.ensures
-    ∙ heard_had c.args.a c.args.outcomes c.args.s c.args.e c.in-Outcome.o c.args.heard c.in-Outcome.is (subst (λ (k : ℕ). c.in-Outcome.o < get_or c.args.outcomes k 0) c.u8_to_usize-i.ensures c.if-o-outcomes.true)
+    ∙ heard_had c.args.a c.args.outcomes c.args.s c.args.e c.in-Some.o c.args.heard c.in-Some.is (subst (λ (k : ℕ). c.in-Some.o < get_or c.args.outcomes k 0) c.from-i.ensures c.if-o-outcomes.true)
 
-pub returns-in-Outcome : goal.returns-in-Outcome
-returns-in-Outcome c =
-    heard_lacked c.args.a c.args.outcomes c.args.s c.args.e c.in-Outcome.o c.args.heard c.in-Outcome.is (subst (λ (k : ℕ). get_or c.args.outcomes k 0 ≤ c.in-Outcome.o) c.u8_to_usize-i.ensures c.if-o-outcomes.false)
+pub returns-in-Some : goal.returns-in-Some
+returns-in-Some c =
+    heard_lacked c.args.a c.args.outcomes c.args.s c.args.e c.in-Some.o c.args.heard c.in-Some.is (subst (λ (k : ℕ). get_or c.args.outcomes k 0 ≤ c.in-Some.o) c.from-i.ensures c.if-o-outcomes.false)

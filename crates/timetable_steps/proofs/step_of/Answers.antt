@@ -18,11 +18,11 @@ pub bounds-a-i : goal.bounds-a-i
 bounds-a-i c =
     let n = c.next_of-next in
     let u = goes_below c.args.a c.args.s _ (sym n.ensures ∙ c.in-Goes.is) in
-    omega (arith, c.u16_to_usize-i.ensures, c.requires.few)
+    omega (arith, c.from-i.ensures, c.requires.few)
 
 pub returns-in-Goes : goal.returns-in-Goes
 returns-in-Goes c =
-    ap (λ (i : ℕ). Step.Takes (move c.args.a i) false) c.u16_to_usize-i.ensures ∙ step_as c.args.a c.args.outcomes c.args.s c.args.heard _ _ c.next_of-next.ensures c.in-Goes.is
+    ap (λ (i : ℕ). Step.Takes (move c.args.a i) false) c.from-i.ensures ∙ step_as c.args.a c.args.outcomes c.args.s c.args.heard _ _ c.next_of-next.ensures c.in-Goes.is
 
 pub heard_step-requires : goal.heard_step-requires
 heard_step-requires c = (c.requires.few, c.requires.awaited _ (sym c.next_of-next.ensures ∙ c.in-Waits.is))

@@ -1,5 +1,5 @@
 -- What a turn of the table does at a state, handed an outcome byte or none; and the tables in which it is looked up.
-use Rattle.std.specs.Prelude.{◌≡◌, true, false, cond, List, [], ℕ, ◌+◌, ◌*◌, ◌≤◌, ◌<◌, ltb, get_or}
+use Rattle.std.specs.Prelude.{◌≡◌, true, false, cond, List, [], ℕ, ◌+◌, ◌*◌, ◌≤◌, ◌<◌, ltb, get_or, Option, None, Some}
 use Rattle.plan.specs.Plan.{move}
 use Rattle.plan.specs.Limits.{OutputNames}
 use Rattle.plan.specs.declared.Output.{Output}
@@ -8,31 +8,28 @@ use Rattle.plan.specs.declared.Automaton.{Automaton}
 use Rattle.plan.specs.declared.Plan.{Plan}
 use Rattle.automaton.specs.Next.{next_of, chosen_of}
 use Rattle.automaton.specs.declared.Next.{Next}
-use Rattle.automaton.specs.declared.Chosen.{Chosen}
 use Rattle.run_path.specs.Inner.Path.{emitted_of}
-use Rattle.timetable_steps.specs.declared.Heard.{Heard}
 use Rattle.timetable_steps.specs.declared.Step.{Step}
-use Rattle.timetable_steps.specs.declared.Way.{Way}
 
 -- ---- one step
 
 -- the transition of an outcome of event e, if the state has one
-abbrev pub chosen_step : Automaton → ℕ → Chosen → Step
-chosen_step a e Chosen.Nothing = Step.Waits e
-chosen_step a e (Chosen.Move t) = Step.Takes (move a t) true
+abbrev pub chosen_step : Automaton → ℕ → Option ℕ → Step
+chosen_step a e None = Step.Waits e
+chosen_step a e (Some t) = Step.Takes (move a t) true
 
 -- at state s, which waits for event e; "55 for an outcome the event lacks"
-abbrev pub heard_step : Automaton → List ℕ → ℕ → ℕ → Heard → Step
-heard_step a outcomes s e Heard.Nothing = Step.Waits e
-heard_step a outcomes s e (Heard.Outcome o) = cond (ltb o (get_or outcomes e 0)) (chosen_step a e (chosen_of a s e o)) Step.Lacks
+abbrev pub heard_step : Automaton → List ℕ → ℕ → ℕ → Option ℕ → Step
+heard_step a outcomes s e None = Step.Waits e
+heard_step a outcomes s e (Some o) = cond (ltb o (get_or outcomes e 0)) (chosen_step a e (chosen_of a s e o)) Step.Lacks
 
-abbrev pub next_step : Automaton → List ℕ → ℕ → Heard → Next → Step
+abbrev pub next_step : Automaton → List ℕ → ℕ → Option ℕ → Next → Step
 next_step a outcomes s heard Next.Ended = Step.Ends
 next_step a outcomes s heard (Next.Goes t) = Step.Takes (move a t) false
 next_step a outcomes s heard (Next.Waits e) = heard_step a outcomes s e heard
 
 -- by what the state does next
-unfoldable pub step_of : Automaton → List ℕ → ℕ → Heard → Step
+unfoldable pub step_of : Automaton → List ℕ → ℕ → Option ℕ → Step
 step_of a outcomes s heard = next_step a outcomes s heard (next_of a s)
 
 -- what a step emits; one that closes the table, nothing
@@ -44,9 +41,9 @@ output_of (Step.Takes m heard) = m.output
 
 -- ---- what is asked
 
-abbrev pub Below : Chosen → Type 0
-Below Chosen.Nothing = Unit {0}
-Below (Chosen.Move t) = t < 256
+abbrev pub Below : Option ℕ → Type 0
+Below None = Unit {0}
+Below (Some t) = t < 256
 
 pub record Named (a : Automaton) (s : ℕ) : Type 0 where
   pub few : a.count ≤ 256
@@ -55,22 +52,19 @@ pub record Named (a : Automaton) (s : ℕ) : Type 0 where
 -- ---- the tables
 
 -- a state has ten places: for the outcomes 0 to 7, for every other byte, and for none
-abbrev pub column_of : Heard → ℕ
-column_of Heard.Nothing = 9
-column_of (Heard.Outcome o) = cond (ltb o 8) o 8
+abbrev pub column_of : Option ℕ → ℕ
+column_of None = 9
+column_of (Some o) = cond (ltb o 8) o 8
 
-abbrev pub heard_as : ℕ → Heard
-heard_as column = cond (ltb column 9) (Heard.Outcome column) Heard.Nothing
-
-abbrev pub past_way : Way
-past_way = record { step = Step.Ends }
+abbrev pub heard_as : ℕ → Option ℕ
+heard_as column = cond (ltb column 9) (Some column) None
 
 abbrev pub past_activity : Activity
 past_activity = record { count = 0; nodes = [] }
 
 -- every step of the plan stands at its place
-pub record Looks (p : Plan) (ways : List Way) : Type 0 where
-  pub looked : (s : ℕ) (heard : Heard) → s < p.automaton.states → (get_or ways (10 * s + column_of heard) past_way).step ≡ step_of p.automaton p.outcomes s heard
+pub record Looks (p : Plan) (steps : List Step) : Type 0 where
+  pub looked : (s : ℕ) (heard : Option ℕ) → s < p.automaton.states → get_or steps (10 * s + column_of heard) Step.Ends ≡ step_of p.automaton p.outcomes s heard
 
 -- an activity stands at its number, the empty one past the last
 abbrev pub place_of : Output → ℕ

@@ -1,6 +1,5 @@
 -- An outcome byte, read where a turn waits for one.
-use Rattle.std.specs.Prelude.{◌≡◌, Bool, true, false, List, [], ◌∷◌, ℕ, ◌≤◌}
-use Rattle.timetable_steps.specs.declared.Heard.{Heard}
+use Rattle.std.specs.Prelude.{◌≡◌, Bool, true, false, List, [], ◌∷◌, ℕ, ◌≤◌, Option, Some, None}
 use Rattle.timetable_steps.specs.declared.Step.{Step}
 use Rattle.timetable_streams.specs.declared.Output.{Output}
 use Rattle.timetable_streams.specs.declared.Outcomes.{Outcomes}
@@ -8,9 +7,9 @@ use Rattle.timetable_streams.specs.declared.Asked.{Asked}
 use Rattle.timetable_streams.specs.Inner.Gathering.{HandsOn}
 
 -- the byte that was heard, if one was
-abbrev pub heard_bytes : Heard → List ℕ
-heard_bytes Heard.Nothing = []
-heard_bytes (Heard.Outcome byte) = byte ∷ []
+abbrev pub heard_bytes : Option ℕ → List ℕ
+heard_bytes None = []
+heard_bytes (Some byte) = byte ∷ []
 
 -- whether the turn waits for an outcome byte
 abbrev pub asks : Step → Bool
@@ -34,4 +33,4 @@ pub record Listens (out : List ℕ) (o : Output) (r : Asked) : Type 0 where
 -- a byte is taken only where the turn asks for one
 pub record Asks (out : List ℕ) (o : Output) (unheard : Step) (r : Asked) : Type 0 where
   pub listens : Listens out o r
-  pub unasked : asks unheard ≡ false → r.heard ≡ Heard.Nothing
+  pub unasked : asks unheard ≡ false → r.heard ≡ None

@@ -1,5 +1,5 @@
 -- `table_by_turns`: the texts of the turns, one after the other, are the table. Assumes nothing.
-use Rattle.std.specs.Prelude.{◌≡◌, ℕ, zero, suc, ◌+◌, ◌*◌, ◌≤◌, ◌<◌, ltb, length, take, drop}
+use Rattle.std.specs.Prelude.{◌≡◌, ℕ, zero, suc, ◌+◌, ◌*◌, ◌≤◌, ◌<◌, ltb, length, take, drop, Option, None, Some, Ok, Err}
 use Rattle.std.proofs.Math.Path.{refl, sym, ap}
 use Rattle.std.proofs.Common.{◌∙◌, arith}
 use Rattle.std.proofs.Math.Bool.{Bool, true, false, cond}
@@ -9,14 +9,13 @@ use Rattle.basis.proofs.Laws.Bools.{clash}
 use Rattle.plan.specs.Plan.{outcomes_of, emitted_by, move}
 use Rattle.plan.specs.Fault.{number_of}
 use Rattle.plan.specs.declared.Fault.{Fault}
-use Rattle.plan.specs.declared.Verdict.{Verdict}
+use Rattle.plan.specs.Verdict.{Verdict}
 use Rattle.plan.specs.declared.Node.{Node}
 use Rattle.plan.specs.declared.Input.{Input}
 use Rattle.plan.specs.declared.Plan.{Plan}
 use Rattle.judge.specs.Judge.{judge_of}
 use Rattle.automaton.specs.Next.{next_of, chosen_of}
 use Rattle.automaton.specs.declared.Next.{Next}
-use Rattle.automaton.specs.declared.Chosen.{Chosen}
 use Rattle.times.specs.Times.{schedule_of, order_of}
 use Rattle.times.specs.Queues.{processed_of, floor_of}
 use Rattle.times.specs.Engine.{last_position, held_of, left_of, beyond_of, closed_of, emits_of, timed_of, advance_of}
@@ -25,7 +24,6 @@ use Rattle.times.specs.declared.Progress.{Progress}
 use Rattle.run_path.specs.Path.{taken_by, entries_by}
 use Rattle.run_outcomes.specs.Way.{on_chosen}
 use Rattle.timetable_lines.specs.Lines.{header, rows, ended, waiting, refused}
-use Rattle.timetable_steps.specs.declared.Heard.{Heard}
 use Rattle.timetable_turns.specs.Timetable.{Move, on_move, move_by, hear, table_from, positions, text_of_plan, judged_text, timetable_of}
 use Rattle.timetable_turns.specs.Inner.Turn.{OneTurn, closes, takes, chooses, hears, turn_by, turn_of, is_waiting, waits_of, head_of, read_after, left_after, turns_from, most_turns, is_refused, first_text, first_progress}
 
@@ -83,17 +81,17 @@ module _ (p : Plan) (g : Progress) (read : ℕ) (f : ℕ → List ℕ → Progre
       go true = sym (append-nil (refused 44 g.position))
       go false = refl
 
-  chooses_by : (e o : ℕ) (os : List ℕ) (c : Chosen) → moved p g (on_chosen c (λ t. Move.Takes t (read + 1) os) (Move.Closes (waiting p g e))) f ≡ joined (chooses p g e c) read (o ∷ os) f
+  chooses_by : (e o : ℕ) (os : List ℕ) (c : Option ℕ) → moved p g (on_chosen c (λ t. Move.Takes t (read + 1) os) (Move.Closes (waiting p g e))) f ≡ joined (chooses p g e c) read (o ∷ os) f
   unfolding chooses
-  chooses_by e o os Chosen.Nothing = closed_by (waiting p g e) (o ∷ os)
-  chooses_by e o os (Chosen.Move t) = hears_by t o os
+  chooses_by e o os None = closed_by (waiting p g e) (o ∷ os)
+  chooses_by e o os (Some t) = hears_by t o os
 
   waits_by : (e : ℕ) (os : List ℕ) → moved p g (hear p g e read os) f ≡ joined (hears p g e read (head_of os)) read os f
   unfolding hears
   waits_by e [] = closed_by (waiting p g e) []
   waits_by e (o ∷ os) = go (ltb o (outcomes_of p e))
     where
-      c : Chosen
+      c : Option ℕ
       c = chosen_of p.automaton g.state e o
 
       go : (b : Bool) → moved p g (cond b (on_chosen c (λ t. Move.Takes t (read + 1) os) (Move.Closes (waiting p g e))) (Move.Closes (refused 55 read))) f ≡ joined (cond b (chooses p g e c) (closes g (refused 55 read))) read (o ∷ os) f
@@ -125,15 +123,15 @@ module _ (p : Plan) (g : Progress) where
       go true e = clash e
       go false e = position_on p.resources (emitted_by p (move p.automaton t).output) (move p.automaton t).input (move p.automaton t).to g
 
-  chooses_position : (e : ℕ) (c : Chosen) → (chooses p g e c).closed ≡ false → (chooses p g e c).progress.position ≡ g.position + 1
+  chooses_position : (e : ℕ) (c : Option ℕ) → (chooses p g e c).closed ≡ false → (chooses p g e c).progress.position ≡ g.position + 1
   unfolding chooses
-  chooses_position e Chosen.Nothing h = clash h
-  chooses_position e (Chosen.Move t) h = takes_position true t h
+  chooses_position e None h = clash h
+  chooses_position e (Some t) h = takes_position true t h
 
-  hears_position : (e read : ℕ) (h : Heard) → (hears p g e read h).closed ≡ false → (hears p g e read h).progress.position ≡ g.position + 1
+  hears_position : (e read : ℕ) (h : Option ℕ) → (hears p g e read h).closed ≡ false → (hears p g e read h).progress.position ≡ g.position + 1
   unfolding hears
-  hears_position e read Heard.Nothing k = clash k
-  hears_position e read (Heard.Outcome o) k = go (ltb o (outcomes_of p e)) k
+  hears_position e read None k = clash k
+  hears_position e read (Some o) k = go (ltb o (outcomes_of p e)) k
     where
       x : Bool → OneTurn
       x b = cond b (chooses p g e (chosen_of p.automaton g.state e o)) (closes g (refused 55 read))
@@ -142,14 +140,14 @@ module _ (p : Plan) (g : Progress) where
       go true k = chooses_position e (chosen_of p.automaton g.state e o) k
       go false k = clash k
 
-  by_position : (read : ℕ) (h : Heard) (n : Next) → (turn_by p g read h n).closed ≡ false → (turn_by p g read h n).progress.position ≡ g.position + 1
+  by_position : (read : ℕ) (h : Option ℕ) (n : Next) → (turn_by p g read h n).closed ≡ false → (turn_by p g read h n).progress.position ≡ g.position + 1
   unfolding turn_by
   by_position read h Next.Ended k = clash k
   by_position read h (Next.Goes t) k = takes_position false t k
   by_position read h (Next.Waits e) k = hears_position e read h k
 
   -- a turn that does not close the table takes one position
-  pub turn_position : (read : ℕ) (h : Heard) → (turn_of p g read h).closed ≡ false → (turn_of p g read h).progress.position ≡ g.position + 1
+  pub turn_position : (read : ℕ) (h : Option ℕ) → (turn_of p g read h).closed ≡ false → (turn_of p g read h).progress.position ≡ g.position + 1
   unfolding turn_of
   turn_position read h k = by_position read h (next_of p.automaton g.state) k
 
@@ -162,17 +160,17 @@ module _ (p : Plan) (g : Progress) (past : last_position < g.position) where
   unfolding takes
   last_takes heard t = rw (stopped t)
 
-  last_chooses : (e read : ℕ) (os : List ℕ) (c : Chosen) → on_move (on_chosen c (λ t. Move.Takes t (read + 1) os) (Move.Closes (waiting p g e))) (λ t r rest. refused 44 g.position) (λ text. text) ≡ (chooses p g e c).text
+  last_chooses : (e read : ℕ) (os : List ℕ) (c : Option ℕ) → on_move (on_chosen c (λ t. Move.Takes t (read + 1) os) (Move.Closes (waiting p g e))) (λ t r rest. refused 44 g.position) (λ text. text) ≡ (chooses p g e c).text
   unfolding chooses
-  last_chooses e read os Chosen.Nothing = refl
-  last_chooses e read os (Chosen.Move t) = last_takes true t
+  last_chooses e read os None = refl
+  last_chooses e read os (Some t) = last_takes true t
 
   last_hears : (e read : ℕ) (os : List ℕ) → on_move (hear p g e read os) (λ t r rest. refused 44 g.position) (λ text. text) ≡ (hears p g e read (head_of os)).text
   unfolding hears
   last_hears e read [] = refl
   last_hears e read (o ∷ os) = go (ltb o (outcomes_of p e))
     where
-      c : Chosen
+      c : Option ℕ
       c = chosen_of p.automaton g.state e o
 
       go : (b : Bool) → on_move (cond b (on_chosen c (λ t. Move.Takes t (read + 1) os) (Move.Closes (waiting p g e))) (Move.Closes (refused 55 read))) (λ t r rest. refused 44 g.position) (λ text. text) ≡ (cond b (chooses p g e c) (closes g (refused 55 read))).text
@@ -216,8 +214,8 @@ plan_by_turns bytes outcomes = go (judge_of bytes).verdict
     p = (judge_of bytes).plan
 
     go : (v : Verdict) → first_text v ++ cond (is_refused v) [] (turns_from p most_turns 0 outcomes (first_progress p)) ≡ judged_text v p outcomes
-    go Verdict.Accepted = ap (λ (l : List ℕ). header ++ l) (table_by_turns p positions 0 outcomes (first_progress p) (omega arith))
-    go (Verdict.Refused f place) = append-nil _
+    go (Ok u) = ap (λ (l : List ℕ). header ++ l) (table_by_turns p positions 0 outcomes (first_progress p) (omega arith))
+    go (Err e) = append-nil _
 
 -- the whole input: the length, the plan and the outcome bytes
 pub input_by_turns : (a b : ℕ) (rest : List ℕ) → a + 256 * b ≤ length rest
@@ -237,11 +235,11 @@ input_cut a b rest h =
     ap (λ (c : Bool). cond c (text_of_plan (take (a + 256 * b) rest) (drop (a + 256 * b) rest)) (refused (number_of Fault.Ends) (length rest))) (lt-leb (a + 256 * b) (length rest) h)
 
 -- a turn that asks for no outcome byte is the same without one
-pub unheard : (p : Plan) (g : Progress) (read : ℕ) (h : Heard) → waits_of p g ≡ false → turn_of p g read h ≡ turn_of p g read Heard.Nothing
+pub unheard : (p : Plan) (g : Progress) (read : ℕ) (h : Option ℕ) → waits_of p g ≡ false → turn_of p g read h ≡ turn_of p g read None
 unfolding turn_of turn_by
 unheard p g read h = go (next_of p.automaton g.state)
   where
-    go : (n : Next) → is_waiting n ≡ false → turn_by p g read h n ≡ turn_by p g read Heard.Nothing n
+    go : (n : Next) → is_waiting n ≡ false → turn_by p g read h n ≡ turn_by p g read None n
     go Next.Ended e = refl
     go (Next.Goes t) e = refl
     go (Next.Waits e) k = clash k

@@ -1,5 +1,5 @@
 -- How long the first line and the text of a turn are, at most: 50 bytes, and 64 rows. Assumes nothing.
-use Rattle.std.specs.Prelude.{◌≡◌, refl, Bool, cond, List, [], ◌∷◌, ℕ, suc, ◌+◌, ◌*◌, ◌≤◌, ◌<◌, ltb}
+use Rattle.std.specs.Prelude.{◌≡◌, refl, Bool, cond, List, [], ◌∷◌, ℕ, suc, ◌+◌, ◌*◌, ◌≤◌, ◌<◌, ltb, Option, None, Some, Ok, Err}
 use Rattle.std.proofs.Common.{ap, length-append}
 use Rattle.std.proofs.Math.Bool.{true, false}
 use native.Mathlib.Omega.{arith}
@@ -8,13 +8,12 @@ use Rattle.basis.proofs.Laws.PartsHold.{length_part}
 use Rattle.plan.specs.Plan.{outcomes_of, emitted_by, move, past_node}
 use Rattle.plan.specs.Limits.{InLimits, OutputNames}
 use Rattle.plan.specs.Fault.{number_of}
-use Rattle.plan.specs.declared.Verdict.{Verdict}
+use Rattle.plan.specs.Verdict.{Verdict}
 use Rattle.plan.specs.declared.Node.{Node}
 use Rattle.plan.specs.declared.Output.{Output}
 use Rattle.plan.specs.declared.Plan.{Plan}
 use Rattle.automaton.specs.Next.{next_of, chosen_of}
 use Rattle.automaton.specs.declared.Next.{Next}
-use Rattle.automaton.specs.declared.Chosen.{Chosen}
 use Rattle.times.specs.declared.Progress.{Progress}
 use Rattle.times.specs.declared.Schedule.{Schedule}
 use Rattle.run_path.specs.Path.{is_work, loaded, activity_number, entries_from, taken_by, entries_by}
@@ -24,7 +23,6 @@ use Rattle.run_path.proofs.Laws.Emitting.{emitted_nodes, emitted_fits}
 use Rattle.run_path.proofs.Laws.Stepping.{next_leads}
 use Rattle.timetable_lines.specs.Lines.{row, rows, refused}
 use Rattle.timetable_lines.proofs.Laws.Lines.{header_length, row_within, ended_length, waiting_length, refused_length}
-use Rattle.timetable_steps.specs.declared.Heard.{Heard}
 use Rattle.timetable_steps.proofs.Laws.Steps.{chosen_below}
 use Rattle.timetable_turns.specs.Inner.Turn.{closes, takes, chooses, hears, turn_by, turn_of, first_text, Open}
 
@@ -49,8 +47,8 @@ number_small p h (Output.Activity a) l = let u = h.activities in omega arith
 -- ---- the first line
 
 pub first_short : (v : Verdict) → length (first_text v) ≤ 50
-first_short Verdict.Accepted = let u = header_length in omega arith
-first_short (Verdict.Refused f place) = refused_length (number_of f) place
+first_short (Ok z) = let u = header_length in omega arith
+first_short (Err e) = refused_length (number_of e.fault) e.place
 
 -- ---- a turn
 
@@ -78,27 +76,27 @@ module _ (p : Plan) (g : Progress) (within : Open p g) where
       go true u v = omega arith
       go false u v = v
 
-  chooses_short : (e : ℕ) (c : Chosen) → ((t : ℕ) → c ≡ Chosen.Move t → t < p.automaton.count) → length (chooses p g e c).text ≤ longest_turn
+  chooses_short : (e : ℕ) (c : Option ℕ) → ((t : ℕ) → c ≡ Some t → t < p.automaton.count) → length (chooses p g e c).text ≤ longest_turn
   unfolding chooses
-  chooses_short e Chosen.Nothing l = let u = waiting_length p.resources g within.plan.resources e in omega arith
-  chooses_short e (Chosen.Move t) l = takes_short true t (l t refl)
+  chooses_short e None l = let u = waiting_length p.resources g within.plan.resources e in omega arith
+  chooses_short e (Some t) l = takes_short true t (l t refl)
 
-  hears_short : (e read : ℕ) (h : Heard) → length (hears p g e read h).text ≤ longest_turn
+  hears_short : (e read : ℕ) (h : Option ℕ) → length (hears p g e read h).text ≤ longest_turn
   unfolding hears
-  hears_short e read Heard.Nothing = let u = waiting_length p.resources g within.plan.resources e in omega arith
-  hears_short e read (Heard.Outcome o) = go (ltb o (outcomes_of p e))
+  hears_short e read None = let u = waiting_length p.resources g within.plan.resources e in omega arith
+  hears_short e read (Some o) = go (ltb o (outcomes_of p e))
     where
       go : (b : Bool) → length (cond b (chooses p g e (chosen_of p.automaton g.state e o)) (closes g (refused 55 read))).text ≤ longest_turn
       go true = chooses_short e (chosen_of p.automaton g.state e o) (λ t q. chosen_below p.automaton g.state e o t q)
       go false = let u = refused_length 55 read in omega arith
 
-  by_short : (read : ℕ) (h : Heard) (n : Next) → Leads p.automaton.count n → length (turn_by p g read h n).text ≤ longest_turn
+  by_short : (read : ℕ) (h : Option ℕ) (n : Next) → Leads p.automaton.count n → length (turn_by p g read h n).text ≤ longest_turn
   unfolding turn_by
   by_short read h Next.Ended l = let u = ended_length p.resources g within.plan.resources in omega arith
   by_short read h (Next.Goes t) l = takes_short false t l
   by_short read h (Next.Waits e) l = hears_short e read h
 
   -- the text of a turn fits where 3,904 bytes are free
-  pub turn_short : (read : ℕ) (h : Heard) → length (turn_of p g read h).text ≤ longest_turn
+  pub turn_short : (read : ℕ) (h : Option ℕ) → length (turn_of p g read h).text ≤ longest_turn
   unfolding turn_of
   turn_short read h = by_short read h (next_of p.automaton g.state) (next_leads p.automaton g.state)

@@ -1,5 +1,5 @@
 -- A turn from its parts, as they are looked up, is the turn of the plan. Assumes nothing.
-use Rattle.std.specs.Prelude.{◌≡◌, Bool, cond, ℕ, ◌<◌, ltb}
+use Rattle.std.specs.Prelude.{◌≡◌, Bool, cond, ℕ, ◌<◌, ltb, Option, None, Some}
 use Rattle.std.proofs.Math.Path.{refl, sym, ap}
 use Rattle.std.proofs.Common.{◌∙◌, subst}
 use Rattle.std.proofs.Math.Bool.{true, false}
@@ -13,7 +13,6 @@ use Rattle.plan.specs.declared.Transition.{Transition}
 use Rattle.plan.specs.declared.Plan.{Plan}
 use Rattle.automaton.specs.Next.{next_of, chosen_of}
 use Rattle.automaton.specs.declared.Next.{Next}
-use Rattle.automaton.specs.declared.Chosen.{Chosen}
 use Rattle.times.specs.Limits.{StepFits}
 use Rattle.times.specs.declared.Progress.{Progress}
 use Rattle.run_path.specs.Inner.Path.{emitted_of}
@@ -21,7 +20,6 @@ use Rattle.run_path.proofs.Laws.Emitting.{emitted_nodes, step_fits}
 use Rattle.run_path.proofs.Laws.Stepping.{next_leads}
 use Rattle.run_path.specs.Pathed.{Leads}
 use Rattle.timetable_lines.specs.Lines.{refused}
-use Rattle.timetable_steps.specs.declared.Heard.{Heard}
 use Rattle.timetable_steps.specs.declared.Step.{Step}
 use Rattle.timetable_steps.specs.Inner.Steps.{chosen_step, heard_step, next_step, step_of, output_of}
 use Rattle.timetable_steps.proofs.Laws.Steps.{chosen_below}
@@ -38,31 +36,31 @@ module _ (p : Plan) (g : Progress) (read : ℕ) where
   unfolding by_parts takes stepped taking
   takes_parts heard t = refl
 
-  chooses_parts : (e : ℕ) (c : Chosen) → chooses p g e c ≡ by_parts (chosen_step p.automaton e c)
+  chooses_parts : (e : ℕ) (c : Option ℕ) → chooses p g e c ≡ by_parts (chosen_step p.automaton e c)
   unfolding by_parts chooses stepped
-  chooses_parts e Chosen.Nothing = refl
-  chooses_parts e (Chosen.Move t) = takes_parts true t
+  chooses_parts e None = refl
+  chooses_parts e (Some t) = takes_parts true t
 
-  hears_parts : (e : ℕ) (heard : Heard) → hears p g e read heard ≡ by_parts (heard_step p.automaton p.outcomes g.state e heard)
+  hears_parts : (e : ℕ) (heard : Option ℕ) → hears p g e read heard ≡ by_parts (heard_step p.automaton p.outcomes g.state e heard)
   unfolding by_parts hears stepped
-  hears_parts e Heard.Nothing = refl
-  hears_parts e (Heard.Outcome o) = go (ltb o (outcomes_of p e))
+  hears_parts e None = refl
+  hears_parts e (Some o) = go (ltb o (outcomes_of p e))
     where
-      c : Chosen
+      c : Option ℕ
       c = chosen_of p.automaton g.state e o
 
       go : (b : Bool) → cond b (chooses p g e c) (closes g (refused 55 read)) ≡ by_parts (cond b (chosen_step p.automaton e c) Step.Lacks)
       go true = chooses_parts e c
       go false = refl
 
-  next_parts : (heard : Heard) (n : Next) → turn_by p g read heard n ≡ by_parts (next_step p.automaton p.outcomes g.state heard n)
+  next_parts : (heard : Option ℕ) (n : Next) → turn_by p g read heard n ≡ by_parts (next_step p.automaton p.outcomes g.state heard n)
   unfolding by_parts turn_by stepped
   next_parts heard Next.Ended = refl
   next_parts heard (Next.Goes t) = takes_parts false t
   next_parts heard (Next.Waits e) = hears_parts e heard
 
   -- the parts that the code has: the step, and the activity that it emits
-  pub turn_parts : (heard : Heard) (x : Step) (a : Activity) → x ≡ step_of p.automaton p.outcomes g.state heard → a ≡ emitted_of p (output_of x) → stepped p.resources (nodes_of a) g read x ≡ turn_of p g read heard
+  pub turn_parts : (heard : Option ℕ) (x : Step) (a : Activity) → x ≡ step_of p.automaton p.outcomes g.state heard → a ≡ emitted_of p (output_of x) → stepped p.resources (nodes_of a) g read x ≡ turn_of p g read heard
   unfolding by_parts turn_of step_of
   turn_parts heard x a e f =
       ap (λ (ns : List Node). stepped p.resources ns g read x) (ap nodes_of f ∙ emitted_nodes p (output_of x))
@@ -102,32 +100,32 @@ module _ (p : Plan) (m : Transition) (heard : Bool) where
   unfolding Within taken_move
   move_within t b l e = record { index = t; low = l; is = sym (ap taken_move e) }
 
-  chosen_within : (s e o : ℕ) (c : Chosen) → c ≡ chosen_of p.automaton s e o → Within (chosen_step p.automaton e c)
+  chosen_within : (s e o : ℕ) (c : Option ℕ) → c ≡ chosen_of p.automaton s e o → Within (chosen_step p.automaton e c)
   unfolding taken_heard
-  chosen_within s e o Chosen.Nothing q = closes_within (Step.Waits e) refl
-  chosen_within s e o (Chosen.Move t) q = move_within t true (chosen_below p.automaton s e o t (sym q))
+  chosen_within s e o None q = closes_within (Step.Waits e) refl
+  chosen_within s e o (Some t) q = move_within t true (chosen_below p.automaton s e o t (sym q))
 
-  heard_within : (s e : ℕ) (h : Heard) → Within (heard_step p.automaton p.outcomes s e h)
+  heard_within : (s e : ℕ) (h : Option ℕ) → Within (heard_step p.automaton p.outcomes s e h)
   unfolding taken_heard
-  heard_within s e Heard.Nothing = closes_within (Step.Waits e) refl
-  heard_within s e (Heard.Outcome o) = go (ltb o (outcomes_of p e))
+  heard_within s e None = closes_within (Step.Waits e) refl
+  heard_within s e (Some o) = go (ltb o (outcomes_of p e))
     where
       go : (b : Bool) → Within (cond b (chosen_step p.automaton e (chosen_of p.automaton s e o)) Step.Lacks)
       go true = chosen_within s e o (chosen_of p.automaton s e o) refl
       go false = closes_within Step.Lacks refl
 
-  next_within : (s : ℕ) (h : Heard) (n : Next) → Leads p.automaton.count n → Within (next_step p.automaton p.outcomes s h n)
+  next_within : (s : ℕ) (h : Option ℕ) (n : Next) → Leads p.automaton.count n → Within (next_step p.automaton p.outcomes s h n)
   unfolding taken_heard
   next_within s h Next.Ended l = closes_within Step.Ends refl
   next_within s h (Next.Goes t) l = move_within t false l
   next_within s h (Next.Waits e) l = heard_within s e h
 
-  pub step_moves : (s : ℕ) (h : Heard) → step_of p.automaton p.outcomes s h ≡ Step.Takes m heard → Moves p m
+  pub step_moves : (s : ℕ) (h : Option ℕ) → step_of p.automaton p.outcomes s h ≡ Step.Takes m heard → Moves p m
   unfolding Within step_of
   step_moves s h = next_within s h (next_of p.automaton s) (next_leads p.automaton s)
 
 -- the activity that a step emits is one of the plan's
-pub step_output : (p : Plan) → InLimits p → (s : ℕ) (h : Heard) (x : Step) → x ≡ step_of p.automaton p.outcomes s h → OutputNames p (output_of x)
+pub step_output : (p : Plan) → InLimits p → (s : ℕ) (h : Option ℕ) (x : Step) → x ≡ step_of p.automaton p.outcomes s h → OutputNames p (output_of x)
 step_output p limits s h Step.Ends e = tt
 step_output p limits s h (Step.Waits n) e = tt
 step_output p limits s h Step.Lacks e = tt
@@ -136,7 +134,7 @@ step_output p limits s h (Step.Takes m b) e =
     subst (λ (t : Transition). OutputNames p t.output) (sym k.is) (limits.moves k.index k.low).output
 
 -- and its transition can be taken
-pub step_fitting : (p : Plan) (g : Progress) → Open p g → (h : Heard) (x : Step) (a : Activity) → x ≡ step_of p.automaton p.outcomes g.state h → a ≡ emitted_of p (output_of x) → (m : Transition) (b : Bool) → x ≡ Step.Takes m b → StepFits p.resources a m.input g
+pub step_fitting : (p : Plan) (g : Progress) → Open p g → (h : Option ℕ) (x : Step) (a : Activity) → x ≡ step_of p.automaton p.outcomes g.state h → a ≡ emitted_of p (output_of x) → (m : Transition) (b : Bool) → x ≡ Step.Takes m b → StepFits p.resources a m.input g
 step_fitting p g within h x a e f m b q =
     let k = step_moves p m b g.state h (sym e ∙ q) in
     let o = f ∙ ap (λ (y : Step). emitted_of p (output_of y)) q in

@@ -1,7 +1,7 @@
 -- The text of the turns that are left, and the whole text by the input's length. Assumes nothing.
-use Rattle.std.specs.Prelude.{◌≡◌, Bool, length, take, drop, get_or}
+use Rattle.std.specs.Prelude.{◌≡◌, Bool, ltb, length, take, drop, get_or, Option, Some, None, is_some, unwrap_or, option_map}
 use Rattle.std.proofs.Math.Path.{refl, ap}
-use Rattle.std.proofs.Common.{sym, ◌∙◌, le-leb, drop-cons, drop-drop}
+use Rattle.std.proofs.Common.{sym, ◌∙◌, le-leb, ltb-true, ltb-false, drop-cons, drop-drop}
 use Rattle.std.proofs.Math.Bool.{true, false, cond}
 use mathlib.Core.List.{List, [], ◌∷◌, ◌++◌}
 use Prim.Native.Nat.{ℕ, zero, suc, ◌+◌, ◌-◌, ◌*◌, ◌≤◌, ◌<◌}
@@ -12,7 +12,6 @@ use Rattle.plan.specs.declared.Fault.{Fault}
 use Rattle.plan.specs.declared.Plan.{Plan}
 use Rattle.times.specs.declared.Progress.{Progress}
 use Rattle.timetable_lines.specs.Lines.{refused}
-use Rattle.timetable_steps.specs.declared.Heard.{Heard}
 use Rattle.timetable_turns.specs.declared.Place.{Place}
 use Rattle.timetable_turns.specs.Inner.Turn.{OneTurn, turn_of, head_of, read_after, rest_of, left_after, turns_from}
 use Rattle.timetable_turns.specs.Timetable.{text_of_plan, timetable_of}
@@ -32,11 +31,16 @@ rest_drop zero (x ∷ l) = refl
 rest_drop (suc n) [] = refl
 rest_drop (suc n) (x ∷ l) = rest_drop n l
 
-pub head_there : (n : ℕ) (l : List ℕ) → n < length l → head_of (drop n l) ≡ Heard.Outcome (get_or l n 0)
+pub head_there : (n : ℕ) (l : List ℕ) → n < length l → head_of (drop n l) ≡ Some (get_or l n 0)
 head_there n l h = ap head_of (drop-cons l n 0 h)
 
-pub head_none : (n : ℕ) (l : List ℕ) → length l ≤ n → head_of (drop n l) ≡ Heard.Nothing
+pub head_none : (n : ℕ) (l : List ℕ) → length l ≤ n → head_of (drop n l) ≡ None
 head_none n l h = ap head_of (drop_past n l h)
+
+-- as std looks an element up
+pub head_looked : {B : Type 0} (f : B → ℕ) (r : Option B) (n : ℕ) (l : List ℕ) → is_some r ≡ ltb n (length l) → ((d : ℕ) → unwrap_or (option_map f r) d ≡ get_or l n d) → option_map f r ≡ head_of (drop n l)
+head_looked f None n l e g = sym (head_none n l (ltb-false n (length l) (sym e)))
+head_looked f (Some b) n l e g = ap Some (g 0) ∙ sym (head_there n l (ltb-true n (length l) (sym e)))
 
 -- ---- one turn
 

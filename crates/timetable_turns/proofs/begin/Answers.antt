@@ -7,4 +7,4 @@ pub returns : goal.returns
 returns c =
     let s = c.args in
     let j = c.judge-judged in
-    begins s.bytes.now (λ k. omega (arith, c.type_inv.bytes k)) _ _ j.result j.ensures _ _ _ c.at_first-progress.ensures c.is_refused-closed.ensures c.first_line-put.ensures
+    begins s.bytes.now (λ k. omega (arith, c.type_inv.bytes k)) _ _ j.result j.ensures _ _ _ c.at_first-progress.ensures c.is_err-closed.ensures.value c.first_line-put.ensures

@@ -5,8 +5,8 @@ use Rattle.timetable_text.proofs.Laws.Lent.{lends_as}
 use Rattle.timetable_turns.proofs.Begins.{lends_refused}
 use Rattle.timetable_turns.proofs.first_line.Goals as goal
 
-pub returns-in-Accepted : goal.returns-in-Accepted
-returns-in-Accepted c = lends_as _ _ _ _ _ _ (ap first_text (sym c.in-Accepted.is)) c.header_line.ensures
+pub returns-in-Ok : goal.returns-in-Ok
+returns-in-Ok c = lends_as _ _ _ _ _ _ (ap first_text (sym c.in-Ok.is)) c.header_line.ensures
 
-pub returns-in-Refused : goal.returns-in-Refused
-returns-in-Refused c = lends_refused _ _ _ _ _ _ _ c.number_of-number.ensures c.in-Refused.is c.refused_line.ensures
+pub returns-in-Err : goal.returns-in-Err
+returns-in-Err c = lends_refused _ _ _ _ _ _ _ c.number_of-number.ensures c.in-Err.is c.refused_line.ensures

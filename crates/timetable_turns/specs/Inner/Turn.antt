@@ -1,14 +1,13 @@
 -- The timetable one turn at a time: each turn puts the rows of one position, or the text that closes the table, so that the
 -- text can be handed on before the next outcome byte is read.
-use Rattle.std.specs.Prelude.{Bool, true, false, cond, List, [], ◌∷◌, ◌++◌, ℕ, zero, suc, ◌+◌, ltb, replicate}
+use Rattle.std.specs.Prelude.{Bool, true, false, cond, List, [], ◌∷◌, ◌++◌, ℕ, zero, suc, ◌+◌, ltb, replicate, Option, Some, None, Ok, Err, is_err}
 use Rattle.plan.specs.Plan.{outcomes_of}
 use Rattle.plan.specs.Fault.{number_of}
 use Rattle.plan.specs.Limits.{InLimits}
 use Rattle.plan.specs.declared.Plan.{Plan}
-use Rattle.plan.specs.declared.Verdict.{Verdict}
+use Rattle.plan.specs.Verdict.{Verdict}
 use Rattle.automaton.specs.Next.{next_of, chosen_of}
 use Rattle.automaton.specs.declared.Next.{Next}
-use Rattle.automaton.specs.declared.Chosen.{Chosen}
 use Rattle.times.specs.Times.{specified}
 use Rattle.times.specs.declared.Progress.{Progress}
 use Rattle.run_path.specs.Path.{taken_by, entries_by}
@@ -16,7 +15,6 @@ use Rattle.run_path.specs.Pathed.{ProgressIn}
 use Rattle.run_outcomes.specs.Way.{on_chosen}
 use Rattle.run_opening.specs.Given.{at_first}
 use Rattle.timetable_lines.specs.Lines.{header, rows, ended, waiting, refused}
-use Rattle.timetable_steps.specs.declared.Heard.{Heard}
 
 -- ---- one turn
 
@@ -40,22 +38,22 @@ takes p g heard t =
     (record { text = rows (entries_by p t g); closed = false; heard = heard; progress = (taken_by p t g).progress })
 
 -- the transition of an outcome of event e, if the state has one
-unfoldable pub chooses : Plan → Progress → ℕ → Chosen → OneTurn
+unfoldable pub chooses : Plan → Progress → ℕ → Option ℕ → OneTurn
 chooses p g e c = on_chosen c (takes p g true) (closes g (waiting p g e))
 
 -- "If outcomes run out, free is printed and the last line is waits"; "55 for an outcome the event lacks, place = its index"
-unfoldable pub hears : Plan → Progress → ℕ → ℕ → Heard → OneTurn
-hears p g e read Heard.Nothing = closes g (waiting p g e)
-hears p g e read (Heard.Outcome o) =
+unfoldable pub hears : Plan → Progress → ℕ → ℕ → Option ℕ → OneTurn
+hears p g e read None = closes g (waiting p g e)
+hears p g e read (Some o) =
     cond (ltb o (outcomes_of p e)) (chooses p g e (chosen_of p.automaton g.state e o)) (closes g (refused 55 read))
 
-unfoldable pub turn_by : Plan → Progress → ℕ → Heard → Next → OneTurn
+unfoldable pub turn_by : Plan → Progress → ℕ → Option ℕ → Next → OneTurn
 turn_by p g read heard Next.Ended = closes g (ended p g)
 turn_by p g read heard (Next.Goes t) = takes p g false t
 turn_by p g read heard (Next.Waits e) = hears p g e read heard
 
 -- the turn of where the behaviour stands, `read` outcome bytes read before
-unfoldable pub turn_of : Plan → Progress → ℕ → Heard → OneTurn
+unfoldable pub turn_of : Plan → Progress → ℕ → Option ℕ → OneTurn
 turn_of p g read heard = turn_by p g read heard (next_of p.automaton g.state)
 
 -- whether a turn asks for an outcome byte
@@ -70,9 +68,9 @@ waits_of p g = is_waiting (next_of p.automaton g.state)
 -- ---- all turns
 
 -- the next outcome byte, if there is one
-abbrev pub head_of : List ℕ → Heard
-head_of [] = Heard.Nothing
-head_of (o ∷ os) = Heard.Outcome o
+abbrev pub head_of : List ℕ → Option ℕ
+head_of [] = None
+head_of (o ∷ os) = Some o
 
 -- how many outcome bytes are read after a turn
 abbrev pub read_after : OneTurn → ℕ → ℕ
@@ -101,13 +99,12 @@ most_turns = 1_000_000_002
 -- ---- before the first turn
 
 abbrev pub is_refused : Verdict → Bool
-is_refused Verdict.Accepted = false
-is_refused (Verdict.Refused f place) = true
+is_refused v = is_err v
 
 -- "A refused plan prints only refused, number, place"; an accepted one, the header
 abbrev pub first_text : Verdict → List ℕ
-first_text Verdict.Accepted = header
-first_text (Verdict.Refused f place) = refused (number_of f) place
+first_text (Ok u) = header
+first_text (Err e) = refused (number_of e.fault) e.place
 
 -- "availabilities are 0"
 abbrev pub first_progress : Plan → Progress

@@ -16,6 +16,13 @@ pub length-numbers : (xs : List ℕ) (i k : ℕ) → length (number_bytes xs i k
 length-numbers xs i zero = refl
 length-numbers xs i (suc k) = ap suc (length-numbers xs (i + 1) k)
 
+-- numbers below 256 are their bytes
+pub numbers_take : (xs : List ℕ) → ((j : ℕ) → get_or xs j 0 < 256) → (k i : ℕ) → i + k ≤ length xs → take k (drop i xs) ≡ number_bytes xs i k
+numbers_take xs bytes zero i h = refl
+numbers_take xs bytes (suc k) i h =
+    let g : get_or xs i 0 % 256 ≡ get_or xs i 0 = omega (arith, bytes i) in
+    rw (drop-cons xs i 0 (omega arith), g) (ap (λ (l : List ℕ). get_or xs i 0 ∷ l) (rw (← add-one i) (numbers_take xs bytes k (i + 1) (omega arith))))
+
 pub length_bytes : (w x : ℕ) → length (bytes_of w x) ≡ w
 length_bytes zero x = refl
 length_bytes (suc w) x = ap suc (length_bytes w (x / 256))

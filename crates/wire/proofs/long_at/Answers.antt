@@ -1,16 +1,11 @@
--- A field of four bytes: by the test whether they fit, and the number that they make.
-use borrow.Author.Tests.{leb-true}
-use mathlib.Core.Path.{sym, ◌∙◌}
-use Rattle.wire.specs.Number.{field_at}
+-- A field of four bytes: the number that they make, if they are there.
+use Rattle.std.specs.Int.{from_le_bytes, w32}
+use Rattle.std.proofs.Common.{arith}
+use Rattle.std.proofs.lemmas.Grind.{common_steps}
+use Rattle.wire.proofs.Laws.Options.{field_map}
 use Rattle.wire.proofs.long_at.Goals as goal
 
-pub four-requires : goal.four-requires
-four-requires c = leb-true _ _ (sym c.fits.ensures ∙ c.if-fits.true)
-
-pub returns-then-fits : goal.returns-then-fits
-unfolding field_at
-returns-then-fits c = rw (sym c.fits.ensures ∙ c.if-fits.true, c.four.ensures.0)
-
 pub returns : goal.returns
-unfolding field_at
-returns c = rw (sym c.fits.ensures ∙ c.if-fits.false)
+returns c =
+    let a = c.args in
+    field_map (from_le_bytes w32) 4 a.bytes.now a.at c.part_at.result c.map.result (grind (arith, common_steps)) c.part_at.ensures c.map.ensures.cases

@@ -1,16 +1,10 @@
--- A field of eight bytes: by the test whether they fit, and the number that they make.
-use borrow.Author.Tests.{leb-true}
-use mathlib.Core.Path.{sym, ◌∙◌}
-use Rattle.wire.specs.Number.{field_at}
+-- A field of eight bytes: the number that they make, if they are there.
+use Rattle.std.specs.Int.{from_le_bytes, w64}
+use Rattle.wire.proofs.Laws.Options.{field_map}
+use Rattle.wire.proofs.Laws.Bytes.{made_eight}
 use Rattle.wire.proofs.wide_at.Goals as goal
 
-pub eight-requires : goal.eight-requires
-eight-requires c = leb-true _ _ (sym c.fits.ensures ∙ c.if-fits.true)
-
-pub returns-then-fits : goal.returns-then-fits
-unfolding field_at
-returns-then-fits c = rw (sym c.fits.ensures ∙ c.if-fits.true, c.eight.ensures)
-
 pub returns : goal.returns
-unfolding field_at
-returns c = rw (sym c.fits.ensures ∙ c.if-fits.false)
+returns c =
+    let a = c.args in
+    field_map (from_le_bytes w64) 8 a.bytes.now a.at c.part_at.result c.map.result (made_eight a.bytes.now a.at) c.part_at.ensures c.map.ensures.cases

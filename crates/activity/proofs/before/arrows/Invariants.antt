@@ -1,5 +1,5 @@
 -- `before::arrows` meets its contract. The loop's invariant: the first n words are those of the nodes, the others 0. Assumes nothing.
-use Prim.Native.Nat.{ℕ, ◌<◌, ◌≤◌, ◌-◌}
+use Prim.Native.Nat.{ℕ, ◌<◌, ◌≤◌}
 use mathlib.Core.Path.{◌≡◌}
 use mathlib.Core.Logic.{◌↔◌}
 use lib.ListN.{length, get_or}
@@ -9,7 +9,4 @@ use Rattle.activity.specs.Inner.Closure.{Rel}
 use Rattle.activity.proofs.before.arrows.Given as goal
 
 abbrev pub invariant-loop-n : goal.invariant-loop-n
-invariant-loop-n l = (l.n ≤ l.count) × (length l.r ≡ 64) × ((j : ℕ) → j < l.n → (m : ℕ) → Rel l.r m j ↔ Among m (predecessors (get_or l.activity.nodes j past_node))) × ((j : ℕ) → l.n ≤ j → get_or l.r j 0 ≡ 0)
-
-abbrev pub decreases-loop-n : goal.decreases-loop-n
-decreases-loop-n l = l.count - l.n
+invariant-loop-n l = (length l.r ≡ 64) × ((j : ℕ) → j < l.n → (m : ℕ) → Rel l.r m j ↔ Among m (predecessors (get_or l.nodes j past_node))) × ((j : ℕ) → l.n ≤ j → get_or l.r j 0 ≡ 0)

@@ -1,5 +1,4 @@
 -- `before::closure` meets its contract. The loop's invariant: the words are closed through the nodes below k, for every activity whose arrows they had. Assumes nothing.
-use Prim.Native.Nat.{◌≤◌, ◌-◌}
 use mathlib.Core.Path.{◌≡◌}
 use mathlib.Core.List.{List}
 use lib.ListN.{length}
@@ -8,7 +7,4 @@ use Rattle.activity.proofs.Laws.Closure.{Closing}
 use Rattle.activity.proofs.before.closure.Given as goal
 
 abbrev pub invariant-loop-k : goal.invariant-loop-k
-invariant-loop-k l = (l.k ≤ l.count) × (length l.r ≡ 64) × ((a : List Node) → length a ≡ l.count → Closing a 0 l.initial.r → Closing a l.k l.r)
-
-abbrev pub decreases-loop-k : goal.decreases-loop-k
-decreases-loop-k l = l.count - l.k
+invariant-loop-k l = (a : List Node) → length a ≡ l.count → Closing a 0 l.initial.r → Closing a l.k l.r

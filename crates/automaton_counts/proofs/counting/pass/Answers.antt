@@ -1,71 +1,39 @@
 use Rattle.basis.proofs.Laws.Bools.{clash}
 use Rattle.basis.proofs.Laws.Tells.{told_true, told_false}
+use Rattle.plan.specs.declared.Transition.{Transition}
+use Rattle.plan.specs.Plan.{past_move}
 use Rattle.automaton.proofs.Laws.Counts.{ready_takes}
 use Rattle.automaton.proofs.Laws.Passes.{going_stays, going_stores}
-use Rattle.automaton_counts.proofs.Tools.{moved, move_ok, not_ready, flags_apart}
-use Rattle.plan.specs.Plan.{move}
-use borrow.Author.Tests.{not-true, not-false}
-use mathlib.Core.Path.{◌≡◌, sym, ◌∙◌}
-use native.Mathlib.Omega.{arith}
-use mathlib.Core.Path.{ap}
-use mathlib.Core.Bool.{not}
+use Rattle.automaton.proofs.Laws.Scan.{in_slice}
+use Rattle.automaton_counts.proofs.Tools.{moved}
+use Rattle.std.proofs.lemmas.List.{length-take}
+use Rattle.std.proofs.Common.{get_or, take, ap, sym, ◌∙◌, arith}
+use Rattle.automaton_counts.proofs.counting.pass.Goals.{then-not-x-from-via-then-not-x-from, then-not-x-from-via-else-not-x-from+then-x-to, then-not-x-from-via-else-not-x-from+else-x-to+then-not-ready}
 use Rattle.automaton_counts.proofs.counting.pass.Goals as goal
 
-pub loop-i-init : goal.loop-i-init
-loop-i-init c = (omega arith, c.requires.going)
+pub loop-t-preserved-then-not-x-from : goal.loop-t-preserved-then-not-x-from
+loop-t-preserved-then-not-x-from c =
+    let l = c.loop-t in
+    let t = in_slice c.args.a.now.moves c.from.result l.t-index (omega arith) in
+    let from = c.from-in-loop-t.ensures ∙ ap (λ (u : Transition). u.from) t in
+    let to = c.from-to.ensures ∙ ap (λ (u : Transition). u.to) t in
+    going_stays _ _ c.requires.in_range _ _ _ _ _ l.invariant (λ h r. elim c.then-not-x-from.branch [
+      | then-not-x-from-via-then-not-x-from w ↦ absurd (clash (sym h ∙ moved l.x.reached from w.if-not-x-from.true))
+      | then-not-x-from-via-else-not-x-from+then-x-to w ↦ moved l.x.reached to w.if-x-to.true
+      | then-not-x-from-via-else-not-x-from+else-x-to+then-not-ready w ↦ absurd (told_false (rw t at w.ready.ensures) w.if-not-ready.true r)
+    ])
 
-pub bounds-reached-from : goal.bounds-reached-from
-bounds-reached-from c = omega (arith, c.u8_to_usize-from.ensures, (move_ok _ c.requires.in_range c.loop-i.i (omega arith)).from)
+pub advance-requires-clause-by_index : goal.advance-requires-clause-by_index
+advance-requires-clause-by_index c =
+    let t = get_or (take c.from.result c.args.a.now.moves) c.loop-t.t-index past_move in
+    λ e n. ready_takes c.loop-t.x.counts t.from t.input e (told_true c.ready.ensures c.if-not-ready.false)
 
-pub loop-i-preserved-then-not-reached-from : goal.loop-i-preserved-then-not-reached-from
-loop-i-preserved-then-not-reached-from c =
-    let l = c.loop-i in
-    (omega arith, going_stays _ _ c.requires.in_range _ _ _ _ _ l.invariant.1 (λ h r. absurd (clash (sym h ∙ moved l.reached c.u8_to_usize-from.ensures (not-true _ (ap not c.if-not-reached-from.true))))))
-
-pub bounds-reached-to : goal.bounds-reached-to
-bounds-reached-to c = omega (arith, c.u8_to_usize-to.ensures, (move_ok _ c.requires.in_range c.loop-i.i (omega arith)).to)
-
-pub loop-i-preserved-then-reached-to : goal.loop-i-preserved-then-reached-to
-loop-i-preserved-then-reached-to c =
-    let l = c.loop-i in
-    (omega arith, going_stays _ _ c.requires.in_range _ _ _ _ _ l.invariant.1 (λ h r. moved l.reached c.u8_to_usize-to.ensures c.if-reached-to.true))
-
-pub ready-requires : goal.ready-requires
-ready-requires c =
-    let k = move_ok _ c.requires.in_range c.loop-i.i (omega arith) in
-    record { input_ok = k.input; s_bound = omega (arith, c.u8_to_usize-from.ensures, k.from) }
-
-pub loop-i-preserved-then-not-ready : goal.loop-i-preserved-then-not-ready
-loop-i-preserved-then-not-ready c =
-    let l = c.loop-i in (
-      omega arith,
-      going_stays _ _ c.requires.in_range _ _ _ _ _ l.invariant.1
-          (λ h r. absurd (not_ready l.counts (move c.args.a l.i).input c.u8_to_usize-from.ensures (told_false c.ready.ensures (not-true c.ready.result (ap not c.if-not-ready.true))) r)),
-    )
-
-pub advance-requires : goal.advance-requires
-advance-requires c =
-    let l = c.loop-i in
-    let from = c.u8_to_usize-from in
-    let to = c.u8_to_usize-to in
-    let k = move_ok _ c.requires.in_range l.i (omega arith) in record { from_bound = (omega (arith, from.ensures, k.from), omega (arith, to.ensures, k.to), flags_apart l.reached (not-false _ (ap not c.if-not-reached-from.false)) c.if-reached-to.false, k.output); by_index = λ e n. ready_takes l.counts from.result (move c.args.a l.i).input e (told_true c.ready.ensures (not-false c.ready.result (ap not c.if-not-ready.false))); counts_len = (l.invariant.1.cells, λ k. omega (arith, l.invariant.1.small k)); few = c.requires.few }
-
-pub bounds-reached-to-in-loop-i : goal.bounds-reached-to-in-loop-i
-bounds-reached-to-in-loop-i c = omega (arith, c.u8_to_usize-to.ensures, (move_ok _ c.requires.in_range c.loop-i.i (omega arith)).to)
-
-pub loop-i-preserved : goal.loop-i-preserved
-loop-i-preserved c =
-    let l = c.loop-i in
-    let w = c.u8_to_usize-from.ensures in
-    let z = c.u8_to_usize-to.ensures in (
-      omega arith,
-      rw z
-          (going_stores _ _ c.requires.in_range _ _ _ _ _ l.invariant.1 _ (omega arith) (moved l.reached w (not-false _ (ap not c.if-not-reached-from.false))) (moved l.reached z c.if-reached-to.false)
-          (rw (w, z) at c.advance.ensures)),
-    )
-
-pub returns : goal.returns
-returns c =
-    let l = c.loop-i in
-    let e : l.i ≡ c.args.a.count = omega arith in
-    rw e at l.invariant.1
+pub loop-t-preserved : goal.loop-t-preserved
+loop-t-preserved c =
+    let l = c.loop-t in
+    let t = in_slice c.args.a.now.moves c.from.result l.t-index (omega arith) in
+    let from = c.from-in-loop-t.ensures ∙ ap (λ (u : Transition). u.from) t in
+    let to = c.from-to.ensures ∙ ap (λ (u : Transition). u.to) t in
+    rw to
+    (going_stores _ _ c.requires.in_range _ _ _ _ _ l.invariant _ (omega (arith, length-take c.from.result c.args.a.now.moves)) (moved l.x.reached from c.if-not-x-from.false) (moved l.x.reached to c.if-x-to.false)
+    (rw t at c.advance.ensures))

@@ -4,8 +4,8 @@ use Rattle.automaton.specs.Inner.Passes.{Backing}
 use mathlib.Core.Bool.{false}
 use Rattle.automaton_counts.proofs.final_states.to_final.Given as goal
 
-abbrev pub invariant-loop-a : goal.invariant-loop-a
-invariant-loop-a l = Backing l.a l.done 0 l.done false
+abbrev pub invariant-loop : goal.invariant-loop
+invariant-loop l = Backing l.a l.done 0 l.done false
 
-abbrev pub decreases-loop-a : goal.decreases-loop-a
-decreases-loop-a l = falses l.done
+abbrev pub decreases-loop : goal.decreases-loop
+decreases-loop l = falses l.done

@@ -1,15 +1,17 @@
 -- The bytes, or 61 or 36.
+use mathlib.Core.Path.{◌≡◌}
+use Rattle.link_messages.specs.declared.NotSent.{NotSent}
 use Rattle.exports.specs.Messages.{sent_code}
 use Rattle.exports.proofs.messages.sent_code.Goals as goal
 
-pub returns-in-Bytes : goal.returns-in-Bytes
+pub returns-in-Ok : goal.returns-in-Ok
 unfolding sent_code
-returns-in-Bytes c = rw c.in-Bytes.is
+returns-in-Ok c = rw c.in-Ok.is
 
-pub returns-in-Unlisted : goal.returns-in-Unlisted
+pub returns-in-Err-Unlisted : goal.returns-in-Err-Unlisted
 unfolding sent_code
-returns-in-Unlisted c = rw (c.in-Refused.is, c.in-Unlisted.is)
+returns-in-Err-Unlisted c = let e : c.in-Err-Unlisted.field-0 ≡ NotSent.Unlisted = rw c.in-Err-Unlisted.is at c.in-Err-Unlisted.field-0-is in rw (c.in-Err-Unlisted.is, e)
 
-pub returns-in-TooShort : goal.returns-in-TooShort
+pub returns-in-Err-TooShort : goal.returns-in-Err-TooShort
 unfolding sent_code
-returns-in-TooShort c = rw (c.in-Refused.is, c.in-TooShort.is)
+returns-in-Err-TooShort c = let e : c.in-Err-TooShort.field-0 ≡ NotSent.TooShort = rw c.in-Err-TooShort.is at c.in-Err-TooShort.field-0-is in rw (c.in-Err-TooShort.is, e)

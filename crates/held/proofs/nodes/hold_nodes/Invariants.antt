@@ -1,6 +1,4 @@
-use mathlib.Core.Path.{◌≡◌}
-use Prim.Native.Nat.{◌≤◌, ◌-◌}
-use lib.ListN.{length}
+use Rattle.std.specs.Prelude.{◌≡◌, length}
 use Rattle.plan.specs.declared.Node.{Node}
 use Rattle.held.specs.declared.HeldNode.{HeldNode}
 use Rattle.held.specs.Held.{held_node}
@@ -8,7 +6,4 @@ use Rattle.held.proofs.Filled.{filled}
 use Rattle.held.proofs.nodes.hold_nodes.Given as goal
 
 abbrev pub invariant-loop-i : goal.invariant-loop-i
-invariant-loop-i l = (l.i ≤ 2048) × (length l.initial.held ≡ 2048) × (l.held ≡ filled Node HeldNode held_node l.nodes l.initial.held l.i)
-
-abbrev pub decreases-loop-i : goal.decreases-loop-i
-decreases-loop-i l = 2048 - l.i
+invariant-loop-i l = (length l.initial.held ≡ 2048) × (l.held ≡ filled Node HeldNode held_node l.nodes l.initial.held l.i)

@@ -1,6 +1,4 @@
-use mathlib.Core.Path.{◌≡◌}
-use Prim.Native.Nat.{◌≤◌, ◌-◌}
-use lib.ListN.{length}
+use Rattle.std.specs.Prelude.{◌≡◌, length}
 use Rattle.held.specs.declared.HeldEntry.{HeldEntry}
 use Rattle.run_window.specs.declared.Entry.{Entry}
 use Rattle.held.specs.Held.{entry_of}
@@ -8,7 +6,4 @@ use Rattle.held.proofs.Filled.{filled}
 use Rattle.held.proofs.places.window_of.Given as goal
 
 abbrev pub invariant-loop-i : goal.invariant-loop-i
-invariant-loop-i l = (l.i ≤ 512) × (length l.initial.window ≡ 512) × (l.window ≡ filled HeldEntry Entry entry_of l.held l.initial.window l.i)
-
-abbrev pub decreases-loop-i : goal.decreases-loop-i
-decreases-loop-i l = 512 - l.i
+invariant-loop-i l = (length l.initial.window ≡ 512) × (l.window ≡ filled HeldEntry Entry entry_of l.held l.initial.window l.i)

@@ -1,6 +1,4 @@
-use mathlib.Core.Path.{◌≡◌}
-use Prim.Native.Nat.{◌≤◌, ◌-◌}
-use lib.ListN.{length}
+use Rattle.std.specs.Prelude.{◌≡◌, length}
 use Rattle.held.specs.declared.HeldInstance.{HeldInstance}
 use Rattle.times.specs.declared.Instance.{Instance}
 use Rattle.held.specs.Held.{instance_of}
@@ -8,7 +6,4 @@ use Rattle.held.proofs.Filled.{filled}
 use Rattle.held.proofs.progresses.pending_of.Given as goal
 
 abbrev pub invariant-loop-i : goal.invariant-loop-i
-invariant-loop-i l = (l.i ≤ 128) × (length l.initial.pending ≡ 128) × (l.pending ≡ filled HeldInstance Instance instance_of l.held l.initial.pending l.i)
-
-abbrev pub decreases-loop-i : goal.decreases-loop-i
-decreases-loop-i l = 128 - l.i
+invariant-loop-i l = (length l.initial.pending ≡ 128) × (l.pending ≡ filled HeldInstance Instance instance_of l.held l.initial.pending l.i)

@@ -12,6 +12,3 @@ invariant-loop-i l = (l.i ≤ 512)
     × (l.overdue ≡ ranked_from (map node_of l.held_nodes) (Sought.Overdue l.psi l.t) (map entry_of l.held_window) l.i)
     × (l.late ≡ ranked_from (map node_of l.held_nodes) (Sought.Late l.psi l.slack l.t) (map entry_of l.held_window) l.i)
     × (l.best ≡ ranked_from (map node_of l.held_nodes) l.sought (map entry_of l.held_window) l.i)
-
-abbrev pub decreases-loop-i : goal.decreases-loop-i
-decreases-loop-i l = l.i

@@ -10,13 +10,10 @@ use Rattle.run_window.specs.declared.Entry.{Entry}
 use Rattle.run_window.specs.declared.Ranked.{Ranked}
 use Rattle.run_window.specs.declared.Sought.{Sought}
 use Rattle.run_window.specs.Window.{vacant}
-use Rattle.run_window.specs.Inner.Times.{InTime}
 use Rattle.run_window.specs.Inner.Search.{is_sought, kept_by}
 use Rattle.run_window.proofs.Laws.Scans.{Agrees, FirstFrom, scan_none, scan_passed, scan_turn, overdue_agrees, untied_agrees}
 use Rattle.held.specs.Held.{entry_of}
-use Rattle.held_checks.proofs.MappedPlaces.{place_read}
-use borrow.Author.Tests.{not-true}
-use mathlib.Core.Bool.{not}
+use Rattle.held_checks.proofs.MappedPlaces.{place_read, time_read}
 use Rattle.held_checks.proofs.places.scan.Goals as goal
 
 -- a turn of the loop, told of the entry that it read
@@ -43,21 +40,20 @@ loop-i-init c =
 
 pub is_noticed-requires : goal.is_noticed-requires
 is_noticed-requires c =
-    let read : c.entry_of-e.result ≡ get_or (map entry_of c.args.rest.window) (c.loop-i.i - 1) vacant = place_read c.args.rest.window (c.loop-i.i - 1) c.entry_of-e.ensures in
-    let in-time : InTime c.entry_of-e.result = subst InTime (sym (read)) (c.requires.3 (c.loop-i.i - 1)) in
+    let in-time = time_read c.args.rest.window (c.loop-i.i - 1) c.from-e.ensures c.requires.3 in
     let p = c.requires in (p.0, p.1, p.2, in-time)
 
 -- the entry is none of the three, so what was found behind it stays
 pub loop-i-preserved-then-not-is_noticed : goal.loop-i-preserved-then-not-is_noticed
 loop-i-preserved-then-not-is_noticed c =
     let long : length (map entry_of c.args.rest.window) ≡ 512 = length-map c.args.rest.window entry_of ∙ search unmapped in
-    let read : c.entry_of-e.result ≡ get_or (map entry_of c.args.rest.window) (c.loop-i.i - 1) vacant = place_read c.args.rest.window (c.loop-i.i - 1) c.entry_of-e.ensures in
+    let read : c.from-e.result ≡ get_or (map entry_of c.args.rest.window) (c.loop-i.i - 1) vacant = place_read c.args.rest.window (c.loop-i.i - 1) c.from-e.ensures in
     let a = c.args in
     let w = map entry_of a.rest.window in
     let l = c.loop-i in
     let more = c.loop-i-test.true in
     let within : l.i ≤ length w = omega (arith, long) in
-    let none = or-false _ _ (sym c.is_noticed.ensures ∙ not-true _ (ap not c.if-not-is_noticed.true)) in
+    let none = or-false _ _ (sym c.is_noticed.ensures ∙ c.if-not-is_noticed.true) in
     let rest = or-false _ _ none.1 in (
       omega arith,
       passed (Sought.Overdue a.psi a.t) w l.i more within (read) none.0 l.overdue l.invariant.1,
@@ -67,45 +63,41 @@ loop-i-preserved-then-not-is_noticed c =
 
 pub ties_either-requires : goal.ties_either-requires
 ties_either-requires c =
-    let read : c.entry_of-e.result ≡ get_or (map entry_of c.args.rest.window) (c.loop-i.i - 1) vacant = place_read c.args.rest.window (c.loop-i.i - 1) c.entry_of-e.ensures in
-    let in-time : InTime c.entry_of-e.result = subst InTime (sym (read)) (c.requires.3 (c.loop-i.i - 1)) in
+    let in-time = time_read c.args.rest.window (c.loop-i.i - 1) c.from-e.ensures c.requires.3 in
     let p = c.requires in
     (p.0, p.1, p.2, in-time)
 
 pub kept-overdue-requires : goal.kept-overdue-requires
 kept-overdue-requires c =
-    let read : c.entry_of-e.result ≡ get_or (map entry_of c.args.rest.window) (c.loop-i.i - 1) vacant = place_read c.args.rest.window (c.loop-i.i - 1) c.entry_of-e.ensures in
-    let in-time : InTime c.entry_of-e.result = subst InTime (sym (read)) (c.requires.3 (c.loop-i.i - 1)) in
+    let in-time = time_read c.args.rest.window (c.loop-i.i - 1) c.from-e.ensures c.requires.3 in
     let p = c.requires in
     (p.0, in-time)
 
 pub kept-late-requires : goal.kept-late-requires
 kept-late-requires c =
-    let read : c.entry_of-e.result ≡ get_or (map entry_of c.args.rest.window) (c.loop-i.i - 1) vacant = place_read c.args.rest.window (c.loop-i.i - 1) c.entry_of-e.ensures in
-    let in-time : InTime c.entry_of-e.result = subst InTime (sym (read)) (c.requires.3 (c.loop-i.i - 1)) in
+    let in-time = time_read c.args.rest.window (c.loop-i.i - 1) c.from-e.ensures c.requires.3 in
     let p = c.requires in
     ((p.0, p.1), in-time)
 
 pub kept-best-requires : goal.kept-best-requires
 kept-best-requires c =
-    let read : c.entry_of-e.result ≡ get_or (map entry_of c.args.rest.window) (c.loop-i.i - 1) vacant = place_read c.args.rest.window (c.loop-i.i - 1) c.entry_of-e.ensures in
-    let in-time : InTime c.entry_of-e.result = subst InTime (sym (read)) (c.requires.3 (c.loop-i.i - 1)) in
+    let in-time = time_read c.args.rest.window (c.loop-i.i - 1) c.from-e.ensures c.requires.3 in
     let p = c.requires in
     (p.2, in-time)
 
 pub loop-i-preserved : goal.loop-i-preserved
 loop-i-preserved c =
     let long : length (map entry_of c.args.rest.window) ≡ 512 = length-map c.args.rest.window entry_of ∙ search (unmapped, c.well_formed) in
-    let read : c.entry_of-e.result ≡ get_or (map entry_of c.args.rest.window) (c.loop-i.i - 1) vacant = place_read c.args.rest.window (c.loop-i.i - 1) c.entry_of-e.ensures in
+    let read : c.from-e.result ≡ get_or (map entry_of c.args.rest.window) (c.loop-i.i - 1) vacant = place_read c.args.rest.window (c.loop-i.i - 1) c.from-e.ensures in
     let a = c.args in
     let w = map entry_of a.rest.window in
     let l = c.loop-i in
     let more = c.loop-i-test.true in
     let within : l.i ≤ length w = omega (arith, long) in
     let untied = or-false _ _ (sym c.ties_either.ensures ∙ c.if-ties_either.false) in
-    let overdue = overdue_agrees a.psi a.t c.entry_of-e.result l.overdue in
-    let late = untied_agrees (Sought.Late a.psi a.slack a.t) c.entry_of-e.result l.late untied.0 in
-    let best = untied_agrees a.sought c.entry_of-e.result l.best untied.1 in (
+    let overdue = overdue_agrees a.psi a.t c.from-e.result l.overdue in
+    let late = untied_agrees (Sought.Late a.psi a.slack a.t) c.from-e.result l.late untied.0 in
+    let best = untied_agrees a.sought c.from-e.result l.best untied.1 in (
       omega arith,
       turned (Sought.Overdue a.psi a.t) w l.i more within (read) l.overdue overdue l.invariant.1 c.kept-overdue.ensures,
       turned (Sought.Late a.psi a.slack a.t) w l.i more within (read) l.late late l.invariant.2 c.kept-late.ensures,

@@ -11,6 +11,3 @@ invariant-loop-i l = (l.i ≤ 512)
     × FirstFrom (Sought.Overdue l.psi l.t) (map entry_of l.held) l.i l.overdue
     × FirstFrom (Sought.Late l.psi l.slack l.t) (map entry_of l.held) l.i l.late
     × FirstFrom l.sought (map entry_of l.held) l.i l.best
-
-abbrev pub decreases-loop-i : goal.decreases-loop-i
-decreases-loop-i l = l.i

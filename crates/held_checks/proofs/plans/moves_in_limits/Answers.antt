@@ -1,46 +1,25 @@
-use mathlib.Core.List.{map}
-use mathlib.Core.Path.{◌≡◌, sym, ◌∙◌}
-use Prim.Native.Nat.{◌-◌}
-use native.Mathlib.Omega.{arith}
-use borrow.Author.Tests.{not-true, not-false}
-use borrow.Author.Rules.{rules}
-use lib.ListN.{get_or, length}
-use Rattle.plan.specs.declared.Transition.{Transition}
+-- `plans::moves_in_limits` is what it is defined to be, of the transitions that the numbers stand for. Assumes nothing.
+use Rattle.std.specs.Prelude.{◌≡◌, length, map, take}
+use Rattle.std.proofs.Common.{sym, ◌∙◌, ap, arith, rules, tests}
+use Rattle.std.proofs.lemmas.Iterator.{YieldsList-from_slice}
+use Rattle.std.proofs.lemmas.Iterator.Search.{all_from_yields_List}
+use Rattle.std.proofs.lemmas.List.{take-map, length-map}
+use Rattle.std.proofs.lemmas.List.Folds.{list_all-map}
+use Rattle.std.specs.List.{list_all}
 use Rattle.plan.specs.Plan.{past_move}
-use Rattle.plan_limits.proofs.Laws.Every.{every_on, every_off, every_end}
+use Rattle.plan_limits.proofs.Laws.Every.{every_taken}
 use Rattle.plan_limits.specs.Limits.{move_in_limits, moves_in_limits}
 use Rattle.held.specs.declared.HeldMove.{HeldMove}
 use Rattle.held.specs.Held.{move_of}
-use Rattle.held_checks.proofs.Mapped.{mapped_at}
-use mathlib.Core.Path.{ap}
-use mathlib.Core.Bool.{not}
 use Rattle.held_checks.proofs.plans.moves_in_limits.Goals as goal
-
-pub returns-then-not-move_in_limits : goal.returns-then-not-move_in_limits
-unfolding moves_in_limits
-returns-then-not-move_in_limits c =
-    let long : length c.args.held ≡ 256 = search rules in
-    let made : c.move_of-t.result ≡ get_or (map move_of c.args.held) (c.loop-left.left - 1) past_move = let n = c.requires.1 in
-    let m = c.loop-left.invariant.0 in
-    c.move_of-t.ensures ∙ sym (mapped_at HeldMove Transition move_of c.args.held past_move _ _ (omega (arith, long))) in
-    let l = c.loop-left in
-    sym (every_off (λ i. move_in_limits c.args.states c.args.activities c.args.events c.args.outcomes (get_or (map move_of c.args.held) i past_move)) c.args.count l.left c.loop-left-test.true l.invariant.1
-    (rw (← made, ← c.move_in_limits.ensures) (not-true c.move_in_limits.result (ap not c.if-not-move_in_limits.true))))
-
-pub loop-left-preserved : goal.loop-left-preserved
-loop-left-preserved c =
-    let long : length c.args.held ≡ 256 = search rules in
-    let made : c.move_of-t.result ≡ get_or (map move_of c.args.held) (c.loop-left.left - 1) past_move = let n = c.requires.1 in
-    let m = c.loop-left.invariant.0 in
-    c.move_of-t.ensures ∙ sym (mapped_at HeldMove Transition move_of c.args.held past_move _ _ (omega (arith, long))) in
-    let l = c.loop-left in (
-      omega arith,
-      every_on (λ i. move_in_limits c.args.states c.args.activities c.args.events c.args.outcomes (get_or (map move_of c.args.held) i past_move)) c.args.count l.left c.loop-left-test.true l.invariant.1
-          (rw (← made, ← c.move_in_limits.ensures) (not-false c.move_in_limits.result (ap not c.if-not-move_in_limits.false))),
-    )
 
 pub returns : goal.returns
 unfolding moves_in_limits
 returns c =
-    let l = c.loop-left in
-    sym (every_end (λ i. move_in_limits c.args.states c.args.activities c.args.events c.args.outcomes (get_or (map move_of c.args.held) i past_move)) c.args.count l.left (omega arith) l.invariant.1)
+    let a = c.args in
+    let good = move_in_limits a.states a.activities a.events a.outcomes in
+    let long : length (map move_of a.held) ≡ 256 = length-map a.held move_of ∙ search rules in
+    all_from_yields_List (λ (h : HeldMove). good (move_of h)) _ _ _ c.all.ensures.ran (YieldsList-from_slice (take a.count a.held) cc) (λ x b q k. search (rules, tests))
+    ∙ sym (list_all-map good move_of (take a.count a.held))
+    ∙ ap (list_all good) (sym (take-map move_of a.count a.held))
+    ∙ sym (every_taken good past_move (map move_of a.held) a.count (omega (arith, long)))

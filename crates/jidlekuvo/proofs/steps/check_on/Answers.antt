@@ -1,8 +1,9 @@
 -- `check_on` says what the checks say of the run that the numbers stand for.
+use Rattle.std.specs.Prelude.{Option}
 use mathlib.Core.Path.{◌≡◌, refl, sym, ◌∙◌, ap, subst}
 use Rattle.run_window.specs.declared.Sought.{Sought}
 use Rattle.run_window.specs.Inner.Search.{SoughtInTime}
-use Rattle.run_checks.specs.declared.Halt.{Halt}
+use Rattle.run_checks.specs.declared.Stop.{Stop}
 use Rattle.run_checks.specs.declared.Moment.{Moment}
 use Rattle.run.specs.declared.Run.{Run}
 use Rattle.run.specs.Calls.{reading_of}
@@ -40,7 +41,7 @@ returns c =
     let l = c.look-seen in
     let call = c.args.c in
     c.check_call.ensures
-    ∙ ap (λ (x : Halt). check_seen c.args.limits x (moment) l.result) c.halt_of-halt.ensures
+    ∙ ap (λ (x : Option Stop). check_seen c.args.limits x (moment) l.result) c.halt_of-halt.ensures
     ∙ seen_checked (given) (moment).t c.sought_by-sought.result c.args.limits l.result (limits) l.ensures
     ∙ ap (λ (x : Sought). check_nodes_last (given) (moment).t x) c.sought_by-sought.ensures
     ∙ ap (λ (m : Moment). check_nodes_last (given) m.t (sought_by (moment).psi call)) c.moment_of-m.ensures

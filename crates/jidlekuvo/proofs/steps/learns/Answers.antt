@@ -1,4 +1,5 @@
 -- `learns` loads into the window that the numbers stand for, from a plan that differs from theirs in its spare room alone.
+use Rattle.std.specs.Prelude.{None}
 use native.Mathlib.Omega.{arith}
 use mathlib.Core.Path.{◌≡◌, refl, sym, ◌∙◌, ap, subst}
 use mathlib.Core.List.{List, map}
@@ -12,7 +13,6 @@ use Rattle.plan.specs.declared.Transition.{Transition}
 use Rattle.plan.specs.declared.Plan.{Plan}
 use Rattle.run_window.specs.declared.Entry.{Entry}
 use Rattle.run_window.specs.Window.{vacant}
-use Rattle.run_checks.specs.declared.Halt.{Halt}
 use Rattle.run_outcomes.specs.Told.{told_of}
 use Rattle.run_loading.specs.Loading.{further, most_pending}
 use Rattle.run_loading.specs.Inner.Loading.{Loads}
@@ -68,4 +68,4 @@ returns c =
     ∙ room_further (plan_of a.held) (read) (gone) c.requires.0.plan (nodes-same) (moves_same) most_pending g (set (map entry_of a.rest.window) a.i vacant) in
     let a = c.args in
     c.learnt.ensures
-    ∙ ap stepped_of (sym (loaded_as_lem (run_at (plan_of a.held) a.progress (map entry_of a.rest.window) a.m Halt.Going) refl a.m.t a.i (told_of a.progress a.e a.x a.o) c.load-loading.result (loaded)))
+    ∙ ap stepped_of (sym (loaded_as_lem (run_at (plan_of a.held) a.progress (map entry_of a.rest.window) a.m None) refl a.m.t a.i (told_of a.progress a.e a.x a.o) c.load-loading.result (loaded)))

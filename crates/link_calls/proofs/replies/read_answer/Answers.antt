@@ -1,4 +1,5 @@
 -- Each answer by its map, at its offsets.
+use Rattle.std.specs.Prelude.{Ok}
 use mathlib.Core.Path.{◌≡◌, sym, ◌∙◌, ap}
 use mathlib.Core.Bool.{true}
 use Prim.Native.Nat.{ℕ}
@@ -7,7 +8,6 @@ use lib.ListN.{get_or}
 use borrow.Author.Tests.{ne_eqb}
 use Rattle.run.specs.declared.Reply.{Reply}
 use Rattle.link_messages.specs.Message.{has_length}
-use Rattle.link_calls.specs.declared.AnswerRead.{AnswerRead}
 use Rattle.link_calls.specs.Replies.{naming, with_number}
 use Rattle.link_calls.proofs.Laws.Reads.{answer_length, answer_unlisted, reads_start, reads_wait, reads_done, reads_taken, reads_number, reads_node}
 use Rattle.link_calls.proofs.Offsets.{short, long, one_byte, start_long, number_long, node_long}
@@ -40,7 +40,7 @@ bounds-bytes-5 c =
 pub returns-in-22 : goal.returns-in-22
 returns-in-22 c =
     let is-long : has_length c.args.bytes.now ≡ true = long c.args.bytes.now _ c.has_length.ensures (ap not c.if-not-has_length.false) in
-    ap (λ (p : ℕ). AnswerRead.Reply (Reply.Start p (get_or c.args.bytes.now 6 0) (get_or c.args.bytes.now 5 0))) c.four-position.ensures.0 ∙ sym (reads_start c.args.bytes.now (is-long) c.in-22.is)
+    ap (λ (p : ℕ). Ok (Reply.Start p (get_or c.args.bytes.now 6 0) (get_or c.args.bytes.now 5 0))) c.four-position.ensures.0 ∙ sym (reads_start c.args.bytes.now (is-long) c.in-22.is)
 
 pub returns-in-0 : goal.returns-in-0
 returns-in-0 c =

@@ -17,4 +17,4 @@ pub shape_of-out : goal.shape_of-out
 shape_of-out c = puts_length c.put_if.ensures.1 ∙ puts_length c.put_if-f.ensures.1 ∙ puts_length c.put_if-e.ensures.1 ∙ puts_length c.put_if-d.ensures.1 ∙ puts_length c.put_if-c.ensures.1 ∙ puts_length c.put_if-b.ensures.1 ∙ puts_length c.put_byte-a.ensures
 
 pub returns : goal.returns
-returns c = rw (← c.stands.ensures, ← c.stands-2.ensures, ← c.stands-3.ensures, ← c.stands-4.ensures, ← c.stands-5.ensures, ← c.stands-6.ensures) (puts_join (puts_byte (omega arith) c.put_byte-a.ensures) (puts_join c.put_if-b.ensures.1 (puts_join c.put_if-c.ensures.1 (puts_join c.put_if-d.ensures.1 (puts_join c.put_if-e.ensures.1 (puts_join c.put_if-f.ensures.1 c.put_if.ensures.1))))))
+returns c = rw (← c.stands.ensures, ← c.stands-2.ensures, ← c.stands-3.ensures, ← c.stands-4.ensures, ← c.stands-5.ensures, ← c.stands-6.ensures, ← c.from.ensures, ← c.from-2.ensures, ← c.from-3.ensures, ← c.from-4.ensures, ← c.from-5.ensures) (puts_join (puts_byte (omega arith) c.put_byte-a.ensures) (puts_join c.put_if-b.ensures.1 (puts_join c.put_if-c.ensures.1 (puts_join c.put_if-d.ensures.1 (puts_join c.put_if-e.ensures.1 (puts_join c.put_if-f.ensures.1 c.put_if.ensures.1))))))

@@ -1,16 +1,18 @@
 -- Each tag gives its phase.
-use borrow.Author.Tests.{eq-eqb, ne_eqb}
+use Prim.Native.Nat.{◌%◌}
+use native.Mathlib.Omega.{arith}
+use borrow.Author.Tests.{ne_eqb}
 use Rattle.made.specs.Values.{phase_of}
 use Rattle.made.proofs.entries.phase_of.Goals as goal
 
-pub returns-then-tag-eq0 : goal.returns-then-tag-eq0
+pub returns-in-0 : goal.returns-in-0
 unfolding phase_of
-returns-then-tag-eq0 c = rw (eq-eqb _ _ c.if-tag-eq0.true)
+returns-in-0 c = rw c.in-0.is
 
-pub returns-then-tag-eq1 : goal.returns-then-tag-eq1
+pub returns-in-1 : goal.returns-in-1
 unfolding phase_of
-returns-then-tag-eq1 c = rw (ne_eqb _ _ c.if-tag-eq0.false, eq-eqb _ _ c.if-tag-eq1.true)
+returns-in-1 c = rw c.in-1.is
 
-pub returns : goal.returns
+pub returns-in_default : goal.returns-in_default
 unfolding phase_of
-returns c = rw (ne_eqb _ _ c.if-tag-eq0.false, ne_eqb _ _ c.if-tag-eq1.false)
+returns-in_default c = rw (ne_eqb (c.args.tag % 3) 0 (λ e. omega arith), ne_eqb (c.args.tag % 3) 1 (λ e. omega arith))

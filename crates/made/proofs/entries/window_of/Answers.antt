@@ -9,11 +9,11 @@ use borrow.Author.Rules.{rules}
 use Rattle.made.proofs.entries.window_of.Goals as goal
 
 pub loop-i-init : goal.loop-i-init
-loop-i-init c = let a = c.args in (search rules, search rules, search rules, fills_none entry_at entry_size a.bytes.now window_from 512 [])
+loop-i-init c = let a = c.args in (search rules, fills_none entry_at entry_size a.bytes.now window_from 512 [])
 
 pub loop-i-preserved : goal.loop-i-preserved
-loop-i-preserved c = let l = c.loop-i in let a = c.args in (omega arith, omega arith, simp length-set l.invariant.2, fills_more entry_at entry_size a.bytes.now window_from 512 l.window l.i l.off l.invariant.3 _ c.entry_at.ensures c.loop-i-test.true (omega arith))
+loop-i-preserved c = let l = c.loop-i in let a = c.args in (simp length-set l.invariant.0, fills_more entry_at entry_size a.bytes.now window_from 512 l.x-items l.i l.invariant.1 _ c.entry_at.ensures c.loop-i-test.true (omega arith))
 
 pub returns : goal.returns
 unfolding window_of
-returns c = let l = c.loop-i in let a = c.args in fills_all entry_at entry_size a.bytes.now window_from 512 l.window l.i l.off l.invariant.3 l.invariant.2 (omega arith) (omega arith)
+returns c = let l = c.loop-i in let a = c.args in fills_all entry_at entry_size a.bytes.now window_from 512 l.x-items l.i l.invariant.1 l.invariant.0 (omega arith) (omega arith)

@@ -8,10 +8,10 @@ use borrow.Author.Rules.{rules}
 use Rattle.made.proofs.moments.pending_of.Goals as goal
 
 pub loop-i-init : goal.loop-i-init
-loop-i-init c = let a = c.args in (search rules, search rules, search rules, fills_none instance_at instance_size a.bytes.now pending_from 128 [])
+loop-i-init c = let a = c.args in (search rules, fills_none instance_at instance_size a.bytes.now pending_from 128 [])
 
 pub loop-i-preserved : goal.loop-i-preserved
-loop-i-preserved c = let l = c.loop-i in let a = c.args in (omega arith, omega arith, simp length-set l.invariant.2, fills_more instance_at instance_size a.bytes.now pending_from 128 l.pending l.i l.off l.invariant.3 _ c.instance_at.ensures c.loop-i-test.true (omega arith))
+loop-i-preserved c = let l = c.loop-i in let a = c.args in (simp length-set l.invariant.0, fills_more instance_at instance_size a.bytes.now pending_from 128 l.x-items l.i l.invariant.1 _ c.instance_at.ensures c.loop-i-test.true (omega arith))
 
 pub returns : goal.returns
-returns c = let l = c.loop-i in let a = c.args in fills_all instance_at instance_size a.bytes.now pending_from 128 l.pending l.i l.off l.invariant.3 l.invariant.2 (omega arith) (omega arith)
+returns c = let l = c.loop-i in let a = c.args in fills_all instance_at instance_size a.bytes.now pending_from 128 l.x-items l.i l.invariant.1 l.invariant.0 (omega arith) (omega arith)

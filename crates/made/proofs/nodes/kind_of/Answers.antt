@@ -1,20 +1,22 @@
 -- Each tag gives its kind.
-use borrow.Author.Tests.{eq-eqb, ne_eqb}
+use Prim.Native.Nat.{◌%◌}
+use native.Mathlib.Omega.{arith}
+use borrow.Author.Tests.{ne_eqb}
 use Rattle.made.specs.Values.{kind_of}
 use Rattle.made.proofs.nodes.kind_of.Goals as goal
 
-pub returns-then-tag-eq0 : goal.returns-then-tag-eq0
+pub returns-in-0 : goal.returns-in-0
 unfolding kind_of
-returns-then-tag-eq0 c = rw (eq-eqb _ _ c.if-tag-eq0.true)
+returns-in-0 c = rw c.in-0.is
 
-pub returns-then-tag-eq1 : goal.returns-then-tag-eq1
+pub returns-in-1 : goal.returns-in-1
 unfolding kind_of
-returns-then-tag-eq1 c = rw (ne_eqb _ _ c.if-tag-eq0.false, eq-eqb _ _ c.if-tag-eq1.true)
+returns-in-1 c = rw c.in-1.is
 
-pub returns-then-tag-eq2 : goal.returns-then-tag-eq2
+pub returns-in-2 : goal.returns-in-2
 unfolding kind_of
-returns-then-tag-eq2 c = rw (ne_eqb _ _ c.if-tag-eq0.false, ne_eqb _ _ c.if-tag-eq1.false, eq-eqb _ _ c.if-tag-eq2.true)
+returns-in-2 c = rw c.in-2.is
 
-pub returns : goal.returns
+pub returns-in_default : goal.returns-in_default
 unfolding kind_of
-returns c = rw (ne_eqb _ _ c.if-tag-eq0.false, ne_eqb _ _ c.if-tag-eq1.false, ne_eqb _ _ c.if-tag-eq2.false)
+returns-in_default c = rw (ne_eqb (c.args.tag % 4) 0 (λ e. omega arith), ne_eqb (c.args.tag % 4) 1 (λ e. omega arith), ne_eqb (c.args.tag % 4) 2 (λ e. omega arith))

@@ -8,10 +8,10 @@ overflow_mul-result c = omega (arith, c.number.ensures.1)
 pub overflow_add-result : goal.overflow_add-result
 overflow_add-result c = omega (arith, c.number.ensures.1, c.short_place.ensures)
 
-pub returns-in-Accepted : goal.returns-in-Accepted
+pub returns-in-Ok : goal.returns-in-Ok
 unfolding code_of
-returns-in-Accepted c = rw c.in-Accepted.is
+returns-in-Ok c = rw c.in-Ok.is
 
-pub returns-in-Refused : goal.returns-in-Refused
+pub returns-in-Err : goal.returns-in-Err
 unfolding code_of
-returns-in-Refused c = simp (c.in-Refused.is, c.number.ensures.0, c.short_place.ensures)
+returns-in-Err c = simp (c.in-Err.is, c.number.ensures.0, c.short_place.ensures)

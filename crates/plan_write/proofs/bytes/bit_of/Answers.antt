@@ -1,10 +1,14 @@
 -- A bit stands iff the number is not 0.
-use native.Mathlib.Omega.{arith}
-use borrow.Author.Tests.{eq-eqb, ne_eqb}
+use Rattle.std.specs.Prelude.{◌≡◌, ◌≤◌, refl, Bool, true, false}
+use Rattle.std.proofs.Common.{◌∙◌, arith}
+use Rattle.std.specs.Int.{from_bool}
+use Rattle.wire.specs.Number.{present}
+use Rattle.plan_write.specs.Inner.Bits.{digit}
 use Rattle.plan_write.proofs.bytes.bit_of.Goals as goal
 
-pub returns-then-x-eq0 : goal.returns-then-x-eq0
-returns-then-x-eq0 c = (rw (eq-eqb _ _ c.if-x-eq0.true), omega arith)
+same : (b : Bool) → (from_bool b ≡ digit b) × (digit b ≤ 1)
+same true = (refl, omega arith)
+same false = (refl, omega arith)
 
-pub returns-else-x-eq0 : goal.returns-else-x-eq0
-returns-else-x-eq0 c = (rw (ne_eqb _ _ c.if-x-eq0.false), omega arith)
+pub returns : goal.returns
+returns c = let s = same (present c.args.x) in (c.from.ensures ∙ s.0, omega (arith, s.0, s.1, c.from.ensures))

@@ -16,4 +16,5 @@ put_moves-requires c = (omega (arith, length_bytes 8 c.args.t.finals, length_byt
 pub returns : goal.returns
 returns c =
     let t = c.args.t in
-    rw (automaton_print 0 [] 0 t) (puts_join (puts_byte (omega arith) c.put_byte-a.ensures) (puts_join (puts_byte (omega arith) c.put_byte-b.ensures) (puts_join c.put_number-c.ensures (puts_join c.put_number-d.ensures c.put_moves.ensures))))
+    let d = rw c.from.ensures at c.put_number-d.ensures in
+    rw (automaton_print 0 [] 0 t) (puts_join (puts_byte (omega arith) c.put_byte-a.ensures) (puts_join (puts_byte (omega arith) c.put_byte-b.ensures) (puts_join c.put_number-c.ensures (puts_join d c.put_moves.ensures))))

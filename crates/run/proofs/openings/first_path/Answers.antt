@@ -19,25 +19,25 @@ use Rattle.run.proofs.openings.first_path.Goals as goal
 abbrev first : Plan → Clock → ℕ → List ℕ → Run
 first p psi slack ts = fresh p psi slack (at_first (availabilities ts) p.automaton.initial)
 
-pub returns-in-Activity : goal.returns-in-Activity
+pub returns-in-Some : goal.returns-in-Some
 unfolding first_path
-returns-in-Activity c =
+returns-in-Some c =
     let s = c.args in
     let q = c.short_from-short in
     c.unopened.ensures
-    ∙ sym (one_short (short_from s.plan s.slack 0 s.plan.activities) (λ a. unopened (Unopened.Short a)) (begin (first s.plan s.psi s.slack s.ts.now)) q.result q.ensures _ c.in-Activity.is)
+    ∙ sym (one_short (short_from s.plan s.slack 0 s.plan.activities) (λ a. unopened (Unopened.Short a)) (begin (first s.plan s.psi s.slack s.ts.now)) q.result q.ensures _ c.in-Some.is)
 
 pub first-loading-requires : goal.first-loading-requires
 first-loading-requires c =
     subst (Loads c.args.plan) (sym (c.at_first-progress.ensures ∙ ap (λ (x : List Specified). at_first x c.args.plan.automaton.initial) c.given-available.ensures))
     (first_loads c.args.plan c.requires.in_limits c.args.ts.now c.requires.ts_value)
 
-pub returns-in-Nothing : goal.returns-in-Nothing
+pub returns-in-None : goal.returns-in-None
 unfolding first_path
-returns-in-Nothing c =
+returns-in-None c =
     let s = c.args in
     let q = c.short_from-short in
     c.after_first.ensures
     ∙ begins s.plan s.psi s.slack c.at_first-progress.result c.first-loading.result c.first-loading.ensures
     ∙ ap (λ (x : Progress). begin (fresh s.plan s.psi s.slack x)) (c.at_first-progress.ensures ∙ ap (λ (x : List Specified). at_first x s.plan.automaton.initial) c.given-available.ensures)
-    ∙ sym (none_short (short_from s.plan s.slack 0 s.plan.activities) (λ a. unopened (Unopened.Short a)) (begin (first s.plan s.psi s.slack s.ts.now)) q.result q.ensures c.in-Nothing.is)
+    ∙ sym (none_short (short_from s.plan s.slack 0 s.plan.activities) (λ a. unopened (Unopened.Short a)) (begin (first s.plan s.psi s.slack s.ts.now)) q.result q.ensures c.in-None.is)

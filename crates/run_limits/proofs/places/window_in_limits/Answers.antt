@@ -1,27 +1,13 @@
-use mathlib.Core.Path.{sym, ◌∙◌}
-use native.Mathlib.Omega.{arith}
-use borrow.Author.Tests.{not-true, not-false}
-use Rattle.run_limits.proofs.Laws.Places.{window_on, window_off, window_end}
-use mathlib.Core.Path.{ap}
-use mathlib.Core.Bool.{not}
+-- `places::window_in_limits` is what it is defined to be. Assumes nothing.
+use Rattle.std.proofs.Common.{◌∙◌, rules, tests}
+use Rattle.std.proofs.lemmas.Iterator.{YieldsList-from_slice}
+use Rattle.std.proofs.lemmas.Iterator.Search.{all_from_yields_List}
+use Rattle.run_limits.specs.Window.{entry_in_limits}
+use Rattle.run_limits.proofs.Laws.Places.{window_is_all}
 use Rattle.run_limits.proofs.places.window_in_limits.Goals as goal
-
-pub returns-then-not-entry_in_limits : goal.returns-then-not-entry_in_limits
-returns-then-not-entry_in_limits c =
-    let l = c.loop-i in
-    sym (window_off c.args.activities c.args.sizes c.args.window l.i (omega arith) l.invariant.2
-    (sym c.entry_in_limits.ensures ∙ not-true c.entry_in_limits.result (ap not c.if-not-entry_in_limits.true)))
-
-pub loop-i-preserved : goal.loop-i-preserved
-loop-i-preserved c =
-    let l = c.loop-i in (
-      omega arith,
-      l.invariant.1,
-      window_on c.args.activities c.args.sizes c.args.window l.i (omega arith) l.invariant.2
-          (sym c.entry_in_limits.ensures ∙ not-false c.entry_in_limits.result (ap not c.if-not-entry_in_limits.false)),
-    )
 
 pub returns : goal.returns
 returns c =
-    let l = c.loop-i in
-    sym (window_end c.args.activities c.args.sizes c.args.window l.i (omega arith) l.invariant.2)
+    let a = c.args in
+    all_from_yields_List (entry_in_limits a.activities a.sizes) _ _ _ c.all.ensures.ran (YieldsList-from_slice a.window cc) (λ x b q k. search (rules, tests))
+    ∙ window_is_all a.activities a.sizes a.window

@@ -14,7 +14,6 @@ pub loop-i-init : goal.loop-i-init
 loop-i-init c =
     let long : length c.args.window ≡ 512 = search unmapped in
     let n = long in (
-      omega arith,
       scan_none (Sought.Overdue c.args.psi c.args.t) c.args.window 512 (omega arith),
       scan_none (Sought.Late c.args.psi c.args.slack c.args.t) c.args.window 512 (omega arith),
       scan_none c.args.sought c.args.window 512 (omega arith),
@@ -32,10 +31,9 @@ loop-i-preserved-then-not-is_noticed c =
     let more = c.loop-i-test.true in
     let none = or-false _ _ (sym c.is_noticed.ensures ∙ not-true _ (ap not c.if-not-is_noticed.true)) in
     let rest = or-false _ _ none.1 in (
-      omega arith,
-      scan_passed (Sought.Overdue c.args.psi c.args.t) c.args.window _ l.i more (omega (arith, n)) none.0 l.overdue l.invariant.1,
-      scan_passed (Sought.Late c.args.psi c.args.slack c.args.t) c.args.window _ l.i more (omega (arith, n)) rest.0 l.late l.invariant.2,
-      scan_passed c.args.sought c.args.window _ l.i more (omega (arith, n)) rest.1 l.best l.invariant.3,
+      scan_passed (Sought.Overdue c.args.psi c.args.t) c.args.window _ l.i more (omega (arith, n)) none.0 l.overdue l.invariant.0,
+      scan_passed (Sought.Late c.args.psi c.args.slack c.args.t) c.args.window _ l.i more (omega (arith, n)) rest.0 l.late l.invariant.1,
+      scan_passed c.args.sought c.args.window _ l.i more (omega (arith, n)) rest.1 l.best l.invariant.2,
     )
 
 pub ties_either-requires : goal.ties_either-requires
@@ -57,10 +55,9 @@ loop-i-preserved c =
     let n = long in
     let more = c.loop-i-test.true in
     let untied = or-false _ _ (sym c.ties_either.ensures ∙ c.if-ties_either.false) in (
-      omega arith,
-      λ nodes. ap (λ (r : Ranked). r.found) c.kept-overdue.ensures ∙ scan_turn (Sought.Overdue c.args.psi c.args.t) c.args.window _ l.i more (omega (arith, n)) l.overdue (overdue_agrees c.args.psi c.args.t _ l.overdue) l.invariant.1 nodes,
-      λ nodes. ap (λ (r : Ranked). r.found) c.kept-late.ensures ∙ scan_turn (Sought.Late c.args.psi c.args.slack c.args.t) c.args.window _ l.i more (omega (arith, n)) l.late (untied_agrees (Sought.Late c.args.psi c.args.slack c.args.t) _ l.late untied.0) l.invariant.2 nodes,
-      λ nodes. ap (λ (r : Ranked). r.found) c.kept-best.ensures ∙ scan_turn c.args.sought c.args.window _ l.i more (omega (arith, n)) l.best (untied_agrees c.args.sought _ l.best untied.1) l.invariant.3 nodes,
+      λ nodes. ap (λ (r : Ranked). r.found) c.kept-overdue.ensures ∙ scan_turn (Sought.Overdue c.args.psi c.args.t) c.args.window _ l.i more (omega (arith, n)) l.overdue (overdue_agrees c.args.psi c.args.t _ l.overdue) l.invariant.0 nodes,
+      λ nodes. ap (λ (r : Ranked). r.found) c.kept-late.ensures ∙ scan_turn (Sought.Late c.args.psi c.args.slack c.args.t) c.args.window _ l.i more (omega (arith, n)) l.late (untied_agrees (Sought.Late c.args.psi c.args.slack c.args.t) _ l.late untied.0) l.invariant.1 nodes,
+      λ nodes. ap (λ (r : Ranked). r.found) c.kept-best.ensures ∙ scan_turn c.args.sought c.args.window _ l.i more (omega (arith, n)) l.best (untied_agrees c.args.sought _ l.best untied.1) l.invariant.2 nodes,
     )
 
 pub returns : goal.returns
@@ -68,7 +65,7 @@ returns c =
     λ nodes.
     let l = c.loop-i in
     let z : l.i ≡ 0 = omega arith in
-    c.seen.ensures ∙ simp (l.invariant.1 nodes, l.invariant.2 nodes, l.invariant.3 nodes, z)
+    c.seen.ensures ∙ simp (l.invariant.0 nodes, l.invariant.1 nodes, l.invariant.2 nodes, z)
 
 pub returns-then-ties_either : goal.returns-then-ties_either
 returns-then-ties_either c = tt

@@ -15,29 +15,26 @@ floor-c-requires c = input_fits {E = c.requires.events} c.args.input c.requires.
 pub processed-h-requires : goal.processed-h-requires
 processed-h-requires c = input_fits {E = c.requires.events} c.args.input c.requires.few_events c.requires.input
 
-pub scheduled-t-requires : goal.scheduled-t-requires
-scheduled-t-requires c =
-    let held : with_available c.processed-h.result c.raised-available.result ≡ held_of c.args.resources (floor_of c.args.input c.args.progress) (processed_of c.args.input c.args.progress) = held_as _ _ _ c.floor-c.ensures c.processed-h.ensures (held_parts _ _ c.processed-h.result c.raised-available.ensures) in
+pub scheduled-schedule-requires : goal.scheduled-schedule-requires
+scheduled-schedule-requires c =
+    let held : with_available c.processed-h.result c.raised-h.result ≡ held_of c.args.resources (floor_of c.args.input c.args.progress) (processed_of c.args.input c.args.progress) = held_as _ _ _ c.floor-c.ensures c.processed-h.ensures (held_parts _ _ c.processed-h.result c.raised-h.ensures) in
     subst (λ (h : Progress). Timeable c.args.activity h.available h.latest) (sym (held)) (timeable _ _ _ _ c.requires)
 
-pub left-g-requires : goal.left-g-requires
-left-g-requires c =
-    let held : with_available c.processed-h.result c.raised-available.result ≡ held_of c.args.resources (floor_of c.args.input c.args.progress) (processed_of c.args.input c.args.progress) = held_as _ _ _ c.floor-c.ensures c.processed-h.ensures (held_parts _ _ c.processed-h.result c.raised-available.ensures) in
+pub left-progress-requires : goal.left-progress-requires
+left-progress-requires c =
+    let held : with_available c.processed-h.result c.raised-h.result ≡ held_of c.args.resources (floor_of c.args.input c.args.progress) (processed_of c.args.input c.args.progress) = held_as _ _ _ c.floor-c.ensures c.processed-h.ensures (held_parts _ _ c.processed-h.result c.raised-h.ensures) in
     let a = c.args in
-    subst (Leaving a.activity) (sym c.scheduled-t.ensures)
+    subst (Leaving a.activity) (sym c.scheduled-schedule.ensures)
     (leaving a.activity _ _ (subst (λ (h : Progress). Timeable a.activity h.available h.latest) (sym (held)) (timeable _ _ _ _ c.requires)))
 
-pub beyond-past-requires : goal.beyond-past-requires
-beyond-past-requires c = record { resources_bound = c.requires.few_resources; size_bound = c.requires.activity.count }
-
-pub overflow_add-g : goal.overflow_add-g
-overflow_add-g c =
-    let held : with_available c.processed-h.result c.raised-available.result ≡ held_of c.args.resources (floor_of c.args.input c.args.progress) (processed_of c.args.input c.args.progress) = held_as _ _ _ c.floor-c.ensures c.processed-h.ensures (held_parts _ _ c.processed-h.result c.raised-available.ensures) in
+pub overflow_add-progress : goal.overflow_add-progress
+overflow_add-progress c =
+    let held : with_available c.processed-h.result c.raised-h.result ≡ held_of c.args.resources (floor_of c.args.input c.args.progress) (processed_of c.args.input c.args.progress) = held_as _ _ _ c.floor-c.ensures c.processed-h.ensures (held_parts _ _ c.processed-h.result c.raised-h.ensures) in
     let a = c.args in
-    let e = ap (λ (h : Progress). h.position) c.left-g.ensures ∙ left_position (nodes_of a.activity) _ _ _ ∙ ap (λ (h : Progress). h.position) (held) in
+    let e = ap (λ (h : Progress). h.position) c.left-progress.ensures ∙ left_position (nodes_of a.activity) _ _ _ ∙ ap (λ (h : Progress). h.position) (held) in
     omega (arith, e, position_le a.resources a.activity a.input a.progress c.requires)
 
 pub returns : goal.returns
 returns c =
-    assembled _ _ _ _ _ c.floor-c.ensures c.processed-h.ensures (held_parts _ _ c.processed-h.result c.raised-available.ensures) c.scheduled-t.ensures c.left-g.ensures
-    (closed_parts _ _ _ _ _ c.beyond-past.ensures)
+    assembled _ _ _ _ _ c.floor-c.ensures c.processed-h.ensures (held_parts _ _ c.processed-h.result c.raised-h.ensures) c.scheduled-schedule.ensures c.left-progress.ensures
+    (closed_parts _ _ _ _ _ c.beyond-beyond.ensures)

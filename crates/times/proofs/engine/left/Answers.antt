@@ -1,120 +1,34 @@
-use mathlib.Core.Path.{sym, ◌∙◌, subst}
+use mathlib.Core.Path.{sym, ◌∙◌}
 use Prim.Native.Nat.{◌<◌}
-use native.Mathlib.Nat.{sub-zero}
 use native.Mathlib.Omega.{arith}
 use lib.ListN.{get_or}
+use Rattle.std.proofs.lemmas.List.{get_or-take, length-take}
 use Rattle.plan.specs.Plan.{past_node, nodes_of}
 use Rattle.times.proofs.Laws.Leaves.{leaves, leaves_end, leaves_action, leaves_claim, leaves_release, leaves_joined, leaves_dropped}
-use Rattle.times.proofs.Laws.Rounds.{kind_fits}
-use Rattle.times.specs.Limits.{KindFits}
 use Rattle.times.specs.Times.{at}
 use Rattle.times.proofs.engine.left.Goals as goal
+use Rattle.times.proofs.engine.left.Goals.{in-Action, in-Claim, in-Release, in-Event+then-length-lt8, in-Event+else-length-lt8}
 
-pub loop-j-init : goal.loop-j-init
-loop-j-init c = (omega arith, omega arith, rw sub-zero)
-
-pub offset_bounds-t-n : goal.offset_bounds-t-n
-offset_bounds-t-n c =
-    let inside : c.u8_to_usize-n.result < c.args.a.count = omega (arith, c.u8_to_usize-n.ensures, c.requires.within c.loop-j.j (omega arith)) in
-    omega (arith, inside, c.requires.activity.count)
-
-pub bounds-t-n : goal.bounds-t-n
-bounds-t-n c =
-    let inside : c.u8_to_usize-n.result < c.args.a.count = omega (arith, c.u8_to_usize-n.ensures, c.requires.within c.loop-j.j (omega arith)) in
-    omega (arith, inside, c.requires.activity.count)
-
-pub offset_bounds-a-n : goal.offset_bounds-a-n
-offset_bounds-a-n c =
-    let inside : c.u8_to_usize-n.result < c.args.a.count = omega (arith, c.u8_to_usize-n.ensures, c.requires.within c.loop-j.j (omega arith)) in
-    omega (arith, inside, c.requires.activity.count)
-
-pub bounds-a-n : goal.bounds-a-n
-bounds-a-n c =
-    let inside : c.u8_to_usize-n.result < c.args.a.count = omega (arith, c.u8_to_usize-n.ensures, c.requires.within c.loop-j.j (omega arith)) in
-    omega (arith, inside, c.requires.activity.count)
-
-pub loop-j-preserved-in-Action : goal.loop-j-preserved-in-Action
-loop-j-preserved-in-Action c =
-    let inside : c.u8_to_usize-n.result < c.args.a.count = omega (arith, c.u8_to_usize-n.ensures, c.requires.within c.loop-j.j (omega arith)) in
-    let l = c.loop-j in
-    let n = c.u8_to_usize-n in
-    (omega arith, omega arith, leaves c.args.a c.args.t l.j n.result l.h n.ensures (inside) (omega arith) l.invariant.2 (leaves_action n.result (at c.args.t.end n.result) (get_or c.args.a.nodes n.result past_node).kind l.h _ _ c.in-Action.is))
-
-pub loop-j-preserved-in-Claim : goal.loop-j-preserved-in-Claim
-loop-j-preserved-in-Claim c =
-    let inside : c.u8_to_usize-n.result < c.args.a.count = omega (arith, c.u8_to_usize-n.ensures, c.requires.within c.loop-j.j (omega arith)) in
-    let l = c.loop-j in
-    let n = c.u8_to_usize-n in
-    (omega arith, omega arith, leaves c.args.a c.args.t l.j n.result l.h n.ensures (inside) (omega arith) l.invariant.2 (leaves_claim n.result (at c.args.t.end n.result) (get_or c.args.a.nodes n.result past_node).kind l.h _ c.in-Claim.is))
-
-pub bounds-h-u8_to_usize : goal.bounds-h-u8_to_usize
-bounds-h-u8_to_usize c =
-    let inside : c.u8_to_usize-n.result < c.args.a.count = omega (arith, c.u8_to_usize-n.ensures, c.requires.within c.loop-j.j (omega arith)) in
-    let named : KindFits 16 16 (get_or c.args.a.nodes c.u8_to_usize-n.result past_node).kind = let p = c.requires in
-    kind_fits {R = p.resources} {E = p.events} (get_or c.args.a.nodes c.u8_to_usize-n.result past_node).kind p.few_resources p.few_events (p.activity.nodes c.u8_to_usize-n.result (inside)).names in
-    omega (arith, c.u8_to_usize.ensures, subst (KindFits 16 16) c.in-Release.is (named))
-
-pub loop-j-preserved-in-Release : goal.loop-j-preserved-in-Release
-loop-j-preserved-in-Release c =
-    let inside : c.u8_to_usize-n.result < c.args.a.count = omega (arith, c.u8_to_usize-n.ensures, c.requires.within c.loop-j.j (omega arith)) in
-    let l = c.loop-j in
-    let n = c.u8_to_usize-n in
-    (omega arith, omega arith, leaves c.args.a c.args.t l.j n.result l.h n.ensures (inside) (omega arith) l.invariant.2 (leaves_release n.result (at c.args.t.end n.result) (get_or c.args.a.nodes n.result past_node).kind l.h _ _ c.in-Release.is c.u8_to_usize.ensures))
-
-pub bounds-h-i : goal.bounds-h-i
-bounds-h-i c =
-    let inside : c.u8_to_usize-n.result < c.args.a.count = omega (arith, c.u8_to_usize-n.ensures, c.requires.within c.loop-j.j (omega arith)) in
-    let named : KindFits 16 16 (get_or c.args.a.nodes c.u8_to_usize-n.result past_node).kind = let p = c.requires in
-    kind_fits {R = p.resources} {E = p.events} (get_or c.args.a.nodes c.u8_to_usize-n.result past_node).kind p.few_resources p.few_events (p.activity.nodes c.u8_to_usize-n.result (inside)).names in
-    let known : c.u8_to_usize-i.result < 16 = omega (arith, c.u8_to_usize-i.ensures, subst (KindFits 16 16) c.in-Event.is (named)) in
-    known
-
-pub bounds-h-i-in-Event : goal.bounds-h-i-in-Event
-bounds-h-i-in-Event c =
-    let inside : c.u8_to_usize-n.result < c.args.a.count = omega (arith, c.u8_to_usize-n.ensures, c.requires.within c.loop-j.j (omega arith)) in
-    let named : KindFits 16 16 (get_or c.args.a.nodes c.u8_to_usize-n.result past_node).kind = let p = c.requires in
-    kind_fits {R = p.resources} {E = p.events} (get_or c.args.a.nodes c.u8_to_usize-n.result past_node).kind p.few_resources p.few_events (p.activity.nodes c.u8_to_usize-n.result (inside)).names in
-    let known : c.u8_to_usize-i.result < 16 = omega (arith, c.u8_to_usize-i.ensures, subst (KindFits 16 16) c.in-Event.is (named)) in
-    known
-
-pub bounds-h-i-in-Event-2 : goal.bounds-h-i-in-Event-2
-bounds-h-i-in-Event-2 c =
-    let inside : c.u8_to_usize-n.result < c.args.a.count = omega (arith, c.u8_to_usize-n.ensures, c.requires.within c.loop-j.j (omega arith)) in
-    let named : KindFits 16 16 (get_or c.args.a.nodes c.u8_to_usize-n.result past_node).kind = let p = c.requires in
-    kind_fits {R = p.resources} {E = p.events} (get_or c.args.a.nodes c.u8_to_usize-n.result past_node).kind p.few_resources p.few_events (p.activity.nodes c.u8_to_usize-n.result (inside)).names in
-    let known : c.u8_to_usize-i.result < 16 = omega (arith, c.u8_to_usize-i.ensures, subst (KindFits 16 16) c.in-Event.is (named)) in
-    known
-
-pub bounds-h-i-then-length-lt8 : goal.bounds-h-i-then-length-lt8
-bounds-h-i-then-length-lt8 c =
-    let inside : c.u8_to_usize-n.result < c.args.a.count = omega (arith, c.u8_to_usize-n.ensures, c.requires.within c.loop-j.j (omega arith)) in
-    let named : KindFits 16 16 (get_or c.args.a.nodes c.u8_to_usize-n.result past_node).kind = let p = c.requires in
-    kind_fits {R = p.resources} {E = p.events} (get_or c.args.a.nodes c.u8_to_usize-n.result past_node).kind p.few_resources p.few_events (p.activity.nodes c.u8_to_usize-n.result (inside)).names in
-    let known : c.u8_to_usize-i.result < 16 = omega (arith, c.u8_to_usize-i.ensures, subst (KindFits 16 16) c.in-Event.is (named)) in
-    omega (arith, c.u8_to_usize-then-length-lt8.ensures, known, c.if-length-lt8.true)
-
-pub bounds-h-i-then-length-lt8-2 : goal.bounds-h-i-then-length-lt8-2
-bounds-h-i-then-length-lt8-2 c =
-    let inside : c.u8_to_usize-n.result < c.args.a.count = omega (arith, c.u8_to_usize-n.ensures, c.requires.within c.loop-j.j (omega arith)) in
-    let named : KindFits 16 16 (get_or c.args.a.nodes c.u8_to_usize-n.result past_node).kind = let p = c.requires in
-    kind_fits {R = p.resources} {E = p.events} (get_or c.args.a.nodes c.u8_to_usize-n.result past_node).kind p.few_resources p.few_events (p.activity.nodes c.u8_to_usize-n.result (inside)).names in
-    let known : c.u8_to_usize-i.result < 16 = omega (arith, c.u8_to_usize-i.ensures, subst (KindFits 16 16) c.in-Event.is (named)) in
-    known
-
-pub loop-j-preserved-then-length-lt8 : goal.loop-j-preserved-then-length-lt8
-loop-j-preserved-then-length-lt8 c =
-    let inside : c.u8_to_usize-n.result < c.args.a.count = omega (arith, c.u8_to_usize-n.ensures, c.requires.within c.loop-j.j (omega arith)) in
-    let l = c.loop-j in
-    let n = c.u8_to_usize-n in
-    (omega arith, omega arith, leaves c.args.a c.args.t l.j n.result l.h n.ensures (inside) (omega arith) l.invariant.2 (leaves_joined n.result (at c.args.t.end n.result) (get_or c.args.a.nodes n.result past_node).kind l.h _ _ _ _ _ c.in-Event.is c.u8_to_usize-i.ensures c.later.ensures c.u8_to_usize-then-length-lt8.ensures n.ensures c.if-length-lt8.true))
-
-pub loop-j-preserved : goal.loop-j-preserved
-loop-j-preserved c =
-    let inside : c.u8_to_usize-n.result < c.args.a.count = omega (arith, c.u8_to_usize-n.ensures, c.requires.within c.loop-j.j (omega arith)) in
-    let l = c.loop-j in
-    let n = c.u8_to_usize-n in
-    (omega arith, omega arith, leaves c.args.a c.args.t l.j n.result l.h n.ensures (inside) (omega arith) l.invariant.2 (leaves_dropped n.result (at c.args.t.end n.result) (get_or c.args.a.nodes n.result past_node).kind l.h _ _ _ c.in-Event.is c.u8_to_usize-i.ensures c.later.ensures c.if-length-lt8.false))
+pub loop-node-preserved : goal.loop-node-preserved
+loop-node-preserved c =
+    let l = c.loop-node in
+    let n = c.from-n.result in
+    let end = at c.args.t.end n in
+    let kind = (get_or c.args.a.nodes n past_node).kind in
+    let low : l.node-index < c.args.t.count = omega (arith, length-take c.from.result c.args.t.order) in
+    let here = get_or-take c.from.result c.args.t.order l.node-index 0 (omega arith) in
+    let inside : n < c.args.a.count = omega (arith, here, c.requires.within l.node-index low) in
+    leaves c.args.a c.args.t l.node-index n l.h (c.from-n.ensures ∙ here) inside low l.invariant
+    (elim c.match-x.branch [
+      | in-Action w ↦ leaves_action n end kind l.h _ _ w.in-Action.is ∙ sym w.h-is
+      | in-Claim w ↦ leaves_claim n end kind l.h _ w.in-Claim.is ∙ sym w.h-is
+      | in-Release w ↦ leaves_release n end kind l.h _ _ w.in-Release.is w.from-in-Release.ensures ∙ sym w.h-is
+      | in-Event+then-length-lt8 w ↦
+          leaves_joined n end kind l.h _ _ _ _ _ w.in-Event.is w.from-i.ensures w.later.ensures w.from-then-length-lt8.ensures c.from-n.ensures w.if-length-lt8.true
+          ∙ sym w.h-is
+      | in-Event+else-length-lt8 w ↦ leaves_dropped n end kind l.h _ _ _ w.in-Event.is w.from-i.ensures w.later.ensures w.if-length-lt8.false ∙ sym w.h-is
+    ])
 
 pub returns : goal.returns
-returns c = let l = c.loop-j in
-    sym (l.invariant.2 ∙ leaves_end (nodes_of c.args.a) c.args.t.end c.args.t.order l.j c.args.t.count l.h (omega arith))
+returns c = let l = c.loop-node in
+    sym (l.invariant ∙ leaves_end (nodes_of c.args.a) c.args.t.end c.args.t.order l.node-index c.args.t.count l.h (omega (arith, length-take c.from.result c.args.t.order)))

@@ -5,14 +5,14 @@ use Rattle.times.proofs.Laws.Loops.{raised_on, raised_end}
 use Rattle.times.proofs.engine.raised.Goals as goal
 
 pub loop-i-init : goal.loop-i-init
-loop-i-init c = (omega arith, omega arith, rw sub-zero)
+loop-i-init c = rw sub-zero
 
 pub loop-i-preserved : goal.loop-i-preserved
 loop-i-preserved c = let a = c.args in
     let l = c.loop-i in
-    (omega arith, omega arith, l.invariant.2 ∙ raised_on a.c.0 l.out l.i a.count (omega arith) ∙ rw c.later.ensures)
+    l.invariant ∙ raised_on a.c.0 l.available l.i a.count (omega arith) ∙ rw c.later.ensures
 
 pub returns : goal.returns
 returns c = let a = c.args in
     let l = c.loop-i in
-    sym (l.invariant.2 ∙ raised_end a.c.0 l.out l.i a.count (omega arith))
+    sym (l.invariant ∙ raised_end a.c.0 l.available l.i a.count (omega arith))

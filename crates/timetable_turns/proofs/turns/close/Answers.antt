@@ -29,7 +29,7 @@ pub returns-in-Lacks : goal.returns-in-Lacks
 returns-in-Lacks c =
     let s = c.args in
     closes_by _ s.at _ s.resources s.progress s.read _ s.step _ c.in-Lacks.is
-    (turns_shut _ s.at _ s.progress _ _ _ c.closed-in-Lacks.ensures c.put_refused-next.ensures)
+    (turns_shut _ s.at _ s.progress _ _ _ c.closed-in-Lacks.ensures (rw c.from.ensures at c.put_refused-next.ensures))
 
 pub returns-in-Takes : goal.returns-in-Takes
 returns-in-Takes c =

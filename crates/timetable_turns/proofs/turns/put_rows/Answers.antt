@@ -1,37 +1,31 @@
 use mathlib.Core.Path.{sym, ◌∙◌}
-use Prim.Native.Nat.{◌<◌}
 use native.Mathlib.Omega.{arith}
 use Rattle.timetable_turns.proofs.Rows.{putting_row, putting_none, putting_ends}
 use Rattle.timetable_turns.proofs.turns.put_rows.Goals as goal
+use Rattle.timetable_turns.proofs.turns.put_rows.Goals.{then-is_work, else-is_work}
 
-pub loop-n-preserved-then-is_work : goal.loop-n-preserved-then-is_work
-loop-n-preserved-then-is_work c =
-    let fit : (c.args.position < 4294967296) × (c.args.number < 256) = (omega arith, omega arith) in
-    let f = fit in
-    let l = c.loop-n in
-    let e = c.entry_of-entry in (
-      omega arith,
-      l.invariant.1,
-      l.invariant.2,
-      l.invariant.3,
-      c.put_row-next.auto.out ∙ l.invariant.4,
-      putting_row c.args.position c.args.number c.args.times c.args.activity.nodes c.args.activity.count _ c.args.at l.out l.next l.n (omega arith) l.invariant.5 _ _ f.0 f.1 (omega arith)
-          (sym c.is_work.ensures ∙ c.if-is_work.true) e.result e.ensures c.put_row-next.ensures,
-    )
-
-pub loop-n-preserved : goal.loop-n-preserved
-loop-n-preserved c =
-    let l = c.loop-n in (
-      omega arith,
-      l.invariant.1,
-      l.invariant.2,
-      l.invariant.3,
-      l.invariant.4,
-      putting_none c.args.position c.args.number c.args.times c.args.activity.nodes c.args.activity.count _ c.args.at l.out l.next l.n (omega arith) l.invariant.5
-          (sym c.is_work.ensures ∙ c.if-is_work.false),
-    )
+pub loop-node-preserved : goal.loop-node-preserved
+loop-node-preserved c =
+    let a = c.args in
+    let l = c.loop-node in
+    let less = c.loop-node-test.true in
+    elim c.if-is_work.branch [
+      | then-is_work w ↦
+          let e = w.entry_of-entry in
+          rw (w.out-is, w.next-is) (
+            w.put_row-next.auto.out ∙ l.invariant.0,
+            putting_row a.position a.number a.times a.activity.nodes a.activity.count _ a.at l.out l.next l.node (omega arith) l.invariant.1 _ _ (omega arith) (omega arith) (omega arith)
+                (sym c.is_work.ensures ∙ w.if-is_work.true) e.result e.ensures w.put_row-next.ensures,
+          )
+      | else-is_work w ↦
+          rw (w.out-is, w.next-is) (
+            l.invariant.0,
+            putting_none a.position a.number a.times a.activity.nodes a.activity.count _ a.at l.out l.next l.node (omega arith) l.invariant.1 (sym c.is_work.ensures ∙ w.if-is_work.false),
+          )
+    ]
 
 pub returns : goal.returns
 returns c =
-    let l = c.loop-n in
-    putting_ends c.args.position c.args.number c.args.times c.args.activity.nodes c.args.activity.count _ c.args.at l.out l.next l.n (omega arith) l.invariant.5
+    let a = c.args in
+    let l = c.loop-node in
+    putting_ends a.position a.number a.times a.activity.nodes a.activity.count _ a.at l.out l.next l.node (omega arith) l.invariant.1

@@ -40,7 +40,7 @@ returns-then-advanced c =
     let s = c.args in
     let v = c.advance-advanced in
     turns_taking _ s.at _ s.resources _ s.progress s.read _ s.step _ _ c.in-Takes.is
-    (subst (Drafts _ s.at _ _) (sym c.closed.ensures) (turns_stops _ s.at _ s.resources s.activity s.progress _ _ v.result v.ensures _ c.if-advanced.true c.put_refused-next.ensures))
+    (subst (Drafts _ s.at _ _) (sym c.closed.ensures) (turns_stops _ s.at _ s.resources s.activity s.progress _ _ v.result v.ensures _ c.if-advanced.true (rw c.from.ensures at c.put_refused-next.ensures)))
 
 pub put_rows-next-requires : goal.put_rows-next-requires
 put_rows-next-requires c = let s = c.requires in (s.room, (s.fits _ _ c.in-Takes.is).activity.count)

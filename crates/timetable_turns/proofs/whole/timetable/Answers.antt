@@ -8,7 +8,7 @@ pub returns-then-size-out : goal.returns-then-size-out
 returns-then-size-out c =
     let a = c.args in
     let p = c.put_timetable-size.ensures.past in
-    lends_past a.out.now 0 (timetable_of a.input.now) (omega (arith, c.if-size-out.true)) _ _ c.put_timetable-end.ensures
+    lends_past a.out.now 0 (timetable_of a.input.now) (omega (arith, c.if-size-out.true)) _ _ c.put_timetable.ensures
 
 pub returns : goal.returns
 returns c =

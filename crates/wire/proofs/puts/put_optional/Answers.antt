@@ -1,10 +1,7 @@
 -- A number that is absent where it is 0.
-use native.Mathlib.Omega.{arith}
-use mathlib.Core.Path.{◌≡◌}
 use borrow.Author.Tests.{eq-eqb, ne_eqb}
 use Rattle.wire.specs.Number.{optional_bytes}
 use Rattle.wire.proofs.Laws.Puts.{puts_none}
-use Prim.Native.Nat.{◌%◌}
 use Rattle.wire.proofs.puts.put_optional.Goals as goal
 
 pub returns-then-x-eq0 : goal.returns-then-x-eq0
@@ -13,4 +10,4 @@ returns-then-x-eq0 c = rw (eq-eqb _ _ c.if-x-eq0.true) (puts_none _ _)
 
 pub returns : goal.returns
 unfolding optional_bytes
-returns c = let z : c.args.x % 256 ≡ c.args.x = omega arith in rw (ne_eqb _ _ c.if-x-eq0.false, z) c.put_byte.ensures
+returns c = rw (ne_eqb _ _ c.if-x-eq0.false) c.put_number.ensures

@@ -1,9 +1,0 @@
--- `nodes::in_line` meets its contract: what the words say of the other nodes like n. Assumes nothing.
-use Rattle.basis.proofs.Laws.Tells.{tells_iff}
-use Rattle.activity.proofs.Seeing.{seen_in_line}
-use Rattle.activity.proofs.nodes.in_line.Goals as goal
-
-pub returns : goal.returns
-returns c belongs a h =
-    let s = c.args in
-    tells_iff (seen_in_line belongs a s.n s.s h c.with.result c.with.ensures) c.within.ensures

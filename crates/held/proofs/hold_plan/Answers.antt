@@ -1,4 +1,0 @@
-use Rattle.held.proofs.hold_plan.Goals as goal
-
-pub returns : goal.returns
-returns c = simp (c.hold_moves-moves.ensures, c.hold_nodes-nodes.ensures)

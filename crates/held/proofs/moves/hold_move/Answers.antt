@@ -1,5 +1,0 @@
-use Rattle.held.proofs.moves.hold_move.Goals as goal
-
-pub returns : goal.returns
-returns c =
-    simp (c.input_number.ensures, c.input_event.ensures, c.input_outcome.ensures, c.output_number.ensures, c.output_activity.ensures)

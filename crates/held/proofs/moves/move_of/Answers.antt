@@ -1,4 +1,0 @@
-use Rattle.held.proofs.moves.move_of.Goals as goal
-
-pub returns : goal.returns
-returns c = simp (c.input_of-input.ensures, c.output_of-output.ensures)

@@ -1,4 +1,0 @@
-use Rattle.held.proofs.nodes.hold_node.Goals as goal
-
-pub returns : goal.returns
-returns c = simp (c.peripheral_in.ensures, c.number_in.ensures, c.kind_number.ensures)

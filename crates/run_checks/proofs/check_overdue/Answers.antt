@@ -1,8 +1,0 @@
--- `check_overdue` stops a run with an overdue node, naming the one with the earliest completion.
-use Rattle.run_checks.proofs.check_overdue.Goals as goal
-
-pub returns-in-Nothing : goal.returns-in-Nothing
-returns-in-Nothing c = simp c.in-Nothing.is
-
-pub returns-in-At : goal.returns-in-At
-returns-in-At c = simp c.in-At.is
