@@ -7,10 +7,10 @@ ghost use Rattle.run.specs.declared.Reply.{Reply};
 ghost use Rattle.run.specs.Calls.{reading_of};
 ghost use Rattle.run.specs.Inner.Calls.{halt_after, reply_after};
 ghost use Rattle.run.specs.Inner.Effects.{sought_by, found_by, place_of, acted, rests_as, run_at};
-ghost use Rattle.held.specs.Held.{entry_of, plan_of};
+ghost use Rattle.held.specs.Held.{entry_of, held_entry, plan_of};
 ghost use Rattle.held_checks.specs.Inner.Checks.{run_by, all_but_nodes, check_nodes_last};
 ghost use Rattle.jidlekuvo.specs.Replies.{told_of};
-ghost use Rattle.jidlekuvo.specs.Inner.Steps.{effect_in, stepped_of, stepped_by, stepped_with, Carries, carried_by};
+ghost use Rattle.jidlekuvo.specs.Inner.Steps.{effect_in, stepped_of, stepped_by, stepped_with, Carries, window_by, carried_by};
 
 use crate::{Stepped, replies};
 use held::{HeldEntry, HeldPlan, HeldRest};
@@ -46,28 +46,16 @@ fn written(
     }
 }
 
-// The answer of a call that leaves the window.
-fn heard(m: Moment, rest: HeldRest, progress: Progress, halt: Option<Stop>, told: Reply) -> Stepped
-    ensures { result ≡ stepped_by m (map entry_of rest.window) progress halt told }
-{
-    written(m, held::places::fresh(rest), progress, halt, told)
-}
-
-// The answer of a call that stores entry e at place i.
-fn stored(m: Moment, rest: HeldRest, progress: Progress, i: usize, e: Entry, told: Reply) -> Stepped
-    requires { i < 512 }
-    ensures { result ≡ stepped_by m (set (map entry_of rest.window) i e) progress None told }
+// The window after a call.
+fn window_after(rest: HeldRest, effect: Effect) -> [HeldEntry; WINDOW]
+    requires { Carries rest effect }
+    ensures { result ≡ map held_entry (window_by (map entry_of rest.window) effect) }
 {
     let mut window = held::places::fresh(rest);
-    window[i] = HeldEntry::from(e);
-    written(m, window, progress, None, told)
-}
-
-// The answer of a call that stops the run.
-fn stopped(m: Moment, rest: HeldRest, progress: Progress, s: Stop) -> Stepped
-    ensures { result ≡ stepped_by m (map entry_of rest.window) progress (Some s) (Reply.Stopped s) }
-{
-    heard(m, rest, progress, Some(s), Reply::Stopped(s))
+    if let Effect::Stores(i, e, _) = effect {
+        window[i] = HeldEntry::from(e);
+    }
+    window
 }
 
 // The answer of an outcome, with what was loaded after it.
@@ -161,14 +149,12 @@ pub fn carried(finals: u64, rest: HeldRest, c: Call, effect: Effect) -> Stepped
     let m = held_checks::moment_of(rest, c);
     let held_progress = rest.progress;
     let progress = Progress::from(held_progress);
-    match effect {
+    let (halt, told) = match effect {
         Effect::Stays(told) => return kept(rest, told),
-        Effect::Stops(s) => return stopped(m, rest, progress, s),
-        Effect::Rests => {
-            let told = at_rest(finals, progress.state, rest);
-            return heard(m, rest, progress, None, told);
-        }
-        Effect::Stores(i, e, told) => return stored(m, rest, progress, i, e, told),
+        Effect::Stops(s) => (Some(s), Reply::Stopped(s)),
+        Effect::Rests => (None, at_rest(finals, progress.state, rest)),
+        Effect::Stores(_, _, told) => (None, told),
         Effect::Learns(_, _, _, _) => return kept(rest, Reply::Taken), // never: `Carries`
-    }
+    };
+    written(m, window_after(rest, effect), progress, halt, told)
 }

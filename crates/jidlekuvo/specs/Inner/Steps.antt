@@ -57,6 +57,14 @@ Carries rest Effect.Rests = rest.progress.state < 64
 Carries rest (Effect.Stores i e told) = i < 512
 Carries rest (Effect.Learns i x e o) = ⊥
 
+-- an entry is stored at its place
+abbrev pub window_by : List Entry → Effect → List Entry
+window_by w (Effect.Stays told) = w
+window_by w (Effect.Stops s) = w
+window_by w Effect.Rests = w
+window_by w (Effect.Stores i e told) = set w i e
+window_by w (Effect.Learns i x e o) = w
+
 abbrev pub carried_by : ℕ → HeldRest → Call → Effect → Stepped
 carried_by finals rest c (Effect.Stays told) = record { rest = rest; reply = told_of told }
 carried_by finals rest c (Effect.Stops s) =
