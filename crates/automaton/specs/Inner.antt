@@ -2,3 +2,4 @@
 pub mod Counts
 pub mod OnPaths
 pub mod Passes
+pub mod Scan

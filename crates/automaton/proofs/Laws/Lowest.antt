@@ -1,4 +1,4 @@
--- The lowest state that fails a test: what it is, and that `find` finds it.
+-- The lowest state that fails a test: what it is, a scan for it, one state on, and that `find` finds it.
 use Rattle.std.specs.Prelude.{◌≡◌, refl, Bool, true, false, cond, List, Option, None, Some, MatchOption}
 use Rattle.std.specs.List.{FoldsTo}
 use Rattle.std.specs.Fn.{CalledAt}
@@ -10,7 +10,7 @@ use denote.Param.Members.{Mut}
 use denote.Ref.{Bor}
 use Rattle.std.proofs.Math.Path.{ap}
 use Rattle.std.proofs.Common.{sym, ◌∙◌}
-use Prim.Native.Nat.{ℕ, zero, suc, ◌+◌, ◌≤◌, ◌<◌}
+use Prim.Native.Nat.{ℕ, zero, suc, ◌+◌, ◌-◌, ◌≤◌, ◌<◌}
 use native.Mathlib.Omega.{arith}
 use Rattle.std.proofs.Math.Decide.{ℕ_discrete, dec_lt}
 use Rattle.basis.specs.Inner.Tells.{Tells}
@@ -63,6 +63,26 @@ module _ (a : Automaton) (P : ℕ → Type 0) (test : ℕ → Bool) (t : (q : �
 
   pub none_there : EveryState a P → low < a.states → ⊥
   none_there h l = let x = lowest_is test 0 a.states in told_false (t low l) (x.here (omega arith)) (h low l)
+
+-- ---- a scan of n states, at state s
+
+module _ (test : ℕ → Bool) (s n : ℕ) where
+  pub scan_starts : lowest test 0 n ≡ lowest test 0 (n - 0)
+  scan_starts = let z : n ≡ n - 0 = omega arith in ap (lowest test 0) z
+
+  on : s < n → lowest test s (n - s) ≡ cond (test s) (lowest test (s + 1) (n - (s + 1))) s
+  unfolding lowest
+  on l = let z : n - s ≡ suc (n - (s + 1)) = omega arith in ap (lowest test s) z
+
+  pub scan_passes : s < n → test s ≡ true → lowest test s (n - s) ≡ lowest test (s + 1) (n - (s + 1))
+  scan_passes l t = on l ∙ ap (λ (b : Bool). cond b (lowest test (s + 1) (n - (s + 1))) s) t
+
+  pub scan_stops : s < n → test s ≡ false → lowest test s (n - s) ≡ s
+  scan_stops l t = on l ∙ ap (λ (b : Bool). cond b (lowest test (s + 1) (n - (s + 1))) s) t
+
+  pub scan_ends : (s < n → ⊥) → lowest test s (n - s) ≡ s
+  unfolding lowest
+  scan_ends h = let z : n - s ≡ 0 = omega (arith, h) in ap (lowest test s) z
 
 -- ---- `find` over the numbers below n, for one that fails the test
 

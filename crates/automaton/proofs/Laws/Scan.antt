@@ -1,4 +1,4 @@
--- The used transitions as a slice of their array, and a scan of a slice in file order, one transition on.
+-- The used transitions as a slice of their array, and a scan in file order, one transition on: of a slice, and of n transitions.
 use Rattle.std.specs.Prelude.{◌≡◌, refl, Bool, true, false, ◌&&◌, eqb, ℕ, zero, suc, ◌+◌, ◌-◌, ◌≤◌, ◌<◌, length, get_or, take, drop, Option, None, Some}
 use Rattle.std.proofs.Math.Path.{ap, sym}
 use Rattle.std.proofs.Common.{◌∙◌, arith, eq-eqb, ne_eqb}
@@ -11,6 +11,7 @@ use Rattle.plan.specs.declared.Transition.{Transition}
 use Rattle.plan.specs.declared.Automaton.{Automaton}
 use Rattle.plan.specs.Plan.{past_move, moves_of}
 use Rattle.automaton.specs.Next.{added, ways_from, carries, chosen_from}
+use Rattle.automaton.specs.Inner.Scan.{rest}
 
 part_take : {A : Type 0} (d : A) (l : List A) (i k : ℕ) → i + k ≤ length l → part d l i k ≡ take k (drop i l)
 part_take d l i zero h = refl
@@ -68,3 +69,56 @@ module _ (l : List Transition) (s i : ℕ) where
     pub chosen_none : length l ≤ i → chosen_from (drop i l) s e o i ≡ None
     unfolding chosen_from
     chosen_none h = ap (λ (ts : List Transition). chosen_from ts s e o i) (drop_all i l h)
+
+-- ---- a scan of the transitions from i on, of n, whatever n is
+
+pub rest_all : (l : List Transition) (n : ℕ) → part past_move l 0 n ≡ rest l 0 n
+rest_all l n = let z : n ≡ n - 0 = omega arith in ap (part past_move l 0) z
+
+pub rest_more : (l : List Transition) (i n : ℕ) → i < n → rest l i n ≡ get_or l i past_move ∷ rest l (i + 1) n
+rest_more l i n h = let z : n - i ≡ suc (n - (i + 1)) = omega arith in ap (part past_move l i) z
+
+pub rest_none : (l : List Transition) (i n : ℕ) → (i < n → ⊥) → rest l i n ≡ []
+rest_none l i n h = let z : n - i ≡ 0 = omega (arith, h) in ap (part past_move l i) z
+
+module _ (l : List Transition) (s i n : ℕ) where
+  pub ways_here_of_rest : i < n → (get_or l i past_move).from ≡ s → ways_from (rest l i n) s i ≡ i ∷ ways_from (rest l (i + 1) n) s (i + 1)
+  unfolding ways_from
+  ways_here_of_rest h e =
+      ap (λ (ts : List Transition). ways_from ts s i) (rest_more l i n h) ∙
+      ap (λ (b : Bool). added b i (ways_from (rest l (i + 1) n) s (i + 1))) (eq-eqb (get_or l i past_move).from s e)
+
+  pub ways_past_of_rest : i < n → ((get_or l i past_move).from ≡ s → ⊥) → ways_from (rest l i n) s i ≡ ways_from (rest l (i + 1) n) s (i + 1)
+  unfolding ways_from
+  ways_past_of_rest h e =
+      ap (λ (ts : List Transition). ways_from ts s i) (rest_more l i n h) ∙
+      ap (λ (b : Bool). added b i (ways_from (rest l (i + 1) n) s (i + 1))) (ne_eqb (get_or l i past_move).from s e)
+
+  pub ways_none_of_rest : (i < n → ⊥) → ways_from (rest l i n) s i ≡ []
+  unfolding ways_from
+  ways_none_of_rest h = ap (λ (ts : List Transition). ways_from ts s i) (rest_none l i n h)
+
+  module _ (e o : ℕ) where
+    pub chosen_here_of_rest : i < n → (get_or l i past_move).from ≡ s → carries (get_or l i past_move).input e o ≡ true → chosen_from (rest l i n) s e o i ≡ Some i
+    unfolding chosen_from
+    chosen_here_of_rest h f c =
+        ap (λ (ts : List Transition). chosen_from ts s e o i) (rest_more l i n h) ∙
+        ap (λ (b : Bool). cond (b && carries (get_or l i past_move).input e o) (Some i) (chosen_from (rest l (i + 1) n) s e o (i + 1))) (eq-eqb (get_or l i past_move).from s f) ∙
+        ap (λ (b : Bool). cond b (Some i) (chosen_from (rest l (i + 1) n) s e o (i + 1))) c
+
+    pub chosen_other_of_rest : i < n → ((get_or l i past_move).from ≡ s → ⊥) → chosen_from (rest l i n) s e o i ≡ chosen_from (rest l (i + 1) n) s e o (i + 1)
+    unfolding chosen_from
+    chosen_other_of_rest h f =
+        ap (λ (ts : List Transition). chosen_from ts s e o i) (rest_more l i n h) ∙
+        ap (λ (b : Bool). cond (b && carries (get_or l i past_move).input e o) (Some i) (chosen_from (rest l (i + 1) n) s e o (i + 1))) (ne_eqb (get_or l i past_move).from s f)
+
+    pub chosen_past_of_rest : i < n → (get_or l i past_move).from ≡ s → carries (get_or l i past_move).input e o ≡ false → chosen_from (rest l i n) s e o i ≡ chosen_from (rest l (i + 1) n) s e o (i + 1)
+    unfolding chosen_from
+    chosen_past_of_rest h f c =
+        ap (λ (ts : List Transition). chosen_from ts s e o i) (rest_more l i n h) ∙
+        ap (λ (b : Bool). cond (b && carries (get_or l i past_move).input e o) (Some i) (chosen_from (rest l (i + 1) n) s e o (i + 1))) (eq-eqb (get_or l i past_move).from s f) ∙
+        ap (λ (b : Bool). cond b (Some i) (chosen_from (rest l (i + 1) n) s e o (i + 1))) c
+
+    pub chosen_none_of_rest : (i < n → ⊥) → chosen_from (rest l i n) s e o i ≡ None
+    unfolding chosen_from
+    chosen_none_of_rest h = ap (λ (ts : List Transition). chosen_from ts s e o i) (rest_none l i n h)
