@@ -1,4 +1,5 @@
--- That every number below n passes a test, from what is known of each number or of each element of a list. Assumes nothing.
+-- That every number below n passes a test: from what is known of each number or of each element of a list, and by a loop that goes
+-- down from n. Assumes nothing.
 use Rattle.std.specs.Prelude.{◌≡◌, refl, Bool, ◌&&◌, List, length, get_or, ◌≤◌, take, ltb}
 use Rattle.std.specs.List.{list_all, IsAllAdjacentAnswer}
 use Rattle.std.proofs.Common.{sym, ◌∙◌, eq-or-lt_of_le, le_of_suc-le-suc, add-one, arith, length-take-le}
@@ -8,6 +9,7 @@ use Rattle.std.proofs.Math.Bool.{and_comm}
 use Rattle.std.proofs.Math.Path.{ap}
 use Rattle.std.proofs.Math.Logic.{inl, inr}
 use Rattle.std.proofs.Math.Bool.{true, false}
+use Rattle.std.proofs.Math.Numerals.{sub-one}
 use Prim.Native.Nat.{ℕ, zero, suc, ◌+◌, ◌-◌, ◌<◌}
 use Rattle.basis.specs.Tests.{every}
 
@@ -30,6 +32,30 @@ module _ (f : ℕ → Bool) where
         | inl q ↦ ap (λ (b : Bool). b && every n f) (ap f (sym q) ∙ e)
         | inr l ↦ ap (λ (b : Bool). f n && b) (every_not n i l e) ∙ and-false (f n)
       ]
+
+-- a loop that goes down from n: what it has passed changes nothing
+module _ (f : ℕ → Bool) (n : ℕ) where
+  -- the test of the next number is passed
+  pub every_on : (i : ℕ) → 0 < i → every n f ≡ every i f → f (i - 1) ≡ true → every n f ≡ every (i - 1) f
+  unfolding every
+  every_on zero h inv e = absurd (omega arith)
+  every_on (suc j) h inv e =
+      let g : f j ≡ true = rw sub-one at e in
+      rw sub-one (inv ∙ ap (λ (b : Bool). b && every j f) g)
+
+  -- it is not: neither is the whole
+  pub every_off : (i : ℕ) → 0 < i → every n f ≡ every i f → f (i - 1) ≡ false → every n f ≡ false
+  unfolding every
+  every_off zero h inv e = absurd (omega arith)
+  every_off (suc j) h inv e =
+      let g : f j ≡ false = rw sub-one at e in
+      inv ∙ ap (λ (b : Bool). b && every j f) g
+
+  -- no number is left
+  pub every_end : (i : ℕ) → (0 < i → ⊥) → every n f ≡ every i f → every n f ≡ true
+  unfolding every
+  every_end zero h inv = inv
+  every_end (suc j) h inv = absurd (h (omega arith))
 
 -- of the first n elements
 pub every_taken : {A : Type 0} (test : A → Bool) (d : A) (xs : List A) (n : ℕ) → n ≤ length xs → every n (λ i. test (get_or xs i d)) ≡ list_all test (take n xs)
