@@ -143,6 +143,25 @@ pub vacancies_is : (w : List Entry) → vacancies w ≡ count_by (λ (e : Entry)
 unfolding vacancies
 vacancies_is = is_count_by vacancies (λ (e : Entry). is_free e.phase) refl (λ e es. rw (one-add (vacancies es)))
 
+-- told from the back
+pub vacancies_none : (w : List Entry) (i : ℕ) → length w ≤ i → 0 ≡ vacancies (drop i w)
+unfolding vacancies
+vacancies_none w i h = rw (drop_of_length-le w h)
+
+vacancies_split : (w : List Entry) (d : Entry) (i : ℕ) → 0 < i → i ≤ length w
+    → vacancies (drop (i - 1) w) ≡ cond (is_free (get_or w (i - 1) d).phase) (suc (vacancies (drop i w))) (vacancies (drop i w))
+unfolding vacancies
+vacancies_split w d zero z h = absurd (omega arith)
+vacancies_split w d (suc j) z h = rw (sub-one, drop-cons w j d)
+
+pub vacancies_here : (w : List Entry) (d : Entry) (i : ℕ) → 0 < i → i ≤ length w → {b : Bool} → b ≡ is_free (get_or w (i - 1) d).phase → b ≡ true
+    → vacancies (drop i w) + 1 ≡ vacancies (drop (i - 1) w)
+vacancies_here w d i z h e t = add-one (vacancies (drop i w)) ∙ sym (vacancies_split w d i z h ∙ rw (sym e ∙ t))
+
+pub vacancies_past : (w : List Entry) (d : Entry) (i : ℕ) → 0 < i → i ≤ length w → {b : Bool} → b ≡ is_free (get_or w (i - 1) d).phase → b ≡ false
+    → vacancies (drop i w) ≡ vacancies (drop (i - 1) w)
+vacancies_past w d i z h e t = sym (vacancies_split w d i z h ∙ rw (sym e ∙ t))
+
 -- ---- where a node stands, from the front
 
 module _ (position node : ℕ) (w : List Entry) where
