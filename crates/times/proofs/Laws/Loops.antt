@@ -43,6 +43,21 @@ module _ (end : List Specified) (ms : List ℕ) (j n : ℕ) where
 
 -- ---- a time above 10^15
 
+module _ (ts : List Specified) (i n : ℕ) where
+  above_step : i < n → above_of ts i (n - i) ≡ cond (ltb horizon (at ts i)) true (above_of ts (i + 1) (n - (i + 1)))
+  unfolding above_of
+  above_step h = ap (above_of ts i) (fewer i n h)
+
+  pub above_here : i < n → ltb horizon (at ts i) ≡ true → above_of ts i (n - i) ≡ true
+  above_here h e = above_step h ∙ ap (λ (b : Bool). cond b true (above_of ts (i + 1) (n - (i + 1)))) e
+
+  pub above_on : i < n → ltb horizon (at ts i) ≡ false → above_of ts i (n - i) ≡ above_of ts (i + 1) (n - (i + 1))
+  above_on h e = above_step h ∙ ap (λ (b : Bool). cond b true (above_of ts (i + 1) (n - (i + 1)))) e
+
+  pub above_end : n ≤ i → above_of ts i (n - i) ≡ false
+  unfolding above_of
+  above_end h = ap (above_of ts i) (none i n h)
+
 above_next : (t : Specified) (ts : List Specified) (k i j : ℕ) → j ≡ suc i → above_of (t ∷ ts) j k ≡ above_of ts i k
 unfolding above_of
 above_next t ts zero i j e = refl

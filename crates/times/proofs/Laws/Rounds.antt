@@ -38,6 +38,12 @@ arrows_fit {x} h l = record {
       omega arith;
 }
 
+pub kind_fits : {R E : ℕ} (k : Kind) → R ≤ 16 → E ≤ 16 → KindFits R E k → KindFits 16 16 k
+kind_fits (Kind.Action a p) r e h = h
+kind_fits (Kind.Claim x) r e h = omega arith
+kind_fits (Kind.Release x) r e h = omega arith
+kind_fits (Kind.Event x) r e h = omega arith
+
 -- ---- the turn
 
 module _ (available latest : List Specified) (l : List Node) (n size : ℕ) (t : Schedule) where
