@@ -16,16 +16,16 @@ use Rattle.plan_file.proofs.Laws.KnownPlan.{plan_accepted}
 use Rattle.plan_file.proofs.Laws.HoldsPlan.{plan_iff}
 use Rattle.plan_file.proofs.Laws.Longest.{plan_long}
 
-told : (b : List ℕ) (r : Result Plan FaultAt) (p : Plan) → telling (length b) r ≡ read p (length b) → r ≡ Ok p
-told b (Ok q) p e = let z : q ≡ p = cc in ap (λ (x : Plan). Ok x) z
-told b (Err f) p e = absurd (let z : ◌≡◌ {A = ℕ} 0 1 = cc in omega arith)
+pub told : (end : ℕ) (r : Result Plan FaultAt) (p : Plan) → telling end r ≡ read p end → r ≡ Ok p
+told end (Ok q) p e = let z : q ≡ p = cc in ap (λ (x : Plan). Ok x) z
+told end (Err f) p e = absurd (let z : ◌≡◌ {A = ℕ} 0 1 = cc in omega arith)
 
 module _ (b : List ℕ) (bytes : Bytes b) (p : Plan) where
   -- p holds what the description asks, the bytes are its writing, and its spare room is zeros
   pub accepted_iff : (read_plan b ≡ Ok p) ↔ Held 1 fault_order b self plan_file p
   accepted_iff = (
     (λ e. (plan_accepted b bytes p).0 (plan_link b bytes ∙ ap (telling (length b)) e)),
-    (λ h. told b (read_plan b) p (sym (plan_link b bytes) ∙ (plan_accepted b bytes p).1 h)),
+    (λ h. told (length b) (read_plan b) p (sym (plan_link b bytes) ∙ (plan_accepted b bytes p).1 h)),
   )
 
   pub accepted_rules : read_plan b ≡ Ok p → FileRules p
@@ -34,7 +34,7 @@ module _ (b : List ℕ) (bytes : Bytes b) (p : Plan) where
   -- reading what was written gives what the description reads of it
   pub read_printed : Holds fault_order plan_file p → print plan_file p ≡ b → read_plan b ≡ Ok (result plan_file p)
   unfolding plan_of
-  read_printed h e = told b (read_plan b) (result plan_file p) (sym (plan_link b bytes) ∙ written_read 1 fault_order b 6 plan_file p h e)
+  read_printed h e = told (length b) (read_plan b) (result plan_file p) (sym (plan_link b bytes) ∙ written_read 1 fault_order b 6 plan_file p h e)
 
   -- "No accepted plan exceeds 34,433 bytes."
   pub longest_file : read_plan b ≡ Ok p → length b ≤ 34433
