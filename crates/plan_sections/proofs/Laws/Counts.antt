@@ -1,7 +1,7 @@
 -- No answer of the section of events counts more than 16 of them.
 use Rattle.std.specs.Prelude.{◌≡◌, refl, List, Result, Ok, Err, set, replicate}
 use Prim.Native.Nat.{ℕ, zero, suc, ◌+◌, ◌≤◌}
-use Rattle.std.proofs.Common.{subst}
+use Rattle.std.proofs.Common.{subst, arith}
 use Rattle.wire.specs.Map.{bit}
 use Rattle.plan.specs.Fields.{Read, found, and_then, byte_at, optional_count, numbers_then}
 use Rattle.plan.specs.Sections.{outcomes_at, events_at}
@@ -39,3 +39,15 @@ few m b at = go (optional_count 16 (bit 2 m) b at) refl
 
 pub events_most : (m : ℕ) (b : List ℕ) (at : ℕ) (x : Events) (next : ℕ) → events_at m b at ≡ Ok (x, next) → x.count ≤ 16
 events_most m b at x next e = subst Few e (few m b at)
+
+-- what an answer of the section counts: a refusal counts none
+abbrev pub counted : Read Events → ℕ
+counted (Ok x) = x.0.count
+counted (Err e) = 0
+
+pub events_most_of_answer : (m : ℕ) (b : List ℕ) (at : ℕ) → counted (events_at m b at) ≤ 16
+events_most_of_answer m b at = go (events_at m b at) (few m b at)
+  where
+    go : (r : Read Events) → Few r → counted r ≤ 16
+    go (Ok x) h = h
+    go (Err e) h = omega arith
