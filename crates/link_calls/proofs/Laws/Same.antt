@@ -12,6 +12,9 @@ use Rattle.link_calls.specs.Replies.{reply_number, numbered, naming, with_number
 
 -- ---- calls
 
+pub no_call : {f : Refusal} {c : Call} → Err f ≡ Ok c → ⊥
+no_call {f} {c} e = cc
+
 module _ (s : Message) (c : Call) where
   pub call_same : call_from s ≡ Ok c → message_bytes (of_call c) ≡ message_bytes s
   call_same e = go (eqb s.map 0x01) refl (eqb s.map 0x07) refl (eqb s.map 0x0F) refl e
@@ -37,6 +40,9 @@ call_from_lem (Call.Completion t p n) = refl
 call_from_lem (Call.Outcome t p n o) = refl
 
 -- ---- replies
+
+pub no_reply : {f : Refusal} {r : Reply} → Err f ≡ Ok r → ⊥
+no_reply {f} {r} e = cc
 
 -- P of each reply of a list
 abbrev pub Each : (Reply → Type 0) → List Reply → Type 0
