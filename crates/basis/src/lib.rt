@@ -1,5 +1,6 @@
 // A number in a wider type: one function for each pair of widths. The library's `usize::from` and the like say the same, and the crates
-// above call those; these stand for must-fail/one_more.edit, which keeps its name and its place.
+// above call those. `u8_to_u32` makes the bits of a plan's maps (plan_write), so that must-fail/one_more.edit tries what is run; the
+// others stay, though nothing calls them.
 #![tactic(auto)]
 
 ghost use Rattle.std.specs.Prelude.{◌≡◌};

@@ -11,6 +11,7 @@ ghost use Rattle.plan_file.specs.PlanFile.{node_map, input_bit, output_bit, move
 ghost use Rattle.plan_write.specs.Inner.Bytes.{kind_bytes, node_bytes, input_bytes, output_bytes, move_bytes, automaton_bytes, named_bytes, section_bytes, activity_bytes};
 ghost use Rattle.plan_write.specs.Inner.Bits.{digit, kind_bit};
 
+use basis::u8_to_u32;
 use plan::{Automaton, Input, Kind, Node, Output, Plan, Transition};
 
 // The bit of a number that is absent where it is 0.
@@ -37,7 +38,7 @@ fn node_map(n: Node) -> u8
     let kind = n.kind;
     let k = kind_bit(kind);
     let d = bit_of(n.duration);
-    let c = bit_of(u32::from(n.count));
+    let c = bit_of(u8_to_u32(n.count));
     k + (16 * d + 32 * c)
 }
 
@@ -185,10 +186,10 @@ fn put_automaton(out: &mut [u8], at: usize, t: Automaton) -> usize
 fn section_map(resources: u8, peripherals: u8, events: u8, activities: u8) -> u8
     ensures { result ≡ map_of (present resources ∷ present peripherals ∷ present events ∷ present activities ∷ true ∷ []) }
 {
-    let r = bit_of(u32::from(resources));
-    let x = bit_of(u32::from(peripherals));
-    let e = bit_of(u32::from(events));
-    let a = bit_of(u32::from(activities));
+    let r = bit_of(u8_to_u32(resources));
+    let x = bit_of(u8_to_u32(peripherals));
+    let e = bit_of(u8_to_u32(events));
+    let a = bit_of(u8_to_u32(activities));
     r + (2 * x + (4 * e + (8 * a + 16)))
 }
 

@@ -11,5 +11,5 @@ use Rattle.plan_write.proofs.bytes.node_map.Goals as goal
 pub returns : goal.returns
 unfolding node_map
 returns c = let n = c.args.n in
-    let e = ap (λ (x : ℕ). digit (present x)) c.from.ensures in
+    let e = ap (λ (x : ℕ). digit (present x)) c.u8_to_u32.ensures in
     omega (arith, node_sum n.kind (present n.duration) (present n.count), c.bit_of-c.ensures.0 ∙ e)

@@ -12,8 +12,8 @@ returns c = let a = c.args in
     omega (
       arith,
       section_sum (present a.resources) (present a.peripherals) (present a.events) (present a.activities),
-      c.bit_of-r.ensures.0 ∙ ap (λ (x : ℕ). digit (present x)) c.from.ensures,
-      c.bit_of-x.ensures.0 ∙ ap (λ (x : ℕ). digit (present x)) c.from-2.ensures,
-      c.bit_of-e.ensures.0 ∙ ap (λ (x : ℕ). digit (present x)) c.from-3.ensures,
-      c.bit_of-a.ensures.0 ∙ ap (λ (x : ℕ). digit (present x)) c.from-4.ensures,
+      c.bit_of-r.ensures.0 ∙ ap (λ (x : ℕ). digit (present x)) c.u8_to_u32.ensures,
+      c.bit_of-x.ensures.0 ∙ ap (λ (x : ℕ). digit (present x)) c.u8_to_u32-2.ensures,
+      c.bit_of-e.ensures.0 ∙ ap (λ (x : ℕ). digit (present x)) c.u8_to_u32-3.ensures,
+      c.bit_of-a.ensures.0 ∙ ap (λ (x : ℕ). digit (present x)) c.u8_to_u32-4.ensures,
     )
