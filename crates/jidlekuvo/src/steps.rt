@@ -146,15 +146,15 @@ pub fn carried(finals: u64, rest: HeldRest, c: Call, effect: Effect) -> Stepped
     requires { Carries rest effect }
     ensures { result ≡ carried_by finals rest c effect }
 {
-    let m = held_checks::moment_of(rest, c);
-    let held_progress = rest.progress;
-    let progress = Progress::from(held_progress);
     let (halt, told) = match effect {
         Effect::Stays(told) => return kept(rest, told),
         Effect::Stops(s) => (Some(s), Reply::Stopped(s)),
-        Effect::Rests => (None, at_rest(finals, progress.state, rest)),
+        Effect::Rests => (None, at_rest(finals, rest.progress.state, rest)),
         Effect::Stores(_, _, told) => (None, told),
         Effect::Learns(_, _, _, _) => return kept(rest, Reply::Taken), // never: `Carries`
     };
-    written(m, window_after(rest, effect), progress, halt, told)
+    let m = held_checks::moment_of(rest, c);
+    let window = window_after(rest, effect);
+    let progress = Progress::from(rest.progress);
+    written(m, window, progress, halt, told)
 }
