@@ -14,7 +14,8 @@ ghost use Rattle.plan_write.specs.Inner.Bits.{digit, kind_bit};
 use basis::u8_to_u32;
 use plan::{Automaton, Input, Kind, Node, Output, Plan, Transition};
 
-// The bit of a number that is absent where it is 0.
+// The bit of a number that is absent where it is 0. A number of one byte comes by `u8_to_u32` and not by `u32::from`, so that
+// must-fail/one_more.edit of basis tries what is run.
 fn bit_of(x: u32) -> u8
     ensures { (result ≡ digit (present x)) × (result ≤ 1) }
 {
