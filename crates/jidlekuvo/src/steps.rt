@@ -1,5 +1,5 @@
 // What a call does to a run that is given as numbers, and the answer that it then gets.
-ghost use Rattle.std.specs.Prelude.{map, ◌≡◌, ◌<◌, set, Some, None};
+ghost use Rattle.std.specs.Prelude.{map, ◌≡◌, ◌<◌, None};
 ghost use Rattle.plan.specs.Plan.{outcomes_of};
 ghost use Rattle.run_loading.specs.Inner.Loading.{Loads};
 ghost use Rattle.run.specs.declared.Effect.{Effect};
@@ -46,7 +46,7 @@ fn written(
     }
 }
 
-// The window after a call.
+// The window after a call that changes the run.
 fn window_after(rest: HeldRest, effect: Effect) -> [HeldEntry; WINDOW]
     requires { Carries rest effect }
     ensures { result ≡ map held_entry (window_by (map entry_of rest.window) effect) }
